@@ -1,0 +1,49 @@
+-- A register file: the bytes of every component, by its number, and MXCSR beside component 1.
+-- A number that the machine doesn't have keeps its initial bytes, but for PKRU, which every task has.
+use Rattle.std.specs.Prelude.{ℕ, ◌+◌, Bool, not, ◌&&◌, ◌||◌, ◌==◌, List, [], ◌++◌, map, bytes_eq, slice_index_or, slice_range, slice_set}
+use Rattle.std.specs.List.{range_with_len}
+use Rattle.std.specs.Int.{to_le_bytes, w32}
+use Rattle.xs_base.specs.declared.component.Row.{Row}
+use Rattle.xs_base.specs.declared.component.Place.{Place}
+use Rattle.xs_base.specs.Bytes.{zeros, splice}
+use Rattle.xs_base.specs.Component.{initial_part, initial_mxcsr}
+use Rattle.xs_base.specs.Layout.{has_row}
+
+pub record File : Type 0 where
+  pub rows : List Row
+  pub parts : List (List ℕ)
+  pub mxcsr : ℕ
+
+-- the bytes of component c
+abbrev pub part : File → ℕ → List ℕ
+part file c = slice_index_or file.parts c []
+
+-- the file with these bytes as component c
+abbrev pub with_part : File → ℕ → List ℕ → File
+with_part file c bytes = record file { parts = slice_set file.parts c bytes }
+
+-- Every component is in its initial configuration (SDM volume 1, 13.6).
+abbrev pub initial_file : List Row → File
+initial_file rows = record { rows = rows; parts = map initial_part (range_with_len 0 19); mxcsr = initial_mxcsr }
+
+-- the file with this PKRU, whose upper four bytes are zero
+abbrev pub with_pkru : File → ℕ → File
+with_pkru file value = with_part file 9 (to_le_bytes w32 value ++ zeros 4)
+
+-- the bytes of a register
+abbrev pub read_place : File → Place → List ℕ
+read_place file place = slice_range (part file place.comp.0) place.offset (place.offset + place.len)
+
+-- the file with these bytes in a register
+abbrev pub write_place : File → Place → List ℕ → File
+write_place file place bytes = with_part file place.comp.0 (splice place.offset bytes (part file place.comp.0))
+
+-- Component c of the machine is in use: it isn't in its initial configuration. MXCSR doesn't count. A processor's
+-- XINUSE (SDM volume 1, 13.6) may be 1 for more components than these.
+abbrev pub in_use : File → ℕ → Bool
+in_use file c = has_row file.rows c && not (bytes_eq (part file c) (initial_part c))
+
+-- A save with the init optimisation gives component c the bit 1 in XSTATE_BV: component 1 also where MXCSR isn't
+-- in its initial configuration (SDM volume 1, 13.10 and 13.11).
+abbrev pub is_saved : File → ℕ → Bool
+is_saved file c = in_use file c || (c == 1 && not (file.mxcsr == initial_mxcsr))

@@ -1,0 +1,60 @@
+-- The private task: what one user task owns, as if it had a processor to itself. It has a whole register file and
+-- no save area. The place is how many lines of its body it has run.
+use Rattle.std.specs.Prelude.{ℕ, Bool, true, false, ◌&&◌, List, if◌then◌else◌}
+use Rattle.xs_base.specs.declared.component.Row.{Row}
+use Rattle.xs_base.specs.Bytes.{zeros}
+use Rattle.xs_base.specs.Component.{component_numbers}
+use Rattle.xs_base.specs.Sets.{has}
+use Rattle.xs_base.specs.Layout.{features, default_features, full_size, default_size, set_of}
+use Rattle.xs_base.specs.File.{File, initial_file, with_pkru, is_saved}
+
+pub record PrivateTask : Type 0 where
+  pub file : File
+  -- the components that a tracer is shown as saved
+  pub marks : ℕ
+  -- it may use TILEDATA (Linux 6.6, xstate.c, xstate_request_perm)
+  pub permitted : Bool
+  -- its save area has room for TILEDATA
+  pub large : Bool
+  -- the memory of its signal frame, and a buffer for register sets
+  pub frame : List ℕ
+  pub buffer : List ℕ
+  -- a signal handler runs
+  pub handling : Bool
+  pub place : ℕ
+  -- the place to go back to after the handler
+  pub back : ℕ
+
+-- The components that the task may use, and the size of its standard format (Linux 6.6, struct fpstate:
+-- user_xfeatures, user_size).
+abbrev pub user_features : PrivateTask → ℕ
+user_features task = if task.large then features task.file.rows else default_features task.file.rows
+
+abbrev pub user_size : PrivateTask → ℕ
+user_size task = if task.large then full_size task.file.rows else default_size task.file.rows
+
+-- the marks after a turn: the saved components within the user features
+abbrev pub marks_after : PrivateTask → ℕ
+marks_after task = set_of (λ c. is_saved task.file c && has (user_features task) c) component_numbers
+
+-- a task whose turn has ended
+abbrev pub parked : PrivateTask → PrivateTask
+parked task = record task { marks = marks_after task }
+
+-- The PKRU that a task starts with: only key 0 may be used (Linux 6.6, arch/x86/mm/pkeys.c, init_pkru_value).
+abbrev pub start_pkru : ℕ
+start_pkru = 0x55555554
+
+-- a task that no fork has made, before its first turn
+unfoldable pub root_task : List Row → PrivateTask
+root_task rows = parked (record {
+  file = with_pkru (initial_file rows) start_pkru;
+  marks = 0;
+  permitted = false;
+  large = false;
+  frame = zeros 16388;
+  buffer = zeros 16384;
+  handling = false;
+  place = 0;
+  back = 0;
+})

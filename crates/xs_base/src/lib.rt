@@ -1,0 +1,12 @@
+//! What every layer speaks of: components of the register state and sets of them, lanes, and the small enums
+//! that scripts, events and answers share. The definitions of the layers stand in `specs/`, one file a noun,
+//! over plain lists and numbers. The crate's contract is that a lane is a list of bytes.
+#![tactic(auto)]
+
+mod component;
+mod lane;
+mod words;
+
+pub use component::{Comp, Features, Place, Row};
+pub use lane::Lane;
+pub use words::{Errno, How, Set, Signo};

@@ -1,0 +1,30 @@
+//! The small enums that scripts, events and answers share.
+
+/// A signal's number, 1 to 31.
+#[derive(Clone, Copy, PartialEq, Eq, Debug)]
+pub struct Signo(pub u8);
+
+/// An error's number in Linux (`errno-base.h`, `errno.h`): ESRCH, EFAULT, EINVAL, EOPNOTSUPP.
+#[derive(Clone, Copy, PartialEq, Eq, Debug)]
+pub enum Errno {
+    Srch = 3,
+    Fault = 14,
+    Invalid = 22,
+    NotSupported = 95,
+}
+
+/// How a task's registers come at the start of a turn: restored from its save area, left as the bank still has
+/// them, or none, for a kernel thread.
+#[derive(Clone, Copy, PartialEq, Eq, Debug)]
+pub enum How {
+    Load,
+    Skip,
+    Kern,
+}
+
+/// A register set of ptrace: NT_X86_XSTATE or NT_PRFPREG.
+#[derive(Clone, Copy, PartialEq, Eq, Debug)]
+pub enum Set {
+    Xstate,
+    Fx,
+}

@@ -1,0 +1,1 @@
+-- The definitions of scripts, events and the private machine, one file a noun.

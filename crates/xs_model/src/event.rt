@@ -1,0 +1,115 @@
+//! Events and the history that they make. A task is the number of its block, from 0.
+
+ghost use Rattle.std.specs.Prelude.{◌≡◌, [], ◌∷◌, ◌++◌, OnOk, OnErr};
+
+use crate::items::Items;
+use std::alloc::{AllocError, Global};
+use std::marker::Model;
+use xs_base::{How, Lane, Signo};
+
+/// What a line answers.
+#[derive(Drop)]
+pub enum Reply {
+    Done,
+    /// 1 to 64 bytes.
+    Bytes(Lane),
+    Count(u32),
+    /// An error's number.
+    Error(u32),
+    Blocked,
+    Stopped,
+    Ended,
+    Held,
+    Full,
+    Legacy,
+}
+
+/// Why a task was killed: no permission for tiles, no Large area, or a signal frame that is refused.
+#[derive(Clone, Copy, PartialEq, Eq, Debug)]
+pub enum Why {
+    Permission,
+    Area,
+    FrameFeatures,
+    FrameCompacted,
+    FrameReserved,
+    FrameMxcsr,
+}
+
+/// One step of the machine.
+#[derive(Drop)]
+pub enum Event {
+    /// A turn of the task begins on the processor.
+    Start {
+        task: u32,
+        cpu: u32,
+        how: How,
+        signal: Option<Signo>,
+    },
+    /// A line ran that touches only its task.
+    Local {
+        task: u32,
+        line: u32,
+        reply: Reply,
+    },
+    /// A line ran that reaches other tasks. It ends the turn.
+    Outer {
+        task: u32,
+        line: u32,
+        reply: Reply,
+    },
+    /// The task got a Large save area.
+    Grow {
+        task: u32,
+    },
+    /// The task was killed.
+    Kill {
+        task: u32,
+        signo: Signo,
+        why: Why,
+    },
+    /// The task came to the end of its body.
+    End {
+        task: u32,
+    },
+}
+
+/// A history: the events of a run, in order.
+#[derive(Drop)]
+pub struct History {
+    events: Items<Event>,
+}
+
+impl Model for History {
+    ghost use Rattle.std.specs.Prelude.{List};
+    ghost use Rattle.xs_model.specs.declared.event.Event.{Event};
+
+    ghost Value = { List Event };
+
+    ghost view = { λ h. h.events };
+}
+
+impl History {
+    /// No events. It takes no memory.
+    pub fn new(alloc: Global) -> History
+        ensures { result ≡ [] }
+    {
+        History {
+            events: Items::new(alloc),
+        }
+    }
+
+    /// The events, in order.
+    pub fn events(&self) -> &[Event]
+        ensures { result.now ≡ self.now }
+    {
+        self.events.as_slice()
+    }
+
+    /// Adds an event at the end. On want of memory the history stays as it was.
+    pub fn push(&mut self, event: Event) -> Result<(), AllocError>
+        ensures ok { OnOk result (self.new ≡ self.old ++ event ∷ []) }
+        ensures err { OnErr result (self.new ≡ self.old) }
+    {
+        self.events.push(event)
+    }
+}
