@@ -6,10 +6,14 @@
 
 mod event;
 mod items;
+mod look_back;
 mod name;
 mod script;
+mod stage;
 
 pub use event::{Event, History, Reply, Why};
 pub use items::Items;
+pub use look_back::held;
 pub use name::Name;
 pub use script::{Block, BlockKind, Command, Named, Order, Script};
+pub use stage::Stage;

@@ -1,0 +1,66 @@
+-- Scripts: which values are scripts. Every limit and every rule of names here is this project's own.
+use Rattle.std.specs.Prelude.{◌≡◌, ℕ, ◌+◌, ◌<◌, ◌≤◌, Bool, true, false, ◌&&◌, ◌||◌, nat_le, List, [], ◌∷◌, length, map}
+use Rattle.std.specs.List.{list_all, AllByRecursion}
+use Rattle.xs_base.specs.declared.component.Row.{Row}
+use Rattle.xs_base.specs.declared.component.Place.{Place}
+use Rattle.xs_base.specs.Layout.{amx_rows}
+use Rattle.xs_base.specs.Register.{IsRegister}
+use Rattle.xs_model.specs.declared.script.Named.{Named}
+use Rattle.xs_model.specs.declared.script.Named.TheVariants.{Amx}
+use Rattle.xs_model.specs.declared.script.BlockKind.TheVariants.{Task}
+use Rattle.xs_model.specs.declared.script.Command.{Command}
+use Rattle.xs_model.specs.declared.script.Command.TheVariants.{Set, Get}
+use Rattle.xs_model.specs.declared.script.Order.{Order}
+use Rattle.xs_model.specs.declared.script.Block.{Block}
+use Rattle.xs_model.specs.declared.script.Script.{Script}
+
+-- the table of components of a machine
+abbrev pub rows_of : Named → List Row
+rows_of Amx = amx_rows
+
+abbrev pub is_letter : ℕ → Bool
+is_letter byte = nat_le 97 byte && nat_le byte 122
+
+abbrev pub is_letter_or_digit : ℕ → Bool
+is_letter_or_digit byte = is_letter byte || (nat_le 48 byte && nat_le byte 57)
+
+-- the name of a block: a letter a to z, and at most 15 more letters or digits
+abbrev pub is_name : List ℕ → Bool
+is_name [] = false
+is_name (first ∷ more) = is_letter first && list_all is_letter_or_digit more && nat_le (length more) 15
+
+-- A command names a register of the machine, and sets it to as many bytes as it has.
+abbrev pub IsCommand : List Row → Command → Type 0
+IsCommand rows (Set reg bytes) = (place : Place) × IsRegister rows reg place × (length bytes ≡ place.len) × AllByRecursion (λ byte. byte < 256) bytes
+IsCommand rows (Get reg) = (place : Place) × IsRegister rows reg place
+
+-- each name is another
+abbrev pub AreDistinct : List (List ℕ) → Type 0
+AreDistinct [] = Unit {0}
+AreDistinct (name ∷ names) = AllByRecursion (λ other. other ≡ name → ⊥) names × AreDistinct names
+
+-- The numbers of the orders are those of their lines, where line `first` is the block's own first line.
+abbrev pub AreNumbered : ℕ → List Order → Type 0
+AreNumbered number [] = Unit {0}
+AreNumbered number (order ∷ orders) = (order.number ≡ number) × AreNumbered (number + 1) orders
+
+abbrev pub AreBlocksNumbered : ℕ → List Block → Type 0
+AreBlocksNumbered first [] = Unit {0}
+AreBlocksNumbered first (block ∷ blocks) = AreNumbered (first + 1) block.body × AreBlocksNumbered (first + length block.body + 2) blocks
+
+-- a script whose parts are within their limits
+pub record IsValid (script : Script) : Type 0 where
+  pub cpus : (0 < script.cpus) × (script.cpus ≤ 16)
+  pub quantum : (0 < script.quantum) × (script.quantum ≤ 32)
+  pub large : script.large ≤ 64
+  pub some : 0 < length script.blocks
+  pub few : length script.blocks ≤ 64
+  pub names : AllByRecursion (λ (block : Block). is_name block.name ≡ true) script.blocks
+  pub distinct : AreDistinct (map (λ (block : Block). block.name) script.blocks)
+  pub commands : AllByRecursion (λ (block : Block). AllByRecursion (λ (order : Order). IsCommand (rows_of script.machine) order.command) block.body) script.blocks
+
+-- A script of the forms that are built: one processor, no schedule, and tasks without handlers.
+pub record IsBuilt (script : Script) : Type 0 where
+  pub one : script.cpus ≡ 1
+  pub unscheduled : script.sched ≡ []
+  pub tasks : AllByRecursion (λ (block : Block). (block.kind ≡ Task) × (block.handler ≡ [])) script.blocks

@@ -1,0 +1,4 @@
+-- The definitions of both texts, one file a noun.
+pub mod ScriptLine
+pub mod Grammar
+pub mod Text

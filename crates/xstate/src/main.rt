@@ -1,0 +1,6 @@
+//! `xstate`: runs a script of tasks on processors and writes its history.
+#![tactic(auto)]
+
+mod script_line;
+
+fn main() {}
