@@ -1,7 +1,8 @@
--- The components of the extended state that the machines here may have (SDM volume 1, 13.1 and 13.5): their
--- numbers, sizes in bytes, and initial configurations (SDM volume 1, 13.6). Byte 5 and the upper six bytes of each
--- ST slot of component 0, and its bytes 24 to 31, belong to no register and are zero.
-use Rattle.std.specs.Prelude.{ℕ, ◌-◌, List, [], ◌∷◌, ◌++◌, slice_index, if◌then◌else◌, ◌==◌}
+-- The components of the extended state that the machines here may have (SDM volume 1, 13.1, 13.2 and
+-- 13.5): their numbers, sizes in bytes, and initial configurations (SDM volume 1, 13.6). Byte 5 and the upper six bytes
+-- of each ST slot of component 0, and its bytes 24 to 31, belong to no register; that they are zero is this project's
+-- own.
+use Rattle.std.specs.Prelude.{ℕ, List, [], ◌∷◌, slice_index, if◌then◌else◌, ◌==◌}
 use Rattle.xs_base.specs.Bytes.{zeros}
 
 -- x87, SSE, AVX, opmask, ZMM_Hi256, Hi16_ZMM, PKRU, TILECFG, TILEDATA

@@ -26,7 +26,7 @@ with_part file c bytes = record file { parts = slice_set file.parts c bytes }
 abbrev pub initial_file : List Row → File
 initial_file rows = record { rows = rows; parts = map initial_part (range_with_len 0 19); mxcsr = initial_mxcsr }
 
--- the file with this PKRU, whose upper four bytes are zero
+-- The file with this PKRU. That the upper four bytes of its component are zero is this project's own.
 abbrev pub with_pkru : File → ℕ → File
 with_pkru file value = with_part file 9 (to_le_bytes w32 value ++ zeros 4)
 
@@ -39,7 +39,7 @@ abbrev pub write_place : File → Place → List ℕ → File
 write_place file place bytes = with_part file place.comp.0 (splice place.offset bytes (part file place.comp.0))
 
 -- Component c of the machine is in use: it isn't in its initial configuration. MXCSR doesn't count. A processor's
--- XINUSE (SDM volume 1, 13.6) may be 1 for more components than these.
+-- XINUSE (SDM volume 1, 13.6) may be 1 for more components than these; that it is just these is this project's own.
 abbrev pub in_use : File → ℕ → Bool
 in_use file c = has_row file.rows c && not (bytes_eq (part file c) (initial_part c))
 

@@ -1,4 +1,5 @@
--- A machine's table of components: a row each, in rising order, as CPUID leaf 0DH gives them (SDM volume 1, 13.2).
+-- A machine's table of components: a row each, as CPUID leaf 0DH gives them (SDM volume 1, 13.2). That rows 0 and 1
+-- stand in the table too, and that rows rise in number, is this project's own.
 use Rattle.std.specs.Prelude.{ℕ, ◌+◌, ◌^◌, Bool, true, not, ◌&&◌, ◌==◌, List, [], ◌∷◌, max, if◌then◌else◌}
 use Rattle.std.specs.List.{list_any}
 use Rattle.xs_base.specs.declared.component.Row.{Row}

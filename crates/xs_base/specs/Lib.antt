@@ -5,4 +5,5 @@ pub mod Component
 pub mod Layout
 pub mod File
 pub mod Register
+pub mod Header
 pub mod Task

@@ -1,5 +1,5 @@
--- The private task: what one user task owns, as if it had a processor to itself. It has a whole register file and
--- no save area. The place is how many lines of its body it has run.
+-- The private task: what one user task owns, as if it had a processor to itself. It has a whole register file, and
+-- nothing of a save area but whether that has room for tiles. The place is how many lines of its body it has run.
 use Rattle.std.specs.Prelude.{ℕ, Bool, true, false, ◌&&◌, List, if◌then◌else◌}
 use Rattle.xs_base.specs.declared.component.Row.{Row}
 use Rattle.xs_base.specs.Bytes.{zeros}
@@ -10,13 +10,13 @@ use Rattle.xs_base.specs.File.{File, initial_file, with_pkru, is_saved}
 
 pub record PrivateTask : Type 0 where
   pub file : File
-  -- the components that a tracer is shown as saved
+  -- The components that a tracer is shown as saved. The rule for them is this project's own.
   pub marks : ℕ
-  -- it may use TILEDATA (Linux 6.6, xstate.c, xstate_request_perm)
+  -- it may use TILEDATA (Linux 6.6, arch/x86/kernel/fpu/xstate.c, xstate_request_perm)
   pub permitted : Bool
   -- its save area has room for TILEDATA
   pub large : Bool
-  -- the memory of its signal frame, and a buffer for register sets
+  -- The memory of its signal frame, 16,384 bytes and 4 for the second magic word, and a buffer for register sets.
   pub frame : List ℕ
   pub buffer : List ℕ
   -- a signal handler runs
@@ -25,8 +25,8 @@ pub record PrivateTask : Type 0 where
   -- the place to go back to after the handler
   pub back : ℕ
 
--- The components that the task may use, and the size of its standard format (Linux 6.6, struct fpstate:
--- user_xfeatures, user_size).
+-- The components that the task may use, and the size of its standard format (Linux 6.6,
+-- arch/x86/include/asm/fpu/types.h, struct fpstate: user_xfeatures, user_size).
 abbrev pub user_features : PrivateTask → ℕ
 user_features task = if task.large then features task.file.rows else default_features task.file.rows
 
@@ -34,7 +34,7 @@ abbrev pub user_size : PrivateTask → ℕ
 user_size task = if task.large then full_size task.file.rows else default_size task.file.rows
 
 -- the marks after a turn: the saved components within the user features
-abbrev pub marks_after : PrivateTask → ℕ
+unfoldable pub marks_after : PrivateTask → ℕ
 marks_after task = set_of (λ c. is_saved task.file c && has (user_features task) c) component_numbers
 
 -- a task whose turn has ended

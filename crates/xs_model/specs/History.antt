@@ -16,7 +16,7 @@ Run m (event ∷ events) n = (between : Machine) × Step m event between × Run 
 abbrev pub IsLegal : Script → List Event → Type 0
 IsLegal script history = (m : Machine) × Run (opening script) history m
 
--- the block is born and hasn't ended
+-- the block has been made and hasn't ended
 abbrev pub lives : Stage → Bool
 lives Unborn = false
 lives Ready = true
@@ -25,7 +25,7 @@ lives Stopped = true
 lives (Waiting child) = true
 lives Ended = false
 
--- A legal history in which each block that was born has come to its end.
+-- A legal history in which each block that was made has come to its end.
 pub record IsWhole (script : Script) (history : List Event) : Type 0 where
   pub machine : Machine
   pub legal : Run (opening script) history machine

@@ -1,6 +1,6 @@
 -- The private machine: a state for each block of a script, and the steps from one state to the next. Every task owns
 -- its whole register file; a bank, a save area or an owner mark is nowhere in it. One relation stands for each kind
--- of event; an event of a kind that no built line makes is no step.
+-- of event; an event of a kind that no line of this version makes is no step.
 use Rattle.std.specs.Prelude.{◌≡◌, ℕ, ◌+◌, ◌<◌, Bool, true, false, ◌==◌, nat_lt, List, [], ◌∷◌, ◌++◌, length, map, slice_get, slice_set, Option, Some, None, if◌then◌else◌}
 use Rattle.std.specs.List.{list_any}
 use Rattle.xs_base.specs.declared.component.Row.{Row}
@@ -34,7 +34,7 @@ pub record BlockState : Type 0 where
   pub parent : Option ℕ
   pub pending : List ℕ
 
--- The state of the machine: `committing` is the block whose turn has made events and isn't over.
+-- The state of the machine: `committing` is the block whose turn has made a Local event and isn't over.
 pub record Machine : Type 0 where
   pub script : Script
   pub blocks : List BlockState
@@ -57,7 +57,7 @@ opening script = record { script = script; blocks = map (opening_block (rows_of 
 abbrev pub happened : Machine → Event → ℕ → BlockState → Option ℕ → Machine
 happened m event t block committing = record { script = m.script; blocks = slice_set m.blocks t block; committing = committing; history = m.history ++ event ∷ [] }
 
--- While a turn has made events and isn't over, no other block acts.
+-- While a turn has made a Local event and isn't over, no other block acts.
 abbrev pub may_act : Option ℕ → ℕ → Bool
 may_act None t = true
 may_act (Some u) t = u == t
@@ -83,7 +83,7 @@ how_of Child false = Load
 how_of Kthread is_held = Kern
 
 -- Start: the block is ready, and the processor is one of the script's and has no turn. The turn has made no Local
--- event. A signal comes only where one is pending.
+-- event. No line of this version sends a signal: none is pending, and none comes.
 pub record Starts (m : Machine) (t cpu : ℕ) (how : How) (signal : Option Signo) (n : Machine) : Type 0 where
   pub block : BlockState
   pub lines : Block
@@ -107,16 +107,20 @@ abbrev pub Runs : PrivateTask → Command → Reply → PrivateTask → Type 0
 Runs task (Set reg bytes) reply after = (place : Place) × IsRegister task.file.rows reg place × (reply ≡ Done) × (after ≡ past (record task { file = write_place task.file place bytes }))
 Runs task (Get reg) reply after = (place : Place) × IsRegister task.file.rows reg place × (reply ≡ Bytes (read_place task.file place)) × (after ≡ past task)
 
--- after one more Local event the turn goes on, or it was the quantum's last
+-- One more Local event leaves the turn below its quantum.
+abbrev pub goes_on : ℕ → ℕ → Bool
+goes_on ran quantum = nat_lt (ran + 1) quantum
+
+-- what the block does after one more Local event
 abbrev pub stage_after : ℕ → ℕ → ℕ → Stage
-stage_after cpu ran quantum = if nat_lt (ran + 1) quantum then Turn cpu (ran + 1) else Ready
+stage_after cpu ran quantum = if goes_on ran quantum then Turn cpu (ran + 1) else Ready
 
 abbrev pub committing_after : ℕ → ℕ → ℕ → Option ℕ
-committing_after t ran quantum = if nat_lt (ran + 1) quantum then Some t else None
+committing_after t ran quantum = if goes_on ran quantum then Some t else None
 
 -- A turn that ends gives the task its marks.
 abbrev pub task_after : ℕ → ℕ → PrivateTask → PrivateTask
-task_after ran quantum task = if nat_lt (ran + 1) quantum then task else parked task
+task_after ran quantum task = if goes_on ran quantum then task else parked task
 
 -- Local: the block is in a turn with fewer Local events than the quantum, the line is the one at its place, and the
 -- reply is what the line answers.
@@ -153,8 +157,8 @@ pub record Ends (m : Machine) (t : ℕ) (n : Machine) : Type 0 where
   pub outside : block.task.handling ≡ false
   pub next : n ≡ happened m (End t) t (record block { stage = Ended; task = parked block.task; pending = [] }) None
 
--- From m the event leads to n. No built line is outer, traps or returns from a signal, so no Outer, Grow or Kill is
--- a step.
+-- From m the event leads to n. No line of this version is outer, traps or returns from a signal, so no Outer, Grow or
+-- Kill is a step.
 abbrev pub Step : Machine → Event → Machine → Type 0
 Step m (Start t cpu how signal) n = Starts m t cpu how signal n
 Step m (Local t line reply) n = RunsLine m t line reply n

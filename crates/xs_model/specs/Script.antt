@@ -59,7 +59,7 @@ pub record IsValid (script : Script) : Type 0 where
   pub distinct : AreDistinct (map (λ (block : Block). block.name) script.blocks)
   pub commands : AllByRecursion (λ (block : Block). AllByRecursion (λ (order : Order). IsCommand (rows_of script.machine) order.command) block.body) script.blocks
 
--- A script of the forms that are built: one processor, no schedule, and tasks without handlers.
+-- A script of the forms of this version: one processor, no schedule, and tasks without handlers.
 pub record IsBuilt (script : Script) : Type 0 where
   pub one : script.cpus ≡ 1
   pub unscheduled : script.sched ≡ []

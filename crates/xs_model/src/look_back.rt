@@ -52,7 +52,7 @@ fn is_displaced(events: &[Event], cpu: u32, task: u32) -> bool
     })
 }
 
-/// Whether the task's last event is Grow.
+/// Whether the task got another save area.
 fn is_stale(events: &[Event], task: u32) -> bool
     ensures { result ≡ is_stale_after events.now task }
 {

@@ -11,7 +11,7 @@ pub enum Named {
     Amx,
 }
 
-/// What a block of lines is: a task from the start, a task that a fork bears, or a kernel thread.
+/// What a block of lines is: a task from the start, a task that a fork makes, or a kernel thread.
 #[derive(Clone, Copy, PartialEq, Eq, Debug)]
 pub enum BlockKind {
     Task,

@@ -6,7 +6,7 @@ ghost use Rattle.xs_model.specs.Machine.{stage_after};
 /// What a block is doing. A turn has its processor and the number of Local events that it has made.
 #[derive(Clone, Copy, PartialEq, Eq, Debug)]
 pub enum Stage {
-    /// No fork has borne it.
+    /// No fork has made it yet.
     Unborn,
     Ready,
     Turn { cpu: u32, ran: u32 },

@@ -1,0 +1,1 @@
+-- The definitions of areas stand in xs_base.

@@ -1,0 +1,7 @@
+//! Save areas: the memory that XSAVE and its kin write. So far an area's legacy region and header alone; the crate's
+//! contract is what its readers say of the bytes.
+#![tactic(auto)]
+
+mod area;
+
+pub use area::{Area, mxcsr, xcomp_bv, xstate_bv};

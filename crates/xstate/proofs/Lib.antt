@@ -1,0 +1,9 @@
+pub mod SpliceLemmas
+pub mod AreaLemmas
+pub mod Stepping
+pub mod HeldLemmas
+pub mod TaskLemmas
+pub mod TurnLemmas
+pub mod Opening
+pub mod EngineLoops
+pub mod WorkLemmas

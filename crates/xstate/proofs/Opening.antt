@@ -1,0 +1,55 @@
+-- The engine before the first event.
+use Rattle.std.proofs.Common.{◌≡◌, ℕ, zero, suc, ◌+◌, ◌<◌, ◌≤◌, List, [], ◌∷◌, length, refl, sym, ap, ◌∙◌, arith}
+use Rattle.std.proofs.lemmas.List.{length-replicate, get_or-replicate}
+use Rattle.std.specs.Prelude.{Option, Some, None, map, replicate, slice_get}
+use Rattle.std.specs.List.{AllByRecursion}
+use Rattle.xs_base.specs.declared.component.Row.{Row}
+use Rattle.xs_base.specs.Bytes.{zeros}
+use Rattle.xs_base.specs.Layout.{amx_rows}
+use Rattle.xs_base.specs.Task.{PrivateTask, root_task}
+use Rattle.xs_model.specs.declared.script.BlockKind.TheVariants as kinds
+use Rattle.xs_model.specs.declared.script.Named.{Named}
+use Rattle.xs_model.specs.declared.script.Named.TheVariants.{Amx}
+use Rattle.xs_model.specs.declared.script.Block.{Block}
+use Rattle.xs_model.specs.declared.script.Script.{Script}
+use Rattle.xs_model.specs.declared.stage.Stage.{Stage}
+use Rattle.xs_model.specs.declared.stage.Stage.TheVariants as stages
+use Rattle.xs_model.specs.Machine.{BlockState, Machine, opening_block, opening_stage, opening}
+use Rattle.xs_model.specs.Script.{IsBuilt, rows_of}
+use Rattle.xstate.specs.Engine.{SavedTask, fresh, fresh_tasks, task_at, block_at_rest, machine_at_rest, IsAtRest}
+use Rattle.xstate.proofs.TaskLemmas.{root_fresh}
+use Rattle.xstate.proofs.HeldLemmas.{held_at_first}
+
+-- the one machine
+rows_amx : (named : Named) → rows_of named ≡ amx_rows
+rows_amx Amx = refl
+
+-- a task that has had no turn is a block as it opens
+opens : (block : Block) → block.kind ≡ kinds.Task → block_at_rest fresh ≡ opening_block amx_rows block
+opens block kind =
+    ap (λ (task : PrivateTask). let state : BlockState = record { stage = stages.Ready; task = task; parent = None; pending = [] } in state) root_fresh
+    ∙ ap (λ kind. let state : BlockState = record { stage = opening_stage kind; task = root_task amx_rows; parent = None; pending = [] } in state) (sym kind)
+
+blocks_open : (blocks : List Block) → AllByRecursion (λ (block : Block). (block.kind ≡ kinds.Task) × (block.handler ≡ [])) blocks → map block_at_rest (fresh_tasks (length blocks)) ≡ map (opening_block amx_rows) blocks
+blocks_open [] all = refl
+blocks_open (block ∷ blocks) all =
+    ap (λ state. state ∷ map block_at_rest (fresh_tasks (length blocks))) (opens block all.0.0)
+    ∙ ap (λ states. opening_block amx_rows block ∷ states) (blocks_open blocks all.1)
+
+-- each place of a task that has had no turn is 0
+fresh_place : (n t : ℕ) → (task_at (fresh_tasks n) t).place ≡ 0
+fresh_place zero t = refl
+fresh_place (suc n) zero = refl
+fresh_place (suc n) (suc t) = fresh_place n t
+
+-- before the first event
+pub at_opening : (script : Script) (bank : List ℕ) → IsBuilt script → IsAtRest script bank None (fresh_tasks (length script.blocks)) []
+at_opening script bank built = record {
+  run =
+    ap (λ (blocks : List BlockState). let m : Machine = record { script = script; blocks = blocks; committing = None; history = [] } in m)
+      (blocks_open script.blocks built.tasks ∙ ap (λ rows. map (opening_block rows) script.blocks) (sym (rows_amx script.machine)));
+  marked = held_at_first;
+  kept = λ t is. absurd (cc);
+  known = length-replicate (length script.blocks) fresh;
+  places = λ t block at. omega (arith, fresh_place (length script.blocks) t);
+}

@@ -1,0 +1,79 @@
+//! The bank: the XMM registers of the processor.
+
+ghost use Rattle.std.specs.Prelude.{◌≡◌, ◌+◌, ◌≤◌, length, slice_range};
+ghost use Rattle.xs_base.specs.Bytes.{zeros, splice};
+ghost use Rattle.xs_base.specs.Layout.{amx_rows};
+ghost use Rattle.xs_model.specs.Script.{IsCommand};
+ghost use Rattle.xstate.specs.Engine.{BankRuns};
+
+use crate::words::place_of;
+use xs_base::{Lane, Place};
+use xs_model::{Command, Reply};
+
+/// The sixteen XMM registers, XMM 0 first, 16 bytes each.
+#[derive(Drop)]
+pub struct Bank {
+    pub registers: [u8; 256],
+}
+
+impl Bank {
+    /// Every register is zero, its initial configuration (SDM volume 1, 13.6).
+    #[tactic(auto, unfolding(xs_base::specs::Bytes::zeros))]
+    pub fn new() -> Bank
+        ensures { result.registers ≡ zeros 256 }
+    {
+        Bank {
+            registers: [0; 256],
+        }
+    }
+
+    /// The bytes of a register.
+    fn read(&self, place: Place) -> Lane
+        requires within { place.offset + place.len ≤ 256 }
+        requires small { place.len ≤ 64 }
+        ensures { result ≡ slice_range self.now.registers place.offset (place.offset + place.len) }
+    {
+        let from = place.offset as usize;
+        Lane::from_slice(&self.registers[from..from + place.len as usize])
+    }
+
+    /// The register becomes these bytes.
+    fn write(&mut self, place: Place, bytes: &[u8])
+        requires within { place.offset + length bytes.now ≤ 256 }
+        ensures { self.new.registers ≡ splice place.offset bytes.now self.old.registers }
+    {
+        put(&mut self.registers, place.offset as usize, bytes);
+    }
+
+    /// Runs a command, and answers its reply.
+    pub fn run(&mut self, command: &Command) -> Reply
+        requires { IsCommand amx_rows command.now }
+        ensures { BankRuns self.old.registers command.now result self.new.registers }
+    {
+        match command {
+            Command::Set { reg, bytes } => {
+                let Some(place) = place_of(reg.as_slice()) else {
+                    unreachable!()
+                };
+                self.write(place, bytes.as_slice());
+                Reply::Done
+            }
+            Command::Get { reg } => {
+                let Some(place) = place_of(reg.as_slice()) else {
+                    unreachable!()
+                };
+                Reply::Bytes(self.read(place))
+            }
+        }
+    }
+}
+
+/// Writes bytes over a part of others.
+#[tactic(auto, unfolding(xs_base::specs::Bytes::splice))]
+pub fn put(out: &mut [u8], at: usize, bytes: &[u8])
+    requires { at + length bytes.now ≤ length out.old }
+    ensures written { out.new ≡ splice at bytes.now out.old }
+    ensures len { length out.new ≡ length out.old }
+{
+    out[at..at + bytes.len()].copy_from_slice(bytes);
+}

@@ -1,0 +1,103 @@
+//! A task between its turns.
+
+ghost use Rattle.std.specs.Prelude.{◌≡◌, length, IfOk, true};
+ghost use Rattle.xs_base.specs.Bytes.{zeros};
+ghost use Rattle.xstate.specs.Engine.{registers_in};
+
+use crate::bank::{Bank, put};
+use std::alloc::{AllocError, Global};
+use std::marker::Model;
+use xs_area::{Area, xstate_bv};
+use xs_base::{Comp, Features};
+
+/// A task that no turn runs: its save area of 576 bytes in the standard format, its place, and whether it has ended.
+/// Contracts see the registers that the area stands for.
+#[derive(Drop)]
+pub struct Parked {
+    area: Area,
+    place: usize,
+    ended: bool,
+}
+
+impl Model for Parked {
+    ghost use Rattle.std.specs.Prelude.{◌≡◌, vec_len};
+    ghost use Rattle.xstate.specs.Engine.{SavedTask, registers_in};
+
+    ghost Value = { SavedTask };
+
+    ghost view = { λ p. record { registers = registers_in p.area.bytes.items; place = p.place; ended = p.ended } };
+
+    ghost invariant = { λ p. vec_len p.area.bytes ≡ 576 };
+}
+
+impl Parked {
+    ghost use Rattle.xstate.specs.Engine.{fresh};
+
+    /// A task that has had no turn. Its area is zero and has this number.
+    pub fn new(alloc: Global, id: u64) -> Result<Parked, AllocError>
+        ensures { IfOk result (λ task. task ≡ fresh) }
+    {
+        let bytes = zeros_of(alloc, 576)?;
+        Ok(Parked {
+            area: Area { id, bytes },
+            place: 0,
+            ended: false,
+        })
+    }
+
+    /// How many lines of its body the task has run.
+    pub fn place(&self) -> usize
+        ensures { result ≡ self.now.place }
+    {
+        self.place
+    }
+
+    /// Whether the task has come to its end.
+    pub fn has_ended(&self) -> bool
+        ensures { result ≡ self.now.ended }
+    {
+        self.ended
+    }
+
+    /// Saves the bank's registers into the area, with bit 1 of XSTATE_BV, and takes the place and whether the task has
+    /// come to its end.
+    pub fn save(&mut self, bank: &Bank, place: usize, ended: bool)
+        ensures { self.new ≡ record { registers = bank.now.registers; place = place; ended = ended } }
+    {
+        save_registers(&mut self.area.bytes, &bank.registers);
+        self.place = place;
+        self.ended = ended;
+    }
+
+    /// Restores the registers from the area: where bit 1 of XSTATE_BV is clear they are initial.
+    #[tactic(auto, unfolding(crate::specs::Engine::registers_in, xs_base::specs::Bytes::zeros))]
+    pub fn restore(&self, bank: &mut Bank)
+        ensures { bank.new.registers ≡ self.now.registers }
+    {
+        if Features(xstate_bv(&self.area.bytes)).has(Comp(1)) {
+            bank.registers.copy_from_slice(&self.area.bytes[160..416]);
+        } else {
+            bank.registers = [0; 256];
+        }
+    }
+}
+
+/// Saves the XMM registers into an area of the standard format: their bytes at 160, and XSTATE_BV with bit 1 alone.
+#[tactic(auto, using(crate::proofs::AreaLemmas::registers_saved))]
+fn save_registers(area: &mut [u8], registers: &[u8])
+    requires size { length area.old ≡ 576 }
+    requires many { length registers.now ≡ 256 }
+    ensures saved { registers_in area.new ≡ registers.now }
+    ensures len { length area.new ≡ 576 }
+{
+    put(area, 160, registers);
+    put(area, 512, &[2, 0, 0, 0, 0, 0, 0, 0]);
+}
+
+/// A vector of `len` zeros.
+#[tactic(auto, unfolding(xs_base::specs::Bytes::zeros))]
+fn zeros_of(alloc: Global, len: usize) -> Result<Vec<u8>, AllocError>
+    ensures { IfOk result (λ v. v.items ≡ zeros len) }
+{
+    vec![in alloc; 0u8; len]
+}
