@@ -52,6 +52,15 @@ words first (next ∷ more) = first ++ 32 ∷ words next more
 abbrev pub name_of : Script → ℕ → List ℕ
 name_of script task = slice_index_or (map (λ (block : Block). block.name) script.blocks) task []
 
+-- the number of the event's task
+abbrev pub task_of : Event → ℕ
+task_of (events.Start task cpu how signal) = task
+task_of (events.Local task line reply) = task
+task_of (events.Outer task line reply) = task
+task_of (events.Grow task) = task
+task_of (events.Kill task signo why) = task
+task_of (events.End task) = task
+
 abbrev pub event_line : Script → Event → List ℕ
 event_line script (events.Start task cpu how signal) = words (codes "start") (name_of script task ∷ decimal cpu ∷ how_word how ∷ signal_word signal ∷ [])
 event_line script (events.Local task line reply) = words (codes "local") (name_of script task ∷ decimal line ∷ reply_word reply ∷ [])
