@@ -1,9 +1,12 @@
 //! The text of a history: a line for each event, in its one spelling.
 
-ghost use Rattle.std.specs.Prelude.{◌≡◌, ◌+◌, ◌<◌, ◌≤◌, [], ◌∷◌, ◌++◌, length, decimal};
+ghost use Rattle.std.specs.Prelude.{◌≡◌, ◌+◌, ◌<◌, ◌≤◌, List, [], ◌∷◌, ◌++◌, length, decimal};
 ghost use Rattle.arrayvec.specs.ArrayVec.{array_vec_len};
 ghost use Rattle.hex.specs.Hex.{encode_lower};
-ghost use Rattle.xstate.specs.Text.{how_word, signal_word, reply_word, cause_word, name_of, task_of, event_line};
+ghost use Rattle.xs_model.specs.declared.script.Script.{Script};
+ghost use Rattle.xs_model.specs.declared.event.Event.{Event};
+ghost use Rattle.xs_model.specs.Script.{IsValid};
+ghost use Rattle.xstate.specs.Text.{AreEvents, history_text, how_word, signal_word, reply_word, cause_word, name_of, task_of, event_line};
 
 #[cfg(test)]
 mod tests;
@@ -192,3 +195,8 @@ fn put_hex(out: &mut EventLine, lane: &Lane)
     let _ = encode_to_slice(bytes, part);
     put(out, part);
 }
+
+/// The text of a history of a script is that of no other history.
+pub fn one_history()
+    ensures { (script : Script) (a b : List Event) → IsValid script → AreEvents script a → AreEvents script b → history_text script a ≡ history_text script b → a ≡ b }
+{}

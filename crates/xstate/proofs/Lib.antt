@@ -1,0 +1,3 @@
+-- Lemmas on texts.
+pub mod SpacedWords
+pub mod OneSpelling
