@@ -1,0 +1,3 @@
+-- What a fault is counted as, and sources and sinks in memory.
+pub mod Causes
+pub mod Memory
