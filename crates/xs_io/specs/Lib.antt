@@ -1,3 +1,4 @@
--- What a fault is counted as, and sources and sinks in memory.
+-- What a fault is counted as, sources and sinks in memory, and sinks over std.
 pub mod Causes
 pub mod Memory
+pub mod Standard

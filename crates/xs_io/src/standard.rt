@@ -1,12 +1,13 @@
 //! Readers and writers of std as sources and sinks.
 
-ghost use Rattle.std.specs.Prelude.{◌≡◌, None, Some, OnOk, OnErr};
+ghost use Rattle.std.specs.Prelude.{◌≡◌, [], OnOk};
 ghost use Rattle.std.specs.Io.KnownBytes.{Keeps};
 ghost use Rattle.xs_io.specs.Causes.{HasCause};
+ghost use Rattle.xs_io.specs.Standard.{held_back};
 
 use crate::failed::fault;
 use crate::{Failed, Sink, Source};
-use std::io::{Read, Write};
+use std::io::{BufWriter, Read, Write};
 
 /// A reader of std as a source: a read is one call of the reader's, and each error of it is a fault.
 #[derive(Drop)]
@@ -58,13 +59,17 @@ impl<W: Write> StdSink<W> {
     {
         StdSink { writer, faults: 0 }
     }
+}
 
+impl<W: Write + Drop> StdSink<BufWriter<W>> {
     /// Makes the writer hand on what it holds back, by one call of its `flush`; an error is a fault. A buffered
     /// writer that is dropped loses the error of its last write, so this comes before the end.
     pub fn flush(&mut self) -> Result<(), Failed>
-        ensures bytes { Keeps (⟦<StdSink<W> as Sink>⟧.written self.old) (⟦<StdSink<W> as Sink>⟧.written self.new) }
-        ensures cause { HasCause (⟦<StdSink<W> as Sink>⟧.fault_count self.old)
-            (⟦<StdSink<W> as Sink>⟧.fault_count self.new) result }
+        ensures bytes { Keeps (⟦<StdSink<BufWriter<W>> as Sink>⟧.written self.old)
+            (⟦<StdSink<BufWriter<W>> as Sink>⟧.written self.new) }
+        ensures empty { OnOk result (held_back self.new ≡ []) }
+        ensures cause { HasCause (⟦<StdSink<BufWriter<W>> as Sink>⟧.fault_count self.old)
+            (⟦<StdSink<BufWriter<W>> as Sink>⟧.fault_count self.new) result }
     {
         match self.writer.flush() {
             Ok(()) => Ok(()),
