@@ -2,3 +2,4 @@
 pub mod ScriptLine
 pub mod Grammar
 pub mod Text
+pub mod Writing

@@ -61,6 +61,10 @@ task_of (events.Grow task) = task
 task_of (events.Kill task signo why) = task
 task_of (events.End task) = task
 
+-- Each event's task is a block of the script.
+abbrev pub AreTasksKnown : Script → List Event → Type 0
+AreTasksKnown script history = AllByRecursion (λ event. task_of event < length script.blocks) history
+
 abbrev pub event_line : Script → Event → List ℕ
 event_line script (events.Start task cpu how signal) = words (codes "start") (name_of script task ∷ decimal cpu ∷ how_word how ∷ signal_word signal ∷ [])
 event_line script (events.Local task line reply) = words (codes "local") (name_of script task ∷ decimal line ∷ reply_word reply ∷ [])

@@ -3,5 +3,6 @@
 
 mod script_line;
 mod text;
+mod writing;
 
 fn main() {}

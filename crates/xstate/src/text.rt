@@ -1,20 +1,25 @@
 //! The text of a history: a line for each event, in its one spelling.
 
-ghost use Rattle.std.specs.Prelude.{◌≡◌, ◌+◌, ◌<◌, ◌≤◌, List, [], ◌∷◌, ◌++◌, length, decimal};
+ghost use Rattle.std.specs.Prelude.{◌≡◌, ◌+◌, ◌<◌, ◌≤◌, List, [], ◌∷◌, ◌++◌, length, decimal, OnOk, OnErr};
 ghost use Rattle.arrayvec.specs.ArrayVec.{array_vec_len};
 ghost use Rattle.hex.specs.Hex.{encode_lower};
+ghost use Rattle.std.specs.Io.KnownBytes.{Appends};
+ghost use Rattle.xs_io.specs.Causes.{HasCause};
+ghost use Rattle.xstate.specs.Writing.{AppendsFront};
 ghost use Rattle.xs_model.specs.declared.script.Script.{Script};
 ghost use Rattle.xs_model.specs.declared.event.Event.{Event};
 ghost use Rattle.xs_model.specs.Script.{IsValid};
-ghost use Rattle.xstate.specs.Text.{AreEvents, history_text, how_word, signal_word, reply_word, cause_word, name_of, task_of, event_line};
+ghost use Rattle.xstate.specs.Text.{AreTasksKnown, AreEvents, history_text, how_word, signal_word, reply_word, cause_word, name_of, task_of, event_line};
 
 #[cfg(test)]
 mod tests;
 
+use crate::writing::write_all;
 use arrayvec::ArrayVec;
 use hex::encode_to_slice;
 use itoa::Buffer;
 use xs_base::{How, Lane, Signo};
+use xs_io::{Failed, Sink};
 use xs_model::{Event, Reply, Script, Why};
 
 /// One line of a history's text with its line feed.
@@ -194,6 +199,26 @@ fn put_hex(out: &mut EventLine, lane: &Lane)
     let part = &mut digits[..2 * bytes.len()];
     let _ = encode_to_slice(bytes, part);
     put(out, part);
+}
+
+/// Writes the line of each event, in order, each handed to the sink whole. Where a write fails, the sink has taken a
+/// front of the history's text.
+pub fn write_history<K: Sink>(
+    script: &Script,
+    history: &[Event],
+    sink: &mut K,
+) -> Result<(), Failed>
+    requires { AreTasksKnown script.now history.now }
+    ensures ok { OnOk result (Appends (K.written sink.old) (K.written sink.new) (history_text script.now history.now)) }
+    ensures err { OnErr result (AppendsFront (K.written sink.old) (K.written sink.new) (history_text script.now history.now)) }
+    ensures cause { HasCause (K.fault_count sink.old) (K.fault_count sink.new) result }
+{
+    let mut line = ArrayVec::new();
+    for event in history {
+        write_event(script, event, &mut line);
+        write_all(sink, line.as_slice())?;
+    }
+    Ok(())
 }
 
 /// The text of a history of a script is that of no other history.
