@@ -1,6 +1,6 @@
 //! A source and a sink in memory, which fail at the calls that they are told.
 
-ghost use Rattle.std.specs.Prelude.{◌≡◌, ◌↔◌, ◌+◌, ◌-◌, ◌<◌, ◌≤◌, ◌++◌, ℕ, List, [], Some, true, length, min, vec_len, vec_capacity, take, drop, IfOk, OnOk, OnErr, IsOk, IsErr, Option};
+ghost use Rattle.std.specs.Prelude.{◌≡◌, ◌↔◌, ◌+◌, ◌-◌, ◌<◌, ◌≤◌, ◌++◌, [], Some, length, min, vec_len, vec_capacity, take, drop, IfOk, OnErr, IsOk, IsErr, IsTrue};
 ghost use Rattle.std.specs.Io.{ReadsAtMost, WritesAtMost};
 ghost use Rattle.std.specs.Io.KnownBytes.{ReadConsumes, WriteAppends};
 ghost use Rattle.xs_io.specs.Causes.{HasCause, counted};
@@ -55,7 +55,12 @@ pub struct MemSource {
 impl Model for MemSource {
     ghost Value = { Supply };
 
-    ghost view = { λ s. record { left = drop s.at s.bytes.items; fail = s.fail.items; calls = s.calls; faults = s.faults } };
+    ghost view = { λ s. record {
+      left = drop s.at s.bytes.items;
+      fail = s.fail.items;
+      calls = s.calls;
+      faults = s.faults;
+    } };
 
     ghost invariant = { λ s. s.at ≤ vec_len s.bytes };
 }
@@ -86,7 +91,7 @@ impl Source for MemSource {
         ensures bound { ReadsAtMost result into.new }
         ensures bytes { ReadConsumes (Some self.old.left) (Some self.new.left) result into.new }
         ensures cause { HasCause self.old.faults self.new.faults result }
-        ensures fails { IsErr result ↔ (is_read_failing self.old ≡ true) }
+        ensures fails { IsErr result ↔ IsTrue (is_read_failing self.old) }
         ensures full { IfOk result (λ count. count ≡ min (length self.old.left) (length into.old)) }
         ensures fault { OnErr result (self.new.faults ≡ counted self.old.faults) }
         ensures calls { self.new.calls ≡ counted self.old.calls }
@@ -118,7 +123,13 @@ pub struct MemSink {
 impl Model for MemSink {
     ghost Value = { Store };
 
-    ghost view = { λ s. record { written = s.bytes.items; room = s.room; fail = s.fail.items; calls = s.calls; faults = s.faults } };
+    ghost view = { λ s. record {
+      written = s.bytes.items;
+      room = s.room;
+      fail = s.fail.items;
+      calls = s.calls;
+      faults = s.faults;
+    } };
 
     ghost invariant = { λ s. (vec_len s.bytes ≤ s.room) × (s.room ≤ vec_capacity s.bytes) };
 }
@@ -160,7 +171,7 @@ impl Sink for MemSink {
         ensures bytes { WriteAppends (Some self.old.written) (Some self.new.written) result bytes.now }
         ensures progress { IfOk result (λ count. 0 < length bytes.now → 0 < count) }
         ensures cause { HasCause self.old.faults self.new.faults result }
-        ensures fails { IsErr result ↔ (is_write_failing self.old bytes.now ≡ true) }
+        ensures fails { IsErr result ↔ IsTrue (is_write_failing self.old bytes.now) }
         ensures full { IfOk result (λ count.
             count ≡ min (length bytes.now) (self.old.room - length self.old.written)) }
         ensures fault { OnErr result (self.new.faults ≡ counted self.old.faults) }

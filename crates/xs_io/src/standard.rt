@@ -3,7 +3,7 @@
 ghost use Rattle.std.specs.Prelude.{◌≡◌, [], OnOk};
 ghost use Rattle.std.specs.Io.KnownBytes.{Keeps};
 ghost use Rattle.xs_io.specs.Causes.{HasCause};
-ghost use Rattle.xs_io.specs.Standard.{held_back};
+ghost use Rattle.xs_io.specs.Standard.{source_reader, source_faults, sink_writer, sink_faults, held_back};
 
 use crate::failed::fault;
 use crate::{Failed, Sink, Source};
@@ -19,17 +19,17 @@ pub struct StdSource<R> {
 impl<R: Read> StdSource<R> {
     /// A source over this reader, with no fault so far.
     pub fn new(reader: R) -> StdSource<R>
-        ensures left { ⟦<StdSource<R> as Source>⟧.left result ≡ R.remaining reader }
-        ensures count { ⟦<StdSource<R> as Source>⟧.fault_count result ≡ 0 }
+        ensures reader { source_reader result ≡ reader }
+        ensures count { source_faults result ≡ 0 }
     {
         StdSource { reader, faults: 0 }
     }
 }
 
 impl<R: Read> Source for StdSource<R> {
-    ghost left = { λ s. R.remaining s.reader };
+    ghost left = { λ s. R.remaining (source_reader s) };
 
-    ghost fault_count = { λ s. s.faults };
+    ghost fault_count = { source_faults };
 
     fn read(&mut self, into: &mut [u8]) -> Result<usize, Failed> {
         match self.reader.read(into) {
@@ -54,8 +54,8 @@ pub struct StdSink<W> {
 impl<W: Write> StdSink<W> {
     /// A sink over this writer, with no fault so far.
     pub fn new(writer: W) -> StdSink<W>
-        ensures written { ⟦<StdSink<W> as Sink>⟧.written result ≡ W.contents writer }
-        ensures count { ⟦<StdSink<W> as Sink>⟧.fault_count result ≡ 0 }
+        ensures writer { sink_writer result ≡ writer }
+        ensures count { sink_faults result ≡ 0 }
     {
         StdSink { writer, faults: 0 }
     }
@@ -68,8 +68,7 @@ impl<W: Write + Drop> StdSink<BufWriter<W>> {
         ensures bytes { Keeps (⟦<StdSink<BufWriter<W>> as Sink>⟧.written self.old)
             (⟦<StdSink<BufWriter<W>> as Sink>⟧.written self.new) }
         ensures empty { OnOk result (held_back self.new ≡ []) }
-        ensures cause { HasCause (⟦<StdSink<BufWriter<W>> as Sink>⟧.fault_count self.old)
-            (⟦<StdSink<BufWriter<W>> as Sink>⟧.fault_count self.new) result }
+        ensures cause { HasCause (sink_faults self.old) (sink_faults self.new) result }
     {
         match self.writer.flush() {
             Ok(()) => Ok(()),
@@ -79,9 +78,9 @@ impl<W: Write + Drop> StdSink<BufWriter<W>> {
 }
 
 impl<W: Write> Sink for StdSink<W> {
-    ghost written = { λ s. W.contents s.writer };
+    ghost written = { λ s. W.contents (sink_writer s) };
 
-    ghost fault_count = { λ s. s.faults };
+    ghost fault_count = { sink_faults };
 
     fn write(&mut self, bytes: &[u8]) -> Result<usize, Failed> {
         match self.writer.write(bytes) {
