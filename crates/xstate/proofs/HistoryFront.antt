@@ -8,7 +8,7 @@ use Rattle.xs_model.specs.declared.script.Script.{Script}
 use Rattle.xs_model.specs.declared.event.Event.{Event}
 use Rattle.xstate.specs.Text.{event_line, history_text}
 use Rattle.xstate.specs.Writing.{AppendsFront}
-use Rattle.xstate.proofs.Pieces.{AppendsFront_then, AppendsFront_more}
+use Rattle.xstate.proofs.KnownBytes.{AppendsFront_then, AppendsFront_more}
 
 -- the text is the lines before an event, its line, and the lines after it
 pub history_cut : (script : Script) (history : List Event) (i : ℕ) (x : Event) → i < length history → x ≡ get_or history i x

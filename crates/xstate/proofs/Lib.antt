@@ -1,5 +1,6 @@
 -- Lemmas on texts.
 pub mod SpacedWords
 pub mod OneSpelling
-pub mod Pieces
+pub mod KnownBytes
 pub mod HistoryFront
+pub mod LegalTasks

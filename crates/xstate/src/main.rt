@@ -1,6 +1,9 @@
 //! `xstate`: runs a script of tasks on processors and writes its history.
 #![tactic(auto)]
 
+mod reading;
+#[cfg(test)]
+mod reading_tests;
 mod script_line;
 mod text;
 mod writing;

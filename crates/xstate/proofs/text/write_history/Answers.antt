@@ -9,4 +9,4 @@ returns-in_err-write_all-clause-err g c =
     let failed = err_from_is_err_and c.from_residual.result c.from_residual.ensures.1 in
     rw failed.1
     (fault_in_line c.args.script.now c.args.history.now c.loop-event.event-index c.event-item.result c.as_slice.result.now _ _ _
-      (omega arith) c.event-item.is (c.as_slice.ensures.value ∙ c.write_event.ensures) c.loop-event.invariant.0 c.in_err-write_all.ensures.err)
+    (omega arith) c.event-item.is (c.as_slice.ensures.value ∙ c.write_event.ensures) c.loop-event.invariant.0 c.in_err-write_all.ensures.err)

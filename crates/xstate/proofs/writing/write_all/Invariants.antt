@@ -7,7 +7,8 @@ abbrev pub invariant-loop-rest : goal.invariant-loop-rest
 invariant-loop-rest g l =
     let written = g.K.Sink.written in
     let count = g.K.Sink.fault_count in
-    (front : List ℕ) × (l.text ≡ front ++ l.rest) × Appends (written l.fn.sink) (written l.sink) front × (count l.sink ≡ count l.fn.sink)
+    (front : List ℕ) × (l.text ≡ front ++ l.rest) × Appends (written l.fn.sink) (written l.sink) front
+    × (count l.sink ≡ count l.fn.sink)
 
 abbrev pub decreases-loop-rest : goal.decreases-loop-rest
 decreases-loop-rest g l = length l.rest
