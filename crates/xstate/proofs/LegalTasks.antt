@@ -1,6 +1,6 @@
 -- The events of a legal history are of blocks of the script.
-use Rattle.std.proofs.Common.{◌≡◌, ℕ, zero, suc, ◌<◌, List, [], ◌∷◌, length, refl, sym, ap, ◌∙◌, arith}
-use Rattle.std.specs.Prelude.{slice_get, Option, Some}
+use Rattle.std.proofs.Common.{◌≡◌, ℕ, zero, suc, ◌<◌, List, [], ◌∷◌, length, ap, arith}
+use Rattle.std.specs.Prelude.{slice_get, Some}
 use Rattle.xs_model.specs.declared.script.Block.{Block}
 use Rattle.xs_model.specs.declared.script.Script.{Script}
 use Rattle.xs_model.specs.declared.event.Event.{Event}
@@ -24,6 +24,7 @@ step_task m n (events.Grow t) s = absurd s
 step_task m n (events.Kill t signo why) s = absurd s
 step_task m n (events.End t) s = (found_below m.script.blocks t s.lines s.known, ap (λ (x : Machine). x.script) s.next)
 
+-- The events of a run are of blocks of its script.
 pub run_tasks : (m n : Machine) (history : List Event) → Run m history n → AreTasksKnown m.script history
 run_tasks m n [] r = tt
 run_tasks m n (event ∷ later) r =
@@ -31,5 +32,6 @@ run_tasks m n (event ∷ later) r =
     let rest = run_tasks r.0 n later r.2 in
     (step.0, rw step.1 at rest)
 
+-- The events of a legal history are of blocks of the script.
 pub legal_tasks : (script : Script) (history : List Event) → IsLegal script history → AreTasksKnown script history
 legal_tasks script history h = run_tasks (opening script) h.0 history h.1

@@ -1,5 +1,5 @@
 -- Two events of one script with the same line are the same, and so are two histories with the same text.
-use Rattle.std.proofs.Common.{◌≡◌, ℕ, zero, suc, ◌+◌, ◌<◌, ◌≤◌, ◌^◌, Bool, true, false, List, [], ◌∷◌, ◌++◌, length, refl, sym, ap, subst, ◌∙◌, arith}
+use Rattle.std.proofs.Common.{◌≡◌, ℕ, zero, suc, ◌<◌, ◌^◌, true, List, [], ◌∷◌, ◌++◌, length, refl, sym, ap, subst, ◌∙◌, arith}
 use Rattle.std.specs.Prelude.{◌&&◌, ◌/◌, ◌%◌, map, codes, decimal, nat_le, slice_index, slice_index_or, Option, Some, None}
 use Rattle.std.specs.List.{AllByRecursion, list_all}
 use Rattle.std.proofs.lemmas.Bool.{and_parts}
@@ -30,12 +30,15 @@ first_byte (x ∷ xs) = x
 
 -- ---- names
 
+-- a letter is above the space
 letter_above : (c : ℕ) → is_letter c ≡ true → 32 < c
 letter_above c h = grind (arith, nat_tests)
 
+-- so is a letter or digit
 letter_or_digit_above : (c : ℕ) → is_letter_or_digit c ≡ true → 32 < c
 letter_or_digit_above c h = grind (arith, nat_tests)
 
+-- so are letters and digits
 above_letters : (bytes : List ℕ) → list_all is_letter_or_digit bytes ≡ true → AllAbove 32 bytes
 above_letters [] h = tt
 above_letters (c ∷ cs) h =
@@ -54,6 +57,7 @@ above_name (c ∷ cs) h =
 abbrev names_of : List Block → List (List ℕ)
 names_of blocks = map (λ (block : Block). block.name) blocks
 
+-- the bytes of the name at a place
 above_name_at : (blocks : List Block) (i : ℕ) → AllByRecursion (λ (block : Block). is_name block.name ≡ true) blocks → i < length blocks
     → AllAbove 32 (slice_index_or (names_of blocks) i [])
 above_name_at [] i h lt = absurd (omega arith)
@@ -78,25 +82,30 @@ same_block (b ∷ bs) (suc i) (suc j) h li lj e = ap suc (same_block bs i j h.1 
 
 -- ---- words
 
+-- a number's digits are above the space
 above_number : (n : ℕ) → n < 2 ^ 64 → AllAbove 32 (decimal n)
 above_number n h = above_less 32 47 (decimal n) (omega arith) (above_decimal n h)
 
+-- the bytes of a restore's word
 above_how : (how : How) → AllAbove 32 (how_word how)
 above_how hows.Load = above_literal 32 (codes "load") refl
 above_how hows.Skip = above_literal 32 (codes "skip") refl
 above_how hows.Kern = above_literal 32 (codes "kern") refl
 
+-- the first byte of the word of a restore, which no two share
 how_letter : How → ℕ
 how_letter hows.Load = 108
 how_letter hows.Skip = 115
 how_letter hows.Kern = 107
 
+-- the word has that byte
 how_letter_is : (how : How) → first_byte (how_word how) ≡ how_letter how
 unfolding how_letter
 how_letter_is hows.Load = refl
 how_letter_is hows.Skip = refl
 how_letter_is hows.Kern = refl
 
+-- Restores with one word are the same.
 same_how : (a b : How) → how_word a ≡ how_word b → a ≡ b
 unfolding how_letter
 same_how hows.Load hows.Load e = refl
@@ -106,6 +115,7 @@ same_how a b e =
     let letters : how_letter a ≡ how_letter b = sym (how_letter_is a) ∙ ap first_byte e ∙ how_letter_is b in
     absurd (omega arith)
 
+-- the bytes of a signal's word
 above_signal : (signal : Option Signo) → IsSignal signal → AllAbove 32 (signal_word signal)
 above_signal None h = above_literal 32 (codes "-") refl
 above_signal (Some signo) h = above_number signo.0 (omega arith)
@@ -116,6 +126,7 @@ not_dash n h e =
     let dash : AllAbove 47 (codes "-") = subst (AllAbove 47) (sym e) (above_decimal n (omega arith)) in
     omega (arith, dash.0)
 
+-- Signals with one word are the same.
 same_signal : (a b : Option Signo) → IsSignal a → IsSignal b → signal_word a ≡ signal_word b → a ≡ b
 same_signal None None h k e = refl
 same_signal None (Some s) h k e = absurd (not_dash s.0 k e)
@@ -124,6 +135,7 @@ same_signal (Some s) (Some r) h k e =
     let signal_of : ℕ → Option Signo = λ n. Some (record { 0 = n }) in
     ap signal_of (decimal_injective s.0 r.0 (omega arith) (omega arith) e)
 
+-- the bytes of a cause's word
 above_cause : (why : Why) → AllAbove 32 (cause_word why)
 above_cause causes.Permission = above_literal 32 (codes "permission") refl
 above_cause causes.Area = above_literal 32 (codes "area") refl
@@ -141,6 +153,7 @@ cause_letter causes.FrameCompacted = 99
 cause_letter causes.FrameReserved = 114
 cause_letter causes.FrameMxcsr = 109
 
+-- the word has that byte
 cause_letter_is : (why : Why) → slice_index (cause_word why) 6 ≡ cause_letter why
 unfolding cause_letter
 cause_letter_is causes.Permission = refl
@@ -150,6 +163,7 @@ cause_letter_is causes.FrameCompacted = refl
 cause_letter_is causes.FrameReserved = refl
 cause_letter_is causes.FrameMxcsr = refl
 
+-- Causes with one word are the same.
 same_cause : (a b : Why) → cause_word a ≡ cause_word b → a ≡ b
 unfolding cause_letter
 same_cause causes.Permission causes.Permission e = refl
@@ -164,19 +178,23 @@ same_cause a b e =
 
 -- ---- replies
 
+-- each of some bytes is below 256, place by place
 byte_at : (bytes : List ℕ) → AllByRecursion (λ byte. byte < 256) bytes → IsBytes bytes
 byte_at [] h i = omega arith
 byte_at (b ∷ bs) h zero = h.0
 byte_at (b ∷ bs) h (suc i) = byte_at bs h.1 i
 
+-- a byte at a place of bytes above c is above c
 above_at : (c : ℕ) (bytes : List ℕ) (i : ℕ) → AllAbove c bytes → i < length bytes → c < slice_index bytes i
 above_at c [] i h lt = absurd (omega arith)
 above_at c (b ∷ bs) zero h lt = h.0
 above_at c (b ∷ bs) (suc i) h lt = above_at c bs i h.1 (omega arith)
 
+-- a digit of the table is above the space
 above_hex_digit : (d : ℕ) → d < 16 → 32 < slice_index lower_digits d
 above_hex_digit d lt = above_at 32 lower_digits d (above_literal 32 lower_digits refl) lt
 
+-- so are the digits of bytes
 above_hex : (bytes : List ℕ) → AllByRecursion (λ byte. byte < 256) bytes → AllAbove 32 (encode_lower bytes)
 unfolding encode_with
 above_hex [] h = tt
@@ -184,6 +202,7 @@ above_hex (b ∷ bs) h =
     let fits : b < 256 = h.0 in
     (above_hex_digit (b / 16) (omega arith), (above_hex_digit (b % 16) (omega arith), above_hex bs h.1))
 
+-- the bytes of a reply's word
 above_reply : (reply : Reply) → IsReply reply → AllAbove 32 (reply_word reply)
 above_reply replies.Done h = above_literal 32 (codes "-") refl
 above_reply (replies.Bytes bytes) h = (omega arith, above_hex bytes h.2)
@@ -209,6 +228,7 @@ reply_letter replies.Held = 104
 reply_letter replies.Full = 102
 reply_letter replies.Legacy = 108
 
+-- the word has that byte
 reply_letter_is : (reply : Reply) → first_byte (reply_word reply) ≡ reply_letter reply
 unfolding reply_letter
 reply_letter_is replies.Done = refl
@@ -228,6 +248,7 @@ same_bytes a b h k e =
     let read = decode_of-encode_lower a (byte_at a h) in
     decode_of-same (encode_lower b) a b (rw e at read) (decode_of-encode_lower b (byte_at b k))
 
+-- Replies with one word are the same.
 same_reply : (a b : Reply) → IsReply a → IsReply b → reply_word a ≡ reply_word b → a ≡ b
 unfolding reply_letter
 same_reply replies.Done replies.Done h k e = refl
@@ -255,6 +276,7 @@ kind_word (events.Grow task) = codes "grow"
 kind_word (events.Kill task signo why) = codes "kill"
 kind_word (events.End task) = codes "end"
 
+-- the bytes of a first word
 above_kind : (event : Event) → AllAbove 32 (kind_word event)
 above_kind (events.Start task cpu how signal) = above_literal 32 (codes "start") refl
 above_kind (events.Local task line reply) = above_literal 32 (codes "local") refl
@@ -272,6 +294,7 @@ kind_letter (events.Grow task) = 103
 kind_letter (events.Kill task signo why) = 107
 kind_letter (events.End task) = 101
 
+-- the word has that byte
 kind_letter_is : (event : Event) → first_byte (kind_word event) ≡ kind_letter event
 unfolding kind_letter
 kind_letter_is (events.Start task cpu how signal) = refl
@@ -290,6 +313,7 @@ more_words script (events.Grow task) = name_of script task ∷ []
 more_words script (events.Kill task signo why) = name_of script task ∷ decimal signo.0 ∷ cause_word why ∷ []
 more_words script (events.End task) = name_of script task ∷ []
 
+-- a line by its first word and the others
 line_is : (script : Script) (event : Event) → event_line script event ≡ words (kind_word event) (more_words script event)
 line_is script (events.Start task cpu how signal) = refl
 line_is script (events.Local task line reply) = refl
@@ -307,6 +331,7 @@ module _ (script : Script) (valid : IsValid script) where
   same_task : (t u : ℕ) → t < length script.blocks → u < length script.blocks → name_of script t ≡ name_of script u → t ≡ u
   same_task t u h k e = same_block script.blocks t u valid.distinct h k e
 
+  -- the bytes of the words after the first
   above_more : (event : Event) → IsEvent script event → AreWords (more_words script event)
   above_more (events.Start task cpu how signal) h = (above_task task h.0, (above_number cpu (omega arith), (above_how how, (above_signal signal h.2, tt))))
   above_more (events.Local task line reply) h = (above_task task h.0, (above_number line (omega arith), (above_reply reply h.2, tt)))

@@ -1,6 +1,6 @@
 -- Words and lines are cut where they were joined.
-use Rattle.std.proofs.Common.{◌≡◌, ℕ, zero, suc, ◌+◌, ◌<◌, ◌≤◌, ◌^◌, Bool, true, false, List, [], ◌∷◌, ◌++◌, length, refl, sym, ap, ◌∙◌, arith, rules}
-use Rattle.std.specs.Prelude.{nat_lt, slice_index_or, decimal}
+use Rattle.std.proofs.Common.{◌≡◌, ℕ, ◌<◌, ◌≤◌, ◌^◌, true, List, [], ◌∷◌, ◌++◌, refl, sym, arith}
+use Rattle.std.specs.Prelude.{nat_lt, decimal}
 use Rattle.std.specs.List.{AllByRecursion, list_all}
 use Rattle.std.specs.Str.Parse.{AllDigits}
 use Rattle.std.specs.Char.{digit_value}
@@ -51,6 +51,7 @@ pub above_less : (c d : ℕ) (bytes : List ℕ) → c ≤ d → AllAbove d bytes
 above_less c d [] le h = tt
 above_less c d (x ∷ xs) le h = (omega arith, above_less c d xs le h.1)
 
+-- what is above c in two lists is so in both joined
 pub above_append : (c : ℕ) (a b : List ℕ) → AllAbove c a → AllAbove c b → AllAbove c (a ++ b)
 above_append c [] b h k = k
 above_append c (x ∷ xs) b h k = (h.0, above_append c xs b h.1 k)
@@ -61,6 +62,7 @@ above_words first [] h hs = above_less 10 32 first (omega arith) h
 above_words first (x ∷ xs) h hs =
     above_append 10 first (32 ∷ words x xs) (above_less 10 32 first (omega arith) h) (omega arith, above_words x xs hs.0 hs.1)
 
+-- a test of two numbers
 below_from_test : (c x : ℕ) → nat_lt c x ≡ true → c < x
 below_from_test c x h = grind (arith, nat_tests)
 
@@ -71,9 +73,11 @@ above_literal c (x ∷ xs) h =
     let parts = and_parts (nat_lt c x) (list_all (nat_lt c) xs) h in
     (below_from_test c x parts.0, above_literal c xs parts.1)
 
+-- a decimal digit is at least 48
 digit_above : (c : ℕ) → digit_value c < 10 → 47 < c
 digit_above c h = grind (arith, nat_tests)
 
+-- decimal digits are at least 48
 above_digits : (ds : List ℕ) → AllDigits 10 ds → AllAbove 47 ds
 above_digits [] h = tt
 above_digits (c ∷ cs) h = (digit_above c h.0, above_digits cs h.1)

@@ -1,8 +1,8 @@
 //! The text of a history: a line for each event, in its one spelling.
 
-ghost use Rattle.std.specs.Prelude.{◌≡◌, ◌+◌, ◌<◌, ◌≤◌, List, [], ◌∷◌, ◌++◌, length, decimal, OnOk, OnErr};
+ghost use Rattle.std.specs.Prelude.{◌≡◌, ◌+◌, ◌*◌, ◌<◌, ◌≤◌, List, [], ◌∷◌, ◌++◌, length, slice_index, decimal, OnOk, OnErr};
 ghost use Rattle.arrayvec.specs.ArrayVec.{array_vec_len};
-ghost use Rattle.hex.specs.Hex.{encode_lower};
+ghost use Rattle.hex.specs.Hex.{encode_lower, lower_digits};
 ghost use Rattle.std.specs.Io.KnownBytes.{Appends};
 ghost use Rattle.xs_io.specs.Causes.{HasCause};
 ghost use Rattle.xstate.specs.Writing.{AppendsFront};
@@ -16,7 +16,6 @@ mod tests;
 
 use crate::writing::write_all;
 use arrayvec::ArrayVec;
-use hex::encode_to_slice;
 use itoa::Buffer;
 use xs_base::{How, Lane, Signo};
 use xs_io::{Failed, Sink};
@@ -197,8 +196,30 @@ fn put_hex(out: &mut EventLine, lane: &Lane)
     let bytes = lane.as_slice();
     let mut digits = [0u8; 128];
     let part = &mut digits[..2 * bytes.len()];
-    let _ = encode_to_slice(bytes, part);
+    fill_digits(bytes, part);
     put(out, part);
+}
+
+/// Fills `digits` with the bytes' digits, two a byte. By a test and a sum for each digit the loop becomes vector
+/// instructions, which a table of the digits would not.
+fn fill_digits(bytes: &[u8], digits: &mut [u8])
+    requires { length digits.old ≡ 2 * length bytes.now }
+    ensures { digits.new ≡ encode_lower bytes.now }
+{
+    for i in 0..bytes.len() {
+        let byte = bytes[i];
+        digits[2 * i] = hex_digit(byte >> 4);
+        digits[2 * i + 1] = hex_digit(byte & 0x0f);
+    }
+}
+
+/// The digit of a number below 16, 0 to 9 or a to f.
+#[inline]
+fn hex_digit(n: u8) -> u8
+    requires { n < 16 }
+    ensures { result ≡ slice_index lower_digits n }
+{
+    if n < 10 { n + b'0' } else { n - 10 + b'a' }
 }
 
 /// Writes the line of each event, in order, each handed to the sink whole. Where a write fails, the sink has taken a
