@@ -3,3 +3,4 @@ pub mod ScriptLine
 pub mod Grammar
 pub mod Text
 pub mod Engine
+pub mod Writing

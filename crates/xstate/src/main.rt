@@ -4,6 +4,11 @@
 mod bank;
 mod engine;
 mod parked;
+mod reading;
+#[cfg(test)]
+mod reading_tests;
 mod script_line;
+mod text;
+mod writing;
 
 fn main() {}
