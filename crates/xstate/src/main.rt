@@ -2,5 +2,6 @@
 #![tactic(auto)]
 
 mod script_line;
+mod words;
 
 fn main() {}
