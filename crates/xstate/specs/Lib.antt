@@ -1,5 +1,6 @@
 -- The definitions of both texts, one file a noun.
-pub mod Reads
 pub mod ScriptLine
+pub mod Reads
 pub mod Grammar
+pub mod Parts
 pub mod Text

@@ -1,6 +1,7 @@
 //! `xstate`: runs a script of tasks on processors and writes its history.
 #![tactic(auto)]
 
+mod line_reader;
 mod script_line;
 mod words;
 
