@@ -1,16 +1,15 @@
 -- The lines of a body: one more line, and that a text begins with one body.
-use Rattle.std.proofs.Common.{◌≡◌, ℕ, ◌+◌, ◌<◌, ◌≤◌, suc, List, [], ◌∷◌, ◌++◌, length, map, refl, sym, ◌∙◌, ap, subst, arith, add-zero, length-append}
+use Rattle.std.proofs.Common.{◌≡◌, ℕ, ◌+◌, ◌≤◌, List, [], ◌∷◌, ◌++◌, length, refl, sym, ◌∙◌, ap, subst, arith, add-zero, length-append}
 use Rattle.std.proofs.lemmas.List.{append_assoc, append-nil, append_cancel_left, map-append}
 use Rattle.std.proofs.lemmas.List.Concat.{flat_map-append}
-use Rattle.std.specs.List.{AllByRecursion, flat_map}
 use Rattle.xs_base.specs.Layout.{amx_rows}
 use Rattle.xs_model.specs.declared.script.Command.{Command}
 use Rattle.xs_model.specs.declared.script.Order.{Order}
-use Rattle.xs_model.specs.Script.{IsCommand, AreNumbered}
+use Rattle.xs_model.specs.Script.{IsCommand}
 use Rattle.xstate.specs.declared.script_line.ScriptLine.{ScriptLine}
 use Rattle.xstate.specs.declared.script_line.ScriptLine.TheVariants as lines
 use Rattle.xstate.specs.declared.line_reader.BodyLine.TheVariants.{Order as OrderLine, End as EndLine}
-use Rattle.xstate.specs.ScriptLine.{line_text, IsLine}
+use Rattle.xstate.specs.ScriptLine.{line_text}
 use Rattle.xstate.specs.Grammar.{lines_text, order_lines}
 use Rattle.xstate.specs.Reads.{NoLine}
 use Rattle.xstate.specs.Parts.{body_text, IsBody, body_line_text, IsBodyLine}

@@ -1,18 +1,18 @@
 -- The hex text of a lane, read by the crate `hex`.
-use Rattle.std.proofs.Common.{◌≡◌, ℕ, ◌<◌, ◌*◌, zero, suc, List, [], ◌∷◌, length, Result, Ok, Err, refl, sym, ◌∙◌, ap, arith, MatchResult, slice_index}
+use Rattle.std.proofs.Common.{◌≡◌, ℕ, ◌<◌, zero, suc, List, [], ◌∷◌, Result, Ok, Err, refl, sym, ◌∙◌, ap, arith, MatchResult, slice_index}
 use Rattle.std.specs.Result.{result_unwrap_or}
 use Rattle.std.specs.List.{AllByRecursion}
-use Rattle.hex.specs.Hex.{IsBytes, decode_of, decode_sized, encode_lower}
+use Rattle.hex.specs.Hex.{IsBytes, decode_sized, encode_lower}
 use Rattle.hex.specs.declared.error.FromHexError.{FromHexError}
-use Rattle.hex.proofs.HexLemmas.{decode_sized-ok, decode_sized-twice, decode_of-ok, decode_sized-encode_lower, decode_of-encode_lower}
+use Rattle.hex.proofs.HexLemmas.{decode_sized-ok, decode_sized-twice, decode_of-ok, decode_sized-encode_lower}
 use Rattle.xstate.specs.Reads.{IsLane}
 
 -- bytes by their indices, from bytes by recursion
 pub IsBytes-from_recursion : (bytes : List ℕ) → AllByRecursion (λ byte. byte < 256) bytes → IsBytes bytes
 IsBytes-from_recursion [] h = λ i. omega arith
 IsBytes-from_recursion (b ∷ bytes) h = λ i. elim i as (λ i. slice_index (b ∷ bytes) i < 256) [
-    | zero ↦ h.0
-    | suc i ↦ IsBytes-from_recursion bytes h.1 i
+  | zero ↦ h.0
+  | suc i ↦ IsBytes-from_recursion bytes h.1 i
 ]
 
 -- bytes by recursion, from bytes by their indices

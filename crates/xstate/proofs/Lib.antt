@@ -6,3 +6,6 @@ pub mod Cuts
 pub mod Spellings
 pub mod Readings
 pub mod Bodies
+pub mod Blocks
+pub mod Heads
+pub mod Scripts

@@ -1,11 +1,11 @@
 -- The names of registers, and the one place of each.
-use Rattle.std.proofs.Common.{◌≡◌, ℕ, ◌+◌, ◌*◌, ◌<◌, ◌≤◌, true, List, [], ◌∷◌, ◌++◌, length, refl, sym, ◌∙◌, ap, subst, arith, codes, decimal, zero-add, lit<, length-append, slice_index_or}
+use Rattle.std.proofs.Common.{◌≡◌, ℕ, ◌+◌, ◌*◌, ◌<◌, ◌≤◌, true, List, ◌++◌, length, refl, sym, ◌∙◌, ap, subst, arith, codes, decimal, zero-add, lit<, length-append}
 use Rattle.std.proofs.lemmas.List.{append_cancel_left}
 use Rattle.std.proofs.lemmas.Fmt.{decimal_injective, length-decimal-le}
 use Rattle.xs_base.specs.declared.component.Row.{Row}
 use Rattle.xs_base.specs.declared.component.Place.{Place}
 use Rattle.xs_base.specs.Layout.{amx_rows, has_row}
-use Rattle.xs_base.specs.Register.{Family, IsMember, IsRegister, xmm, families}
+use Rattle.xs_base.specs.Register.{Family, IsMember, IsRegister, xmm}
 
 -- A register's name is that of an xmm.
 pub IsMember-xmm : (rows : List Row) (name : List ℕ) (place : Place) → IsRegister rows name place → IsMember name place xmm
@@ -22,12 +22,18 @@ has_sse = refl
 -- an xmm's name is a register's
 pub IsRegister-xmm : (name : List ℕ) (index : ℕ) → index < 16 → name ≡ codes "xmm" ++ decimal index → IsRegister amx_rows name (record { comp = record { 0 = 1 }; offset = 16 * index; len = 16 })
 IsRegister-xmm name index within spelled = (
-  (0, xmm, lit< tt, refl, record {
-    index = index;
-    within = within;
-    spelled = spelled;
-    placed = ap (λ (o : ℕ). record { comp = record { 0 = 1 }; offset = o; len = 16 }) (sym (zero-add (16 * index)));
-  }),
+  (
+    0,
+    xmm,
+    lit< tt,
+    refl,
+    record {
+      index = index;
+      within = within;
+      spelled = spelled;
+      placed = ap (λ (o : ℕ). record { comp = record { 0 = 1 }; offset = o; len = 16 }) (sym (zero-add (16 * index)));
+    },
+  ),
   has_sse,
 )
 

@@ -1,5 +1,5 @@
 -- One spelling for each line, and a line has no line feed in it.
-use Rattle.std.proofs.Common.{◌≡◌, ℕ, ◌+◌, ◌<◌, ◌^◌, ◌&&◌, ◌==◌, not, Bool, true, false, List, [], ◌∷◌, ◌++◌, refl, sym, ◌∙◌, ap, arith, codes, decimal}
+use Rattle.std.proofs.Common.{◌≡◌, ℕ, ◌<◌, ◌^◌, ◌&&◌, ◌==◌, not, Bool, true, false, List, [], ◌∷◌, ◌++◌, refl, sym, ◌∙◌, ap, arith, codes, decimal}
 use Rattle.std.specs.Prelude.{if◌then◌else◌}
 use Rattle.std.proofs.lemmas.Bool.{and_parts}
 use Rattle.std.proofs.lemmas.List.{append_cancel_left}
@@ -12,10 +12,10 @@ use Rattle.xs_base.specs.Register.{IsRegister}
 use Rattle.xs_model.specs.declared.script.Named.TheVariants as machines
 use Rattle.xs_model.specs.declared.script.Command.TheVariants as commands
 use Rattle.xs_model.specs.declared.script.Command.{Command}
-use Rattle.xs_model.specs.Script.{is_name, IsCommand}
+use Rattle.xs_model.specs.Script.{IsCommand}
 use Rattle.xstate.specs.declared.script_line.ScriptLine.{ScriptLine}
 use Rattle.xstate.specs.declared.script_line.ScriptLine.TheVariants as lines
-use Rattle.xstate.specs.ScriptLine.{line_text, command_text, IsLine, machine_name}
+use Rattle.xstate.specs.ScriptLine.{line_text, command_text, IsLine}
 use Rattle.xstate.specs.Reads.{Lacks}
 use Rattle.xstate.specs.declared.line_reader.BodyLine.{BodyLine}
 use Rattle.xstate.specs.declared.line_reader.BodyLine.TheVariants.{Order as OrderLine, End as EndLine}
@@ -86,7 +86,7 @@ abbrev lacks_test : List ℕ → Bool
 lacks_test [] = true
 lacks_test (b ∷ bs) = not (b == 10) && lacks_test bs
 
-lacks_word : (bs : List ℕ) → lacks_test bs ≡ true → Lacks 10 bs
+pub lacks_word : (bs : List ℕ) → lacks_test bs ≡ true → Lacks 10 bs
 lacks_word [] h = tt
 lacks_word (b ∷ bs) h =
     let p = and_parts (not (b == 10)) (lacks_test bs) h in
@@ -111,7 +111,7 @@ Lacks-line (lines.Command (commands.Get reg)) fits =
 Lacks-line lines.End fits = lacks_word (codes "end") refl
 
 -- one number after a word
-one_number : (word : List ℕ) (m n : ℕ) → m < 2 ^ 32 → n < 2 ^ 32 → word ++ decimal m ≡ word ++ decimal n → m ≡ n
+pub one_number : (word : List ℕ) (m n : ℕ) → m < 2 ^ 32 → n < 2 ^ 32 → word ++ decimal m ≡ word ++ decimal n → m ≡ n
 one_number word m n fm fn e = decimal_injective m n (omega arith) (omega arith) (append_cancel_left word _ _ e)
 
 -- one register and bytes after a word

@@ -3,4 +3,5 @@ pub mod ScriptLine
 pub mod Reads
 pub mod Grammar
 pub mod Parts
+pub mod Refusal
 pub mod Text

@@ -2,6 +2,7 @@
 #![tactic(auto)]
 
 mod line_reader;
+mod reader;
 mod script_line;
 mod words;
 

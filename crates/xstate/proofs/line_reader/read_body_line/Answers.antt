@@ -8,6 +8,6 @@ use Rattle.xstate.proofs.line_reader.read_body_line.Goals as goal
 
 pub returns-in_err-command : goal.returns-in_err-command
 returns-in_err-command c = rw c.from_residual.ensures (λ x. elim x as (λ (y : BodyLine). IsBodyLine y → c.args.line.now ≡ body_line_text y → ⊥) [
-    | Order command ↦ λ fits e. c.in_err-command.ensures command fits e
-    | End ↦ λ fits e. not_from_Decides _ (slice_eq-Decides Decides-eqb _ _ _ c.eq.ensures) c.if-eq.false (e ∙ sym c.as_slice.ensures)
+  | Order command ↦ λ fits e. c.in_err-command.ensures command fits e
+  | End ↦ λ fits e. not_from_Decides _ (slice_eq-Decides Decides-eqb _ _ _ c.eq.ensures) c.if-eq.false (e ∙ sym c.as_slice.ensures)
 ])

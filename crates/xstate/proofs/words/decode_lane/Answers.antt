@@ -1,4 +1,4 @@
-use Rattle.std.proofs.Common.{arith, refl, rules}
+use Rattle.std.proofs.Common.{arith, refl}
 use Rattle.std.proofs.lemmas.Grind.{common_steps}
 use Rattle.xstate.proofs.Lanes.{decoded, undecoded}
 use Rattle.xstate.proofs.words.decode_lane.Goals as goal
