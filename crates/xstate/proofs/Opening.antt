@@ -46,7 +46,7 @@ fresh_place (suc n) (suc t) = fresh_place n t
 pub at_opening : (script : Script) (bank : List ℕ) → IsBuilt script → IsAtRest script bank None (fresh_tasks (length script.blocks)) []
 at_opening script bank built = record {
   run =
-    ap (λ (blocks : List BlockState). let m : Machine = record { script = script; blocks = blocks; committing = None; history = [] } in m)
+      ap (λ (blocks : List BlockState). let m : Machine = record { script = script; blocks = blocks; committing = None; history = [] } in m)
       (blocks_open script.blocks built.tasks ∙ ap (λ rows. map (opening_block rows) script.blocks) (sym (rows_amx script.machine)));
   marked = held_at_first;
   kept = λ t is. absurd (cc);

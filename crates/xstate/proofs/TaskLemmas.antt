@@ -96,10 +96,13 @@ register_root name place register = subst (λ (rows : List Row). IsRegister rows
 -- What a command does to the bank it does to the private task.
 pub bank_runs : (bank : List ℕ) (command : Command) (reply : Reply) (after : List ℕ) (place marks : ℕ) → BankRuns bank command reply after → Runs (task_with bank place marks) command reply (task_with after (place + 1) marks)
 bank_runs bank (commands.Set reg bytes) reply after place marks runs =
-    let file = written_in bank runs.0 bytes (register_sse reg runs.0 runs.1) in
-    (runs.0, register_root reg runs.0 runs.1, runs.2,
+    let file = written_in bank runs.0 bytes (register_sse reg runs.0 runs.1) in (
+      runs.0,
+      register_root reg runs.0 runs.1,
+      runs.2,
       ap (λ (x : List ℕ). task_with x (place + 1) marks) runs.3
-      ∙ ap (λ (f : File). let task : PrivateTask = record (root_task amx_rows) { file = f; place = place + 1; marks = marks } in task) (sym file))
+          ∙ ap (λ (f : File). let task : PrivateTask = record (root_task amx_rows) { file = f; place = place + 1; marks = marks } in task) (sym file),
+    )
 bank_runs bank (commands.Get reg) reply after place marks runs =
     let bytes = read_in bank runs.0 (register_sse reg runs.0 runs.1) in
     (runs.0, register_root reg runs.0 runs.1, runs.2 ∙ ap replies.Bytes (sym bytes), ap (λ (x : List ℕ). task_with x (place + 1) marks) runs.3)

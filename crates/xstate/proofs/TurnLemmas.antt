@@ -69,9 +69,9 @@ user_how last t how is = ap is_kernel is ∙ user (is_last last t)
 
 -- a Start begins a turn
 pub turn_starts : (script : Script) (bank : List ℕ) (last : Option ℕ) (tasks : List SavedTask) (history : List Event) (t : ℕ) (how : How) (after : List ℕ)
-  → IsBuilt script → IsAtRest script bank last tasks history → t < length tasks → (task_at tasks t).ended ≡ false
-  → how ≡ how_of kinds.Task (is_last last t) → after ≡ (task_at tasks t).registers
-  → IsInTurn script after (Some t) tasks (history ++ events.Start t 0 how None ∷ []) t (task_at tasks t).place 0
+    → IsBuilt script → IsAtRest script bank last tasks history → t < length tasks → (task_at tasks t).ended ≡ false
+    → how ≡ how_of kinds.Task (is_last last t) → after ≡ (task_at tasks t).registers
+    → IsInTurn script after (Some t) tasks (history ++ events.Start t 0 how None ∷ []) t (task_at tasks t).place 0
 turn_starts script bank last tasks history t how after built rest here lives how_is restored =
     let task = task_at tasks t in
     let found = lines_at script tasks t rest.known here in
@@ -123,14 +123,14 @@ task_here tasks t task here = get_or-set_same tasks t task _ here
 
 -- A place within its body stays so where one task is replaced by one within its body.
 places_with : (script : Script) (tasks : List SavedTask) (t : ℕ) (task : SavedTask) (lines : Block) → t < length tasks → slice_get script.blocks t ≡ Some lines → task.place ≤ length lines.body
-  → ((u : ℕ) (block : Block) → slice_get script.blocks u ≡ Some block → (task_at tasks u).place ≤ length block.body)
-  → (u : ℕ) (block : Block) → slice_get script.blocks u ≡ Some block → (task_at (set tasks t task) u).place ≤ length block.body
+    → ((u : ℕ) (block : Block) → slice_get script.blocks u ≡ Some block → (task_at tasks u).place ≤ length block.body)
+    → (u : ℕ) (block : Block) → slice_get script.blocks u ≡ Some block → (task_at (set tasks t task) u).place ≤ length block.body
 places_with script tasks t task lines here known within places u block at =
     elim (cases_eq u t) [
-      inl same ↦
-        let same_block : block ≡ lines = (let e : slice_get script.blocks t ≡ Some block = rw same at at in cc) in
-        let there : task_at (set tasks t task) u ≡ task = rw same (task_here tasks t task here) in
-        rw (there, same_block) within
+      | inl same ↦
+          let same_block : block ≡ lines = (let e : slice_get script.blocks t ≡ Some block = rw same at at in cc) in
+          let there : task_at (set tasks t task) u ≡ task = rw same (task_here tasks t task here) in
+          rw (there, same_block) within
       | inr other ↦ rw (get_or-set_other tasks t u task _ other) (places u block at)
     ]
 
@@ -150,33 +150,33 @@ rest_of tasks t saved turn block is =
 
 -- At rest again: the turn's task is saved from the bank.
 rest_after : (script : Script) (bank : List ℕ) (last : Option ℕ) (tasks : List SavedTask) (t : ℕ) (saved : SavedTask) (history : List Event) (lines : Block)
-  → t < length tasks → slice_get script.blocks t ≡ Some lines → length tasks ≡ length script.blocks → saved.place ≤ length lines.body → last ≡ Some t → bank ≡ saved.registers
-  → Run (opening script) history (machine_at_rest script (set tasks t saved) history)
-  → ((u : ℕ) → held history 0 u ≡ is_last last u)
-  → ((u : ℕ) (block : Block) → slice_get script.blocks u ≡ Some block → (task_at tasks u).place ≤ length block.body)
-  → IsAtRest script bank last (set tasks t saved) history
+    → t < length tasks → slice_get script.blocks t ≡ Some lines → length tasks ≡ length script.blocks → saved.place ≤ length lines.body → last ≡ Some t → bank ≡ saved.registers
+    → Run (opening script) history (machine_at_rest script (set tasks t saved) history)
+    → ((u : ℕ) → held history 0 u ≡ is_last last u)
+    → ((u : ℕ) (block : Block) → slice_get script.blocks u ≡ Some block → (task_at tasks u).place ≤ length block.body)
+    → IsAtRest script bank last (set tasks t saved) history
 rest_after script bank last tasks t saved history lines here known all within last_is kept run marked places = record {
   run = run;
   marked = marked;
   kept = λ u is.
-    let same : u ≡ t = cc in
-    let there : task_at (set tasks t saved) u ≡ saved = rw same (task_here tasks t saved here) in
-    rw there kept;
+      let same : u ≡ t = cc in
+      let there : task_at (set tasks t saved) u ≡ saved = rw same (task_here tasks t saved here) in
+      rw there kept;
   known = length-set tasks t saved ∙ all;
   places = places_with script tasks t saved lines here known within places;
 }
 
 -- A line is a step, where the machine after it is this one.
 line_step : (script : Script) (bank : List ℕ) (last : Option ℕ) (tasks : List SavedTask) (history : List Event) (t place ran : ℕ)
-  → (turn : IsInTurn script bank last tasks history t place ran)
-  → (lines : Block) (order : Order) → slice_get script.blocks t ≡ Some lines → slice_get lines.body place ≡ Some order → ran < script.quantum
-  → (reply : Reply) (after : List ℕ) → BankRuns bank order.command reply after
-  → (on : Bool) → goes_on ran script.quantum ≡ on
-  → (next : Machine)
-  → next ≡ happened (machine_in_turn script tasks history t (block_in_turn bank place turn.marks ran) turn.committing) (events.Local t order.number reply) t
-      (record { stage = if on then stages.Turn 0 (ran + 1) else stages.Ready; task = if on then task_with after (place + 1) turn.marks else parked (task_with after (place + 1) turn.marks); parent = None; pending = [] })
-      (if on then Some t else None)
-  → RunsLine (machine_in_turn script tasks history t (block_in_turn bank place turn.marks ran) turn.committing) t order.number reply next
+    → (turn : IsInTurn script bank last tasks history t place ran)
+    → (lines : Block) (order : Order) → slice_get script.blocks t ≡ Some lines → slice_get lines.body place ≡ Some order → ran < script.quantum
+    → (reply : Reply) (after : List ℕ) → BankRuns bank order.command reply after
+    → (on : Bool) → goes_on ran script.quantum ≡ on
+    → (next : Machine)
+    → next ≡ happened (machine_in_turn script tasks history t (block_in_turn bank place turn.marks ran) turn.committing) (events.Local t order.number reply) t
+    (record { stage = if on then stages.Turn 0 (ran + 1) else stages.Ready; task = if on then task_with after (place + 1) turn.marks else parked (task_with after (place + 1) turn.marks); parent = None; pending = [] })
+    (if on then Some t else None)
+    → RunsLine (machine_in_turn script tasks history t (block_in_turn bank place turn.marks ran) turn.committing) t order.number reply next
 line_step script bank last tasks history t place ran turn lines order known at within reply after runs on is next next_is = record {
   block = block_in_turn bank place turn.marks ran;
   lines = lines;
@@ -199,56 +199,59 @@ line_step script bank last tasks history t place ran turn lines order known at w
 
 -- A line of the turn's task, whose quantum goes on or is used up.
 line_by : (script : Script) (bank : List ℕ) (last : Option ℕ) (tasks : List SavedTask) (history : List Event) (t place ran : ℕ)
-  → IsInTurn script bank last tasks history t place ran
-  → (lines : Block) (order : Order) → slice_get script.blocks t ≡ Some lines → slice_get lines.body place ≡ Some order → ran < script.quantum
-  → (reply : Reply) (after : List ℕ) → BankRuns bank order.command reply after
-  → (on : Bool) → goes_on ran script.quantum ≡ on
-  → AfterLine script after last tasks (history ++ events.Local t order.number reply ∷ []) t (place + 1) ran (if on then stages.Turn 0 (ran + 1) else stages.Ready)
+    → IsInTurn script bank last tasks history t place ran
+    → (lines : Block) (order : Order) → slice_get script.blocks t ≡ Some lines → slice_get lines.body place ≡ Some order → ran < script.quantum
+    → (reply : Reply) (after : List ℕ) → BankRuns bank order.command reply after
+    → (on : Bool) → goes_on ran script.quantum ≡ on
+    → AfterLine script after last tasks (history ++ events.Local t order.number reply ∷ []) t (place + 1) ran (if on then stages.Turn 0 (ran + 1) else stages.Ready)
 line_by script bank last tasks history t place ran turn lines order known at within reply after runs true is =
     let before = machine_in_turn script tasks history t (block_in_turn bank place turn.marks ran) turn.committing in
     let event = events.Local t order.number reply in
     let next = machine_in_turn script tasks (history ++ event ∷ []) t (block_in_turn after (place + 1) turn.marks (ran + 1)) (Some t) in
     let step = line_step script bank last tasks history t place ran turn lines order known at within reply after runs true is next
-      (ap (λ (blocks : List BlockState). let m : Machine = record { script = script; blocks = blocks; committing = Some t; history = history ++ event ∷ [] } in m)
-        (sym (set-set (map block_at_rest tasks) t (block_in_turn bank place turn.marks ran) (block_in_turn after (place + 1) turn.marks (ran + 1))))) in
-    (refl, goes_on_below ran script.quantum is, record {
-      marks = turn.marks;
-      committing = Some t;
-      run = Run-more (opening script) history before event next turn.run step;
-      acts = eq-eqb t t refl;
-      last_is = turn.last_is;
-      marked = λ u. held_after_local u t order.number reply history ∙ turn.marked u;
-      known = turn.known;
-      here = turn.here;
-      places = turn.places;
-    })
+    (ap (λ (blocks : List BlockState). let m : Machine = record { script = script; blocks = blocks; committing = Some t; history = history ++ event ∷ [] } in m)
+    (sym (set-set (map block_at_rest tasks) t (block_in_turn bank place turn.marks ran) (block_in_turn after (place + 1) turn.marks (ran + 1))))) in (
+      refl,
+      goes_on_below ran script.quantum is,
+      record {
+        marks = turn.marks;
+        committing = Some t;
+        run = Run-more (opening script) history before event next turn.run step;
+        acts = eq-eqb t t refl;
+        last_is = turn.last_is;
+        marked = λ u. held_after_local u t order.number reply history ∙ turn.marked u;
+        known = turn.known;
+        here = turn.here;
+        places = turn.places;
+      },
+    )
 line_by script bank last tasks history t place ran turn lines order known at within reply after runs false is =
     let before = machine_in_turn script tasks history t (block_in_turn bank place turn.marks ran) turn.committing in
     let event = events.Local t order.number reply in
     let saved : SavedTask = record { registers = after; place = place + 1; ended = false } in
     let next = machine_at_rest script (set tasks t saved) (history ++ event ∷ []) in
     let step = line_step script bank last tasks history t place ran turn lines order known at within reply after runs false is next
-      (ap (λ (blocks : List BlockState). let m : Machine = record { script = script; blocks = blocks; committing = None; history = history ++ event ∷ [] } in m)
-        (rest_of tasks t saved (block_in_turn bank place turn.marks ran) _ (block_rests after (place + 1) turn.marks false))) in
+    (ap (λ (blocks : List BlockState). let m : Machine = record { script = script; blocks = blocks; committing = None; history = history ++ event ∷ [] } in m)
+    (rest_of tasks t saved (block_in_turn bank place turn.marks ran) _ (block_rests after (place + 1) turn.marks false))) in
     rest_after script after last tasks t saved (history ++ event ∷ []) lines turn.here known turn.known
-      (let inside = slice_get_within lines.body place order at in omega arith) turn.last_is refl
-      (Run-more (opening script) history before event next turn.run step)
-      (λ u. held_after_local u t order.number reply history ∙ turn.marked u) turn.places
+    (let inside = slice_get_within lines.body place order at in omega arith) turn.last_is refl
+    (Run-more (opening script) history before event next turn.run step)
+    (λ u. held_after_local u t order.number reply history ∙ turn.marked u) turn.places
 
 -- a line of the turn's task
 pub turn_line : (script : Script) (bank : List ℕ) (last : Option ℕ) (tasks : List SavedTask) (history : List Event) (t place ran : ℕ)
-  → IsInTurn script bank last tasks history t place ran
-  → (lines : Block) (order : Order) → slice_get script.blocks t ≡ Some lines → slice_get lines.body place ≡ Some order → ran < script.quantum
-  → (reply : Reply) (after : List ℕ) → BankRuns bank order.command reply after
-  → AfterLine script after last tasks (history ++ events.Local t order.number reply ∷ []) t (place + 1) ran (stage_after 0 ran script.quantum)
+    → IsInTurn script bank last tasks history t place ran
+    → (lines : Block) (order : Order) → slice_get script.blocks t ≡ Some lines → slice_get lines.body place ≡ Some order → ran < script.quantum
+    → (reply : Reply) (after : List ℕ) → BankRuns bank order.command reply after
+    → AfterLine script after last tasks (history ++ events.Local t order.number reply ∷ []) t (place + 1) ran (stage_after 0 ran script.quantum)
 turn_line script bank last tasks history t place ran turn lines order known at within reply after runs =
     line_by script bank last tasks history t place ran turn lines order known at within reply after runs (goes_on ran script.quantum) refl
 
 -- the end of the turn's task
 pub turn_ends : (script : Script) (bank : List ℕ) (last : Option ℕ) (tasks : List SavedTask) (history : List Event) (t place ran : ℕ)
-  → IsInTurn script bank last tasks history t place ran
-  → (lines : Block) → slice_get script.blocks t ≡ Some lines → place ≡ length lines.body → ran < script.quantum
-  → IsAtRest script bank last (with_task tasks t bank place true) (history ++ events.End t ∷ [])
+    → IsInTurn script bank last tasks history t place ran
+    → (lines : Block) → slice_get script.blocks t ≡ Some lines → place ≡ length lines.body → ran < script.quantum
+    → IsAtRest script bank last (with_task tasks t bank place true) (history ++ events.End t ∷ [])
 turn_ends script bank last tasks history t place ran turn lines known at_end within =
     let before = machine_in_turn script tasks history t (block_in_turn bank place turn.marks ran) turn.committing in
     let event = events.End t in
@@ -267,11 +270,11 @@ turn_ends script bank last tasks history t place ran turn lines known at_end wit
       at_end = at_end;
       outside = root_handling amx_rows;
       next = ap (λ (blocks : List BlockState). let m : Machine = record { script = script; blocks = blocks; committing = None; history = history ++ event ∷ [] } in m)
-        (rest_of tasks t saved (block_in_turn bank place turn.marks ran) _ (block_rests bank place turn.marks true));
+          (rest_of tasks t saved (block_in_turn bank place turn.marks ran) _ (block_rests bank place turn.marks true));
     } in
     rest_after script bank last tasks t saved (history ++ event ∷ []) lines turn.here known turn.known (omega arith) turn.last_is refl
-      (Run-more (opening script) history before event next turn.run step)
-      (λ u. held_after_end u t history ∙ turn.marked u) turn.places
+    (Run-more (opening script) history before event next turn.run step)
+    (λ u. held_after_end u t history ∙ turn.marked u) turn.places
 
 -- the line at a place of a body that is there
 body_found_in : (block : Option Block) (place : ℕ) (order : Order) → place < length (body_of block) → order ≡ get_or (body_of block) place order → (lines : Block) × (block ≡ Some lines) × (slice_get lines.body place ≡ Some order)
@@ -290,8 +293,8 @@ turn_lines script tasks t known here =
 
 -- where the lines of a turn came to the end of the body, its task ends
 pub leaves : (script : Script) (bank : List ℕ) (last : Option ℕ) (tasks : List SavedTask) (history : List Event) (t from place : ℕ) (over : Bool) → over ≡ false
-  → AfterLines script bank last tasks history t from place over
-  → IsAtRest script bank last (with_task tasks t bank place true) (history ++ events.End t ∷ [])
+    → AfterLines script bank last tasks history t from place over
+    → IsAtRest script bank last (with_task tasks t bank place true) (history ++ events.End t ∷ [])
 leaves script bank last tasks history t from place over is after =
     let open_turn = subst (λ (b : Bool). AfterLines script bank last tasks history t from place b) is after in
     let lines = turn_lines script tasks t open_turn.1.known open_turn.1.here in

@@ -29,9 +29,9 @@ work_living : (lines : ℕ) (task : SavedTask) → task.ended ≡ false → work
 work_living lines task lives = ap (λ (ended : Bool). if ended then 0 else (lines - task.place) + 1) lives
 
 turn_less : (script : Script) (bank : List ℕ) (last : Option ℕ) (during : List SavedTask) (history : List Event) (tasks : List SavedTask) (t from place : ℕ) (registers : List ℕ) (over : Bool) (lines : ℕ)
-  → lines ≡ length (body_at script t) → (task_at tasks t).ended ≡ false → (task_at tasks t).place ≡ from
-  → AfterLines script bank last during history t from place over
-  → work_of lines (record { registers = registers; place = place; ended = not over }) < work_of lines (task_at tasks t)
+    → lines ≡ length (body_at script t) → (task_at tasks t).ended ≡ false → (task_at tasks t).place ≡ from
+    → AfterLines script bank last during history t from place over
+    → work_of lines (record { registers = registers; place = place; ended = not over }) < work_of lines (task_at tasks t)
 turn_less script bank last during history tasks t from place registers true lines is alive begins after =
     omega (arith, work_living lines (task_at tasks t) alive, after.1, after.2)
 turn_less script bank last during history tasks t from place registers false lines is alive begins after =
@@ -39,13 +39,13 @@ turn_less script bank last during history tasks t from place registers false lin
 
 -- a turn leaves less to do
 pub turn_falls : (script : Script) (bank : List ℕ) (last : Option ℕ) (during : List SavedTask) (history : List Event) (tasks : List SavedTask) (t from place : ℕ) (registers : List ℕ) (over : Bool)
-  → length tasks ≡ length script.blocks → t < length tasks → (task_at tasks t).ended ≡ false → (task_at tasks t).place ≡ from
-  → AfterLines script bank last during history t from place over
-  → work script.blocks (with_task tasks t registers place (not over)) < work script.blocks tasks
+    → length tasks ≡ length script.blocks → t < length tasks → (task_at tasks t).ended ≡ false → (task_at tasks t).place ≡ from
+    → AfterLines script bank last during history t from place over
+    → work script.blocks (with_task tasks t registers place (not over)) < work script.blocks tasks
 turn_falls script bank last during history tasks t from place registers over known here alive begins after =
     let lines = turn_lines script tasks t known here in
     work_set script.blocks tasks t lines.0 _ lines.1 here
-      (turn_less script bank last during history tasks t from place registers over (length lines.0.body) (ap length lines.2) alive begins after)
+    (turn_less script bank last during history tasks t from place registers over (length lines.0.body) (ap length lines.2) alive begins after)
 
 -- a block whose task has ended doesn't live
 gone : (task : SavedTask) (rest : Bool) → task.ended ≡ true → rest ≡ false → (lives (if task.ended then stages.Ended else stages.Ready) || rest) ≡ false

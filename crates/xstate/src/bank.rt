@@ -6,7 +6,7 @@ ghost use Rattle.xs_base.specs.Layout.{amx_rows};
 ghost use Rattle.xs_model.specs.Script.{IsCommand};
 ghost use Rattle.xstate.specs.Engine.{BankRuns};
 
-use crate::words::place_of;
+use crate::register::place_of;
 use xs_base::{Lane, Place};
 use xs_model::{Command, Reply};
 

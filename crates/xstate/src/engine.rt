@@ -29,7 +29,6 @@ struct Pause {
     over: bool,
 }
 
-
 /// Runs a script of one processor, and answers its whole history.
 pub fn run(alloc: Global, script: &Script) -> Result<History, AllocError>
     requires valid { IsValid script.now }
@@ -149,12 +148,7 @@ impl Engine {
     }
 
     /// Runs the lines of a turn from a place on, until the quantum is used up or the body ends.
-    fn run_lines(
-        &mut self,
-        script: &Script,
-        task: u32,
-        from: usize,
-    ) -> Result<Pause, AllocError>
+    fn run_lines(&mut self, script: &Script, task: u32, from: usize) -> Result<Pause, AllocError>
         requires valid { IsValid script.now }
         requires turn { IsInTurn script.now self.old.bank.registers self.old.last self.old.tasks.items self.old.history task from 0 }
         requires start { from ≤ length (body_at script.now task) }
@@ -180,7 +174,13 @@ impl Engine {
     }
 
     /// Saves the task whose lines ran, and ends it where its body has ended.
-    fn leave(&mut self, script: &Script, task: u32, from: usize, pause: Pause) -> Result<(), AllocError>
+    fn leave(
+        &mut self,
+        script: &Script,
+        task: u32,
+        from: usize,
+        pause: Pause,
+    ) -> Result<(), AllocError>
         requires here { task < vec_len self.old.tasks }
         requires after { AfterLines script.now self.old.bank.registers self.old.last self.old.tasks.items self.old.history task from pause.place pause.over }
         ensures rest { OnOk result (IsAtRest script.now self.new.bank.registers self.new.last self.new.tasks.items self.new.history) }

@@ -10,5 +10,5 @@ returns-clause-turn c =
     let history = ap (λ (engine : Engine). engine.history) c.restore-how.ensures.others in
     let here : c.args.task < length before.tasks.items = omega (arith, before.tasks.ok.0, c.requires.here) in
     rw (c.in_ok-push.ensures.ok, history, tasks)
-      (turn_starts c.args.script.now before.bank.registers before.last before.tasks.items before.history c.args.task c.restore-how.result
-        c.restore-how.new.self.bank.registers c.requires.built c.requires.rest here c.requires.lives c.restore-how.ensures.how c.restore-how.ensures.bank)
+    (turn_starts c.args.script.now before.bank.registers before.last before.tasks.items before.history c.args.task c.restore-how.result
+    c.restore-how.new.self.bank.registers c.requires.built c.requires.rest here c.requires.lives c.restore-how.ensures.how c.restore-how.ensures.bank)

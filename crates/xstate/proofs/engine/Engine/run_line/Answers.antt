@@ -8,5 +8,5 @@ returns-clause-after c =
     let script = c.args.script.now in
     let found = body_found script c.args.task c.args.place c.index-lines_of-place.result c.requires.line (rw (← c.lines_of.ensures) c.index-lines_of-place.is) in
     rw (c.after_line.ensures, c.in_ok-push.ensures.ok)
-      (turn_line script before.bank.registers before.last before.tasks.items before.history c.args.task c.args.place c.args.ran
-        c.requires.turn found.0 c.index-lines_of-place.result found.1 found.2 c.requires.within c.run-reply.result c.run-reply.new.self.registers c.run-reply.ensures)
+    (turn_line script before.bank.registers before.last before.tasks.items before.history c.args.task c.args.place c.args.ran
+    c.requires.turn found.0 c.index-lines_of-place.result found.1 found.2 c.requires.within c.run-reply.result c.run-reply.new.self.registers c.run-reply.ensures)

@@ -12,6 +12,6 @@ returns-clause-progress c =
     let entry : c.index.result.now ≡ task_at before.tasks.items c.args.task = get_or_read before.tasks.items c.args.task c.index.result.now here c.index.ensures _ in
     let begins = ap (λ (task : SavedTask). task.place) (sym entry) ∙ sym c.place-from.ensures in
     rw (c.in_ok-leave.ensures.tasks, c.in_ok-pause.ensures.tasks, c.in_ok-begin.ensures.tasks)
-      (turn_falls script c.run_lines.new.self.bank.registers c.run_lines.new.self.last c.run_lines.new.self.tasks.items c.run_lines.new.self.history
-        before.tasks.items c.args.task c.place-from.result c.in_ok-pause.pause.place c.run_lines.new.self.bank.registers c.in_ok-pause.pause.over
-        c.requires.rest.known here c.requires.next.1 begins c.in_ok-pause.ensures.after)
+    (turn_falls script c.run_lines.new.self.bank.registers c.run_lines.new.self.last c.run_lines.new.self.tasks.items c.run_lines.new.self.history
+    before.tasks.items c.args.task c.place-from.result c.in_ok-pause.pause.place c.run_lines.new.self.bank.registers c.in_ok-pause.pause.over
+    c.requires.rest.known here c.requires.next.1 begins c.in_ok-pause.ensures.after)

@@ -1,0 +1,10 @@
+use Rattle.xstate.specs.Parts.{task_text, IsTask}
+use Rattle.xstate.proofs.Readings.{no_line, other_line}
+use Rattle.xstate.proofs.Spellings.{Lacks-task}
+use Rattle.xstate.proofs.line_reader.next_task.Goals as goal
+
+pub returns-in_err-line-clause-line : goal.returns-in_err-line-clause-line
+returns-in_err-line-clause-line c = rw c.from_residual.ensures (no_line task_text IsTask c.args.text.now c.in_err-line.ensures)
+
+pub returns-in_err-name-clause-line : goal.returns-in_err-name-clause-line
+returns-in_err-name-clause-line c = rw c.from_residual-in_err-name.ensures (other_line task_text IsTask Lacks-task c.args.text.now c.in_ok-line.line.now c.in_ok-line.rest.now c.in_ok-line.ensures.0 c.in_ok-line.ensures.1 c.in_err-name.ensures)
