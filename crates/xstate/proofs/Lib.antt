@@ -1,5 +1,6 @@
 -- Lemmas on texts.
 pub mod SpacedWords
+pub mod EventWords
 pub mod OneSpelling
 pub mod KnownBytes
 pub mod HistoryFront
