@@ -10,6 +10,7 @@ pub mod EngineLoops
 pub mod WorkLemmas
 -- Lemmas of the texts, one file a noun.
 pub mod SpacedWords
+pub mod EventWords
 pub mod OneSpelling
 pub mod KnownBytes
 pub mod HistoryFront

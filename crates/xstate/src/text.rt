@@ -29,7 +29,6 @@ pub fn write_event(script: &Script, event: &Event, out: &mut EventLine)
     requires { task_of event.now < length script.now.blocks }
     ensures { out.new.items ≡ event_line script.now event.now ++ 10 ∷ [] }
 {
-    out.clear();
     match event {
         Event::Start {
             task,
@@ -37,38 +36,28 @@ pub fn write_event(script: &Script, event: &Event, out: &mut EventLine)
             how,
             signal,
         } => {
-            put(out, b"start");
-            put_word(out, name_of(script, *task));
+            begin(out, b"start", name_of(script, *task));
             put_number(out, *cpu);
             put_word(out, how_word(*how));
             put_signal(out, *signal);
         }
         Event::Local { task, line, reply } => {
-            put(out, b"local");
-            put_word(out, name_of(script, *task));
+            begin(out, b"local", name_of(script, *task));
             put_number(out, *line);
             put_reply(out, reply);
         }
         Event::Outer { task, line, reply } => {
-            put(out, b"outer");
-            put_word(out, name_of(script, *task));
+            begin(out, b"outer", name_of(script, *task));
             put_number(out, *line);
             put_reply(out, reply);
         }
-        Event::Grow { task } => {
-            put(out, b"grow");
-            put_word(out, name_of(script, *task));
-        }
+        Event::Grow { task } => begin(out, b"grow", name_of(script, *task)),
         Event::Kill { task, signo, why } => {
-            put(out, b"kill");
-            put_word(out, name_of(script, *task));
+            begin(out, b"kill", name_of(script, *task));
             put_number(out, u32::from(signo.0));
             put_word(out, cause_word(*why));
         }
-        Event::End { task } => {
-            put(out, b"end");
-            put_word(out, name_of(script, *task));
-        }
+        Event::End { task } => begin(out, b"end", name_of(script, *task)),
     }
     out.push(b'\n');
 }
@@ -114,6 +103,17 @@ fn put(out: &mut EventLine, bytes: &[u8])
     ensures len { array_vec_len out.new ≡ array_vec_len out.old + length bytes.now }
 {
     let _ = out.try_extend_from_slice(bytes);
+}
+
+/// Replaces `out` by the first word of a line, a space and the task's name.
+fn begin(out: &mut EventLine, word: &[u8], name: &[u8])
+    requires { length word.now + length name.now < 192 }
+    ensures items { out.new.items ≡ word.now ++ 32 ∷ name.now }
+    ensures len { array_vec_len out.new ≡ length word.now + (1 + length name.now) }
+{
+    out.clear();
+    put(out, word);
+    put_word(out, name);
 }
 
 /// Appends a space and the word.
