@@ -3,6 +3,7 @@ use Rattle.std.specs.Prelude.{◌≡◌, Bool, true, false, List, [], ◌∷◌}
 use Rattle.std.specs.List.{list_any}
 use Rattle.xs_model.specs.declared.script.Script.{Script}
 use Rattle.xs_model.specs.declared.event.Event.{Event}
+use Rattle.xs_model.specs.declared.event.Event.TheVariants as events
 use Rattle.xs_model.specs.declared.stage.Stage.{Stage}
 use Rattle.xs_model.specs.declared.stage.Stage.TheVariants.{Unborn, Ready, Turn, Stopped, Waiting, Ended}
 use Rattle.xs_model.specs.Machine.{Machine, BlockState, Step, opening}
@@ -30,3 +31,15 @@ pub record IsWhole (script : Script) (history : List Event) : Type 0 where
   pub machine : Machine
   pub legal : Run (opening script) history machine
   pub ended : list_any (λ (block : BlockState). lives block.stage) machine.blocks ≡ false
+
+-- The history has a Kill.
+abbrev pub is_kill : Event → Bool
+is_kill (events.Start t cpu how signal) = false
+is_kill (events.Local t line reply) = false
+is_kill (events.Outer t line reply) = false
+is_kill (events.Grow t) = false
+is_kill (events.Kill t signo why) = true
+is_kill (events.End t) = false
+
+abbrev pub has_kill : List Event → Bool
+has_kill history = list_any is_kill history

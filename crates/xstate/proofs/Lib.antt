@@ -25,3 +25,6 @@ pub mod Bodies
 pub mod Blocks
 pub mod Heads
 pub mod Scripts
+-- Lemmas of the top call.
+pub mod AnswerLemmas
+pub mod CommandWords

@@ -7,3 +7,6 @@ pub mod Refusal
 pub mod Text
 pub mod Engine
 pub mod Writing
+pub mod Answers
+pub mod Headline
+pub mod Statuses

@@ -1,0 +1,92 @@
+-- What `xstate` answers: which command lines it takes, which inputs it accepts, and what it writes for them. All of it
+-- is this project's own.
+use Rattle.std.specs.Prelude.{◌≡◌, ℕ, ◌+◌, ◌≤◌, Bool, false, List, [], ◌∷◌, ◌++◌, length, codes, Option, Some, None, ⊤, ◌⊎◌}
+use Rattle.std.specs.Io.KnownBytes.{Appends, Consumes, IsAtEnd}
+use Rattle.xs_io.specs.Causes.{Rose}
+use Rattle.xs_model.specs.declared.script.Script.{Script}
+use Rattle.xs_model.specs.declared.event.Event.{Event}
+use Rattle.xs_model.specs.History.{IsWhole, has_kill}
+use Rattle.xstate.specs.declared.status.Status.{Status}
+use Rattle.xstate.specs.declared.status.Status.TheVariants as statuses
+use Rattle.xstate.specs.Grammar.{Spells}
+use Rattle.xstate.specs.Text.{history_text}
+use Rattle.xstate.specs.Writing.{AppendsFront}
+
+-- the one command line of this version, without the program's name
+abbrev pub IsRun : List (List ℕ) → Type 0
+IsRun words = words ≡ codes "run" ∷ []
+
+abbrev pub usage_text : List ℕ
+usage_text = codes "usage: xstate run [--tasks] | replay | check | gen N | demo N" ++ 10 ∷ []
+
+abbrev pub refused_text : List ℕ
+refused_text = codes "refused 0 not-built" ++ 10 ∷ []
+
+-- the most bytes of a script
+abbrev pub limit : ℕ
+limit = 1048576
+
+-- The input is the text of this script, and no longer than a script may be.
+pub record IsAccepted (input : List ℕ) (script : Script) : Type 0 where
+  pub short : length input ≤ limit
+  pub spelled : Spells input script
+
+abbrev pub IsRefused : List ℕ → Type 0
+IsRefused input = (script : Script) → IsAccepted input script → ⊥
+
+-- The input is a script, and the text is that of a whole history of it, without a Kill.
+pub record RunsTo (input text : List ℕ) : Type 0 where
+  pub script : Script
+  pub accepted : IsAccepted input script
+  pub history : List Event
+  pub whole : IsWhole script history
+  pub unkilled : has_kill history ≡ false
+  pub written : text ≡ history_text script history
+
+-- the right output for an input
+abbrev pub IsOutput : List ℕ → List ℕ → Type 0
+IsOutput input text = RunsTo input text ⊎ (IsRefused input × (text ≡ refused_text))
+
+-- The input was read: to its end, or where it is longer than a script may be until one byte more was taken.
+pub record IsRead (left left' : Option (List ℕ)) (input : List ℕ) : Type 0 where
+  pub taken : Consumes left left' input
+  pub most : length input ≤ limit + 1
+  pub whole : length input ≤ limit → IsAtEnd left'
+
+-- How the answer to an input ends, by the status: what was written, and the count of the sink's faults.
+abbrev pub AnswerEnds : List ℕ → Option (List ℕ) → Option (List ℕ) → ℕ → ℕ → Status → Type 0
+AnswerEnds input written written' faults faults' statuses.Done = (text : List ℕ) × RunsTo input text × Appends written written' text
+AnswerEnds input written written' faults faults' statuses.Refused = IsRefused input × Appends written written' refused_text
+AnswerEnds input written written' faults faults' statuses.ReadFault = ⊥
+AnswerEnds input written written' faults faults' statuses.WriteFault = Rose faults faults' × (text : List ℕ) × IsOutput input text × AppendsFront written written' text
+AnswerEnds input written written' faults faults' statuses.NoMemory = written' ≡ written
+AnswerEnds input written written' faults faults' statuses.Usage = ⊥
+
+-- How a text that is told in place of a history ends.
+abbrev pub TellEnds : Status → List ℕ → Option (List ℕ) → Option (List ℕ) → ℕ → ℕ → Status → Type 0
+TellEnds status text written written' faults faults' result =
+    ((result ≡ status) × Appends written written' text) ⊎ ((result ≡ statuses.WriteFault) × Rose faults faults' × AppendsFront written written' text)
+
+-- How `run` ends.
+abbrev pub RunEnds : Option (List ℕ) → Option (List ℕ) → ℕ → ℕ → Option (List ℕ) → Option (List ℕ) → ℕ → ℕ → Status → Type 0
+RunEnds left left' reads reads' written written' writes writes' statuses.Done = (input : List ℕ) × IsRead left left' input × AnswerEnds input written written' writes writes' statuses.Done
+RunEnds left left' reads reads' written written' writes writes' statuses.Refused = (input : List ℕ) × IsRead left left' input × AnswerEnds input written written' writes writes' statuses.Refused
+RunEnds left left' reads reads' written written' writes writes' statuses.ReadFault = Rose reads reads' × (written' ≡ written)
+RunEnds left left' reads reads' written written' writes writes' statuses.WriteFault = (input : List ℕ) × IsRead left left' input × AnswerEnds input written written' writes writes' statuses.WriteFault
+RunEnds left left' reads reads' written written' writes writes' statuses.NoMemory = written' ≡ written
+RunEnds left left' reads reads' written written' writes writes' statuses.Usage = ⊥
+
+-- How the run of a script ends.
+abbrev pub WriteEnds : Script → Option (List ℕ) → Option (List ℕ) → ℕ → ℕ → Status → Type 0
+WriteEnds script written written' faults faults' statuses.Done = (history : List Event) × IsWhole script history × Appends written written' (history_text script history)
+WriteEnds script written written' faults faults' statuses.Refused = ⊥
+WriteEnds script written written' faults faults' statuses.ReadFault = ⊥
+WriteEnds script written written' faults faults' statuses.WriteFault = Rose faults faults' × (history : List Event) × IsWhole script history × AppendsFront written written' (history_text script history)
+WriteEnds script written written' faults faults' statuses.NoMemory = written' ≡ written
+WriteEnds script written written' faults faults' statuses.Usage = ⊥
+
+-- What was written is a front of what the words and the input ask for.
+abbrev pub IsFront : List (List ℕ) → Option (List ℕ) → Option (List ℕ) → Option (List ℕ) → Option (List ℕ) → Type 0
+IsFront words left left' written written' =
+    ((IsRun words → ⊥) × AppendsFront written written' usage_text)
+    ⊎ (IsRun words × (input text : List ℕ) × IsRead left left' input × IsOutput input text × AppendsFront written written' text)

@@ -1,0 +1,135 @@
+//! The top call: all that the program does, over any source and sink.
+
+ghost use Rattle.std.specs.Prelude.{◌≡◌, ℕ, List, ◌⊎◌, ◌↔◌, map, string_bytes, IsTrue, Some};
+ghost use Rattle.std.specs.Io.KnownBytes.{Appends};
+ghost use Rattle.xs_io.specs.Causes.{Rose};
+ghost use Rattle.xs_model.specs.Script.{IsValid, IsBuilt};
+ghost use Rattle.xstate.specs.Answers.{IsRun, AnswerEnds, TellEnds, RunEnds, WriteEnds, IsFront, usage_text};
+ghost use Rattle.xstate.specs.Headline.{Headline, Refusal, Judges};
+ghost use Rattle.xstate.specs.Text.{AreTasksKnown, history_text};
+
+use crate::engine::run;
+use crate::reader::{ScriptError, read_script};
+use crate::reading::{ReadError, read_up_to};
+use crate::status::Status;
+use crate::text::write_history;
+use crate::writing::write_all;
+use std::alloc::Global;
+use xs_io::{Sink, Source};
+use xs_model::{Event, Script};
+
+/// The most bytes of a script.
+const LIMIT: usize = 1048576;
+
+/// The line that answers other words than a command.
+const USAGE: &[u8] = b"usage: xstate run [--tasks] | replay | check | gen N | demo N\n";
+
+/// The line that answers what is no script of this version.
+const REFUSED: &[u8] = b"refused 0 not-built\n";
+
+/// Does what the words of the command line ask: `run` reads a script from the source and writes its history to the
+/// sink. `words` is the command line without the program's name.
+pub fn top<S: Source, K: Sink>(
+    alloc: Global,
+    words: &[String],
+    source: &mut S,
+    sink: &mut K,
+) -> Status
+    // 64: the words are no command, and the usage line was written. Nothing was read.
+    ensures usage { result ≡ Status.Usage → (IsRun (map string_bytes words.now) → ⊥)
+        × Appends (K.written sink.old) (K.written sink.new) usage_text × (S.left source.new ≡ S.left source.old) }
+    // Other words than a command answer nothing else, but that the usage line was not written.
+    ensures no_command { (IsRun (map string_bytes words.now) → ⊥) → (result ≡ Status.Usage) ⊎ (result ≡ Status.WriteFault) }
+    // 0: what was written is the text of a whole history of the script that was read.
+    ensures headline { result ≡ Status.Done → IsRun (map string_bytes words.now)
+        × Headline (S.left source.old) (S.left source.new) (K.written sink.old) (K.written sink.new) }
+    // 2: what was read is no script of this version, and one line says so.
+    ensures refused { result ≡ Status.Refused → IsRun (map string_bytes words.now)
+        × Refusal (S.left source.old) (S.left source.new) (K.written sink.old) (K.written sink.new) }
+    // A known input is never refused where it is a script, and never run where it is none.
+    ensures exactly { (input : List ℕ) → S.left source.old ≡ Some input → IsRun (map string_bytes words.now) → Judges input result }
+    // 4: only where the source failed in this call, and nothing was written.
+    ensures read_fault { result ≡ Status.ReadFault → Rose (S.fault_count source.old) (S.fault_count source.new)
+        × (K.written sink.new ≡ K.written sink.old) }
+    // 5: only where the sink failed in this call.
+    ensures write_fault { result ≡ Status.WriteFault → Rose (K.fault_count sink.old) (K.fault_count sink.new) }
+    // What was written before a write failed is a front of the right output.
+    ensures front { result ≡ Status.WriteFault → IsFront (map string_bytes words.now) (S.left source.old) (S.left source.new) (K.written sink.old) (K.written sink.new) }
+    // 6: there was no memory, and nothing was written.
+    ensures no_memory { result ≡ Status.NoMemory → IsRun (map string_bytes words.now) × (K.written sink.new ≡ K.written sink.old) }
+{
+    if is_run(words) {
+        run_command(alloc, source, sink)
+    } else {
+        tell(sink, USAGE, Status::Usage)
+    }
+}
+
+/// Whether the words are the command `run`.
+fn is_run(words: &[String]) -> bool
+    ensures { IsTrue result ↔ IsRun (map string_bytes words.now) }
+{
+    match words {
+        [word] => word.as_bytes() == b"run".as_slice(),
+        _ => false,
+    }
+}
+
+/// Reads a script and writes its history.
+fn run_command<S: Source, K: Sink>(alloc: Global, source: &mut S, sink: &mut K) -> Status
+    ensures { RunEnds (S.left source.old) (S.left source.new) (S.fault_count source.old) (S.fault_count source.new)
+        (K.written sink.old) (K.written sink.new) (K.fault_count sink.old) (K.fault_count sink.new) result }
+{
+    match read_up_to(alloc, LIMIT, source) {
+        Ok(input) => answer(alloc, input.as_slice(), sink),
+        Err(ReadError::Fault) => Status::ReadFault,
+        Err(ReadError::Memory) => Status::NoMemory,
+    }
+}
+
+/// Answers an input: with its history, or with one line where it is no script of this version.
+fn answer<K: Sink>(alloc: Global, input: &[u8], sink: &mut K) -> Status
+    ensures { AnswerEnds input.now (K.written sink.old) (K.written sink.new) (K.fault_count sink.old) (K.fault_count sink.new) result }
+{
+    if input.len() > LIMIT {
+        return tell(sink, REFUSED, Status::Refused);
+    }
+    match read_script(alloc, input) {
+        Ok(script) => write_run(alloc, &script, sink),
+        Err(ScriptError::NotBuilt) => tell(sink, REFUSED, Status::Refused),
+        Err(ScriptError::Memory) => Status::NoMemory,
+    }
+}
+
+/// Runs a script and writes its history.
+fn write_run<K: Sink>(alloc: Global, script: &Script, sink: &mut K) -> Status
+    requires valid { IsValid script.now }
+    requires built { IsBuilt script.now }
+    ensures { WriteEnds script.now (K.written sink.old) (K.written sink.new) (K.fault_count sink.old) (K.fault_count sink.new) result }
+{
+    match run(alloc, script) {
+        Ok(history) => tell_history(script, history.events(), sink),
+        Err(_) => Status::NoMemory,
+    }
+}
+
+/// Writes a history.
+fn tell_history<K: Sink>(script: &Script, history: &[Event], sink: &mut K) -> Status
+    requires { AreTasksKnown script.now history.now }
+    ensures { TellEnds Status.Done (history_text script.now history.now) (K.written sink.old) (K.written sink.new) (K.fault_count sink.old) (K.fault_count sink.new) result }
+{
+    match write_history(script, history, sink) {
+        Ok(()) => Status::Done,
+        Err(_) => Status::WriteFault,
+    }
+}
+
+/// Writes a text in place of a history, and answers its status.
+fn tell<K: Sink>(sink: &mut K, text: &[u8], status: Status) -> Status
+    ensures { TellEnds status text.now (K.written sink.old) (K.written sink.new) (K.fault_count sink.old) (K.fault_count sink.new) result }
+{
+    match write_all(sink, text) {
+        Ok(()) => status,
+        Err(_) => Status::WriteFault,
+    }
+}
