@@ -166,3 +166,6 @@ fn read_body(alloc: Global, first: u32, text: &[u8]) -> Result<(Items<Order>, &[
         left = rest;
     }
 }
+
+#[cfg(test)]
+mod tests;
