@@ -5,6 +5,8 @@
 
 mod component;
 mod lane;
+#[cfg(test)]
+mod tests;
 mod words;
 
 pub use component::{Comp, Features, Place, Row};

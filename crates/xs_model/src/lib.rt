@@ -10,6 +10,8 @@ mod look_back;
 mod name;
 mod script;
 mod stage;
+#[cfg(test)]
+mod tests;
 
 pub use event::{Event, History, Reply, Why};
 pub use items::Items;

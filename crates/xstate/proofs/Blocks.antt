@@ -10,8 +10,8 @@ use Rattle.xs_model.specs.declared.script.BlockKind.{BlockKind}
 use Rattle.xs_model.specs.declared.script.Order.{Order}
 use Rattle.xs_model.specs.declared.script.Block.{Block}
 use Rattle.xs_model.specs.Script.{AreDistinct}
-use Rattle.xstate.specs.declared.script_line.ScriptLine.{ScriptLine}
-use Rattle.xstate.specs.declared.script_line.ScriptLine.TheVariants as lines
+use Rattle.xstate.specs.ScriptLine.{ScriptLine}
+use Rattle.xstate.specs.ScriptLine as lines
 use Rattle.xstate.specs.ScriptLine.{line_text}
 use Rattle.xstate.specs.Grammar.{lines_text, order_lines, block_lines}
 use Rattle.xstate.specs.declared.reader.ScriptError.{ScriptError}

@@ -6,8 +6,8 @@ use Rattle.xs_base.specs.Layout.{amx_rows}
 use Rattle.xs_model.specs.declared.script.Command.{Command}
 use Rattle.xs_model.specs.declared.script.Order.{Order}
 use Rattle.xs_model.specs.Script.{IsCommand}
-use Rattle.xstate.specs.declared.script_line.ScriptLine.{ScriptLine}
-use Rattle.xstate.specs.declared.script_line.ScriptLine.TheVariants as lines
+use Rattle.xstate.specs.ScriptLine.{ScriptLine}
+use Rattle.xstate.specs.ScriptLine as lines
 use Rattle.xstate.specs.declared.line_reader.BodyLine.TheVariants.{Order as OrderLine, End as EndLine}
 use Rattle.xstate.specs.ScriptLine.{line_text}
 use Rattle.xstate.specs.Grammar.{lines_text, order_lines}
@@ -28,10 +28,10 @@ pub lines_push : (text : List ℕ) (ls : List ScriptLine) (l : ScriptLine) (left
 lines_push text ls l left rest e first = e ∙ ap (λ (t : List ℕ). lines_text ls ++ t) (first ∙ sym (lines_more l [] rest)) ∙ sym (lines_join ls (l ∷ []) rest)
 
 -- one order more
-pub orders_push : (text : List ℕ) (orders : List Order) (order : Order) (left rest : List ℕ) → text ≡ lines_text (order_lines orders) ++ left → left ≡ line_text (lines.Command order.command) ++ 10 ∷ rest → text ≡ lines_text (order_lines (orders ++ order ∷ [])) ++ rest
+pub orders_push : (text : List ℕ) (orders : List Order) (order : Order) (left rest : List ℕ) → text ≡ lines_text (order_lines orders) ++ left → left ≡ line_text (lines.Order order.command) ++ 10 ∷ rest → text ≡ lines_text (order_lines (orders ++ order ∷ [])) ++ rest
 orders_push text orders order left rest e first =
-    lines_push text (order_lines orders) (lines.Command order.command) left rest e first
-    ∙ ap (λ (ls : List ScriptLine). lines_text ls ++ rest) (sym (map-append (λ (o : Order). lines.Command o.command) orders (order ∷ [])))
+    lines_push text (order_lines orders) (lines.Order order.command) left rest e first
+    ∙ ap (λ (ls : List ScriptLine). lines_text ls ++ rest) (sym (map-append (λ (o : Order). lines.Order o.command) orders (order ∷ [])))
 
 -- a body with one order more
 pub IsBody-push : (number : ℕ) (orders : List Order) (order : Order) → IsBody number orders → order.number ≡ number + length orders → IsCommand amx_rows order.command → IsBody number (orders ++ order ∷ [])
@@ -56,11 +56,11 @@ pub record GoesOn (number : ℕ) (done x : List Order) (left rest : List ℕ) : 
 pub body_goes_on : (number : ℕ) (done x : List Order) (left rest : List ℕ) → IsBody number done → IsBody number x → lines_text (order_lines done) ++ left ≡ body_text x ++ rest → GoesOn number done x left rest
 body_goes_on number [] x left rest hd hx e = record { more = x; whole = refl; left_is = e; fits = rw add-zero hx }
 body_goes_on number (d ∷ done) [] left rest hd hx e =
-    let first = one_first_line (lines.Command d.command) lines.End _ _ hd.1.0 tt (sym (lines_more (lines.Command d.command) (order_lines done) left) ∙ e ∙ lines_more lines.End [] rest) in
+    let first = one_first_line (lines.Order d.command) lines.End _ _ hd.1.0 tt (sym (lines_more (lines.Order d.command) (order_lines done) left) ∙ e ∙ lines_more lines.End [] rest) in
     let bad = first.0 in
     absurd (cc bad)
 body_goes_on number (d ∷ done) (y ∷ ys) left rest hd hx e =
-    let first = one_first_line (lines.Command d.command) (lines.Command y.command) _ _ hd.1.0 hx.1.0 (sym (lines_more (lines.Command d.command) (order_lines done) left) ∙ e ∙ lines_more (lines.Command y.command) (order_lines ys ++ lines.End ∷ []) rest) in
+    let first = one_first_line (lines.Order d.command) (lines.Order y.command) _ _ hd.1.0 hx.1.0 (sym (lines_more (lines.Order d.command) (order_lines done) left) ∙ e ∙ lines_more (lines.Order y.command) (order_lines ys ++ lines.End ∷ []) rest) in
     let same_command : d.command ≡ y.command = cc (first.0) in
     let same = same_order d y (hd.0.0 ∙ sym hx.0.0) same_command in
     let r = body_goes_on (number + 1) done ys left rest (hd.0.1, hd.1.1) (hx.0.1, hx.1.1) first.1 in
@@ -76,7 +76,7 @@ body_goes_on number (d ∷ done) (y ∷ ys) left rest hd hx e =
 pub no_more : (number : ℕ) (more : List Order) (left rest : List ℕ) → NoLine body_line_text IsBodyLine left → IsBody number more → left ≡ body_text more ++ rest → ⊥
 no_more number [] left rest none fits e = none EndLine rest tt (e ∙ lines_more lines.End [] rest)
 no_more number (o ∷ more) left rest none fits e =
-    none (OrderLine o.command) (lines_text (order_lines more ++ lines.End ∷ []) ++ rest) fits.1.0 (e ∙ lines_more (lines.Command o.command) (order_lines more ++ lines.End ∷ []) rest)
+    none (OrderLine o.command) (lines_text (order_lines more ++ lines.End ∷ []) ++ rest) fits.1.0 (e ∙ lines_more (lines.Order o.command) (order_lines more ++ lines.End ∷ []) rest)
 
 -- So the text begins with no body.
 pub no_body : (number : ℕ) (text : List ℕ) (done : List Order) (left : List ℕ) → IsBody number done → text ≡ lines_text (order_lines done) ++ left → NoLine body_line_text IsBodyLine left → (x : List Order) (rest : List ℕ) → IsBody number x → text ≡ body_text x ++ rest → ⊥
@@ -88,7 +88,7 @@ no_body number text done left hd parts none x rest hx e =
 one_end : (a b more : List Order) (number : ℕ) (x y : List ℕ) → b ≡ a ++ more → IsBody number more → lines_text (lines.End ∷ []) ++ x ≡ body_text more ++ y → (a ≡ b) × (x ≡ y)
 one_end a b [] number x y whole fits e = (sym (whole ∙ append-nil a), append_cancel_left (lines_text (lines.End ∷ [])) x y e)
 one_end a b (o ∷ more) number x y whole fits e =
-    let first = one_first_line lines.End (lines.Command o.command) _ _ tt fits.1.0 (sym (lines_more lines.End [] x) ∙ e ∙ lines_more (lines.Command o.command) (order_lines more ++ lines.End ∷ []) y) in
+    let first = one_first_line lines.End (lines.Order o.command) _ _ tt fits.1.0 (sym (lines_more lines.End [] x) ∙ e ∙ lines_more (lines.Order o.command) (order_lines more ++ lines.End ∷ []) y) in
     let bad = first.0 in
     absurd (cc bad)
 

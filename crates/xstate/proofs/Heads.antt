@@ -6,8 +6,8 @@ use Rattle.std.specs.List.{flat_map}
 use Rattle.xs_model.specs.declared.script.Named.{Named}
 use Rattle.xs_model.specs.declared.script.Named.TheVariants.{Amx}
 use Rattle.xs_model.specs.declared.script.Script.{Script}
-use Rattle.xstate.specs.declared.script_line.ScriptLine.{ScriptLine}
-use Rattle.xstate.specs.declared.script_line.ScriptLine.TheVariants as lines
+use Rattle.xstate.specs.ScriptLine.{ScriptLine}
+use Rattle.xstate.specs.ScriptLine as lines
 use Rattle.xstate.specs.ScriptLine.{line_text}
 use Rattle.xstate.specs.Grammar.{lines_text, script_lines, block_lines}
 use Rattle.xstate.specs.Reads.{Lacks}

@@ -13,8 +13,8 @@ use Rattle.xs_model.specs.declared.script.Named.TheVariants as machines
 use Rattle.xs_model.specs.declared.script.Command.TheVariants as commands
 use Rattle.xs_model.specs.declared.script.Command.{Command}
 use Rattle.xs_model.specs.Script.{IsCommand}
-use Rattle.xstate.specs.declared.script_line.ScriptLine.{ScriptLine}
-use Rattle.xstate.specs.declared.script_line.ScriptLine.TheVariants as lines
+use Rattle.xstate.specs.ScriptLine.{ScriptLine}
+use Rattle.xstate.specs.ScriptLine as lines
 use Rattle.xstate.specs.ScriptLine.{line_text, command_text, IsLine}
 use Rattle.xstate.specs.Reads.{Lacks}
 use Rattle.xstate.specs.declared.line_reader.BodyLine.{BodyLine}
@@ -38,7 +38,7 @@ kind (lines.Cpus n) = 2
 kind (lines.Quantum n) = 3
 kind (lines.Large n) = 4
 kind (lines.Task name) = 5
-kind (lines.Command command) = 6
+kind (lines.Order command) = 6
 kind lines.End = 7
 
 -- the kind, read from the first word
@@ -62,8 +62,8 @@ kind_is (lines.Cpus n) = refl
 kind_is (lines.Quantum n) = refl
 kind_is (lines.Large n) = refl
 kind_is (lines.Task name) = refl
-kind_is (lines.Command (commands.Set reg bytes)) = refl
-kind_is (lines.Command (commands.Get reg)) = refl
+kind_is (lines.Order (commands.Set reg bytes)) = refl
+kind_is (lines.Order (commands.Get reg)) = refl
 kind_is lines.End = refl
 
 -- lines of one text are of one kind
@@ -101,13 +101,13 @@ Lacks-line (lines.Cpus n) fits = lacks_number (codes "cpus ") n (lacks_word (cod
 Lacks-line (lines.Quantum n) fits = lacks_number (codes "quantum ") n (lacks_word (codes "quantum ") refl) fits
 Lacks-line (lines.Large n) fits = lacks_number (codes "large ") n (lacks_word (codes "large ") refl) fits
 Lacks-line (lines.Task name) fits = Lacks-append 10 (codes "task ") name (lacks_word (codes "task ") refl) (Lacks-name 10 name refl refl fits)
-Lacks-line (lines.Command (commands.Set reg bytes)) fits =
+Lacks-line (lines.Order (commands.Set reg bytes)) fits =
     let place = fits.0 in
     let register = Lacks-register 10 amx_rows reg place (omega arith) fits.1 in
     let digits = Lacks-hex 10 bytes refl fits.3 in
     Lacks-append 10 (codes "set ") (reg ++ 32 ∷ encode_lower bytes) (lacks_word (codes "set ") refl)
     (Lacks-append 10 reg (32 ∷ encode_lower bytes) register (λ e. omega arith, digits))
-Lacks-line (lines.Command (commands.Get reg)) fits =
+Lacks-line (lines.Order (commands.Get reg)) fits =
     Lacks-append 10 (codes "get ") reg (lacks_word (codes "get ") refl) (Lacks-register 10 amx_rows reg fits.0 (omega arith) fits.1)
 Lacks-line lines.End fits = lacks_word (codes "end") refl
 
@@ -159,7 +159,7 @@ one_line (lines.Cpus m) (lines.Cpus n) f g e = ap lines.Cpus (one_number (codes 
 one_line (lines.Quantum m) (lines.Quantum n) f g e = ap lines.Quantum (one_number (codes "quantum ") m n f g e)
 one_line (lines.Large m) (lines.Large n) f g e = ap lines.Large (one_number (codes "large ") m n f g e)
 one_line (lines.Task x) (lines.Task y) f g e = ap lines.Task (append_cancel_left (codes "task ") x y e)
-one_line (lines.Command a) (lines.Command b) f g e = ap lines.Command (one_command a b f g e)
+one_line (lines.Order a) (lines.Order b) f g e = ap lines.Order (one_command a b f g e)
 one_line lines.End lines.End f g e = refl
 one_line a b f g e = let k = same_kind a b e in absurd (omega arith)
 
@@ -171,7 +171,7 @@ one_first_line a b x y f g e =
 
 -- a line of a body has no line feed in it
 pub Lacks-body_line : (x : BodyLine) → IsBodyLine x → Lacks 10 (body_line_text x)
-Lacks-body_line (OrderLine command) fits = Lacks-line (lines.Command command) fits
+Lacks-body_line (OrderLine command) fits = Lacks-line (lines.Order command) fits
 Lacks-body_line EndLine fits = Lacks-line lines.End fits
 
 -- nor has the first line of a block

@@ -6,8 +6,8 @@ use Rattle.xs_model.specs.declared.script.Order.{Order}
 use Rattle.xs_model.specs.declared.script.Block.{Block}
 use Rattle.xs_model.specs.declared.script.Script.{Script}
 use Rattle.xs_model.specs.Script.{IsValid, IsBuilt, AreBlocksNumbered}
-use Rattle.xstate.specs.declared.script_line.ScriptLine.{ScriptLine}
-use Rattle.xstate.specs.declared.script_line.ScriptLine.TheVariants as lines
+use Rattle.xstate.specs.ScriptLine.{ScriptLine}
+use Rattle.xstate.specs.ScriptLine as lines
 use Rattle.xstate.specs.ScriptLine.{line_text}
 
 -- the lines of a text, each ended by a line feed
@@ -16,7 +16,7 @@ lines_text ls = flat_map (λ line. line_text line ++ 10 ∷ []) ls
 
 -- the lines of the orders of a body
 abbrev pub order_lines : List Order → List ScriptLine
-order_lines orders = map (λ order. lines.Command order.command) orders
+order_lines orders = map (λ order. lines.Order order.command) orders
 
 abbrev pub block_lines : Block → List ScriptLine
 block_lines block = lines.Task block.name ∷ (order_lines block.body ++ lines.End ∷ [])

@@ -7,8 +7,8 @@ use Rattle.xs_model.specs.declared.script.Command.TheVariants.{Set, Get}
 use Rattle.xs_model.specs.declared.script.Order.{Order}
 use Rattle.xs_model.specs.declared.script.Block.{Block}
 use Rattle.xs_model.specs.Script.{is_name, IsCommand, AreNumbered, AreDistinct}
-use Rattle.xstate.specs.declared.script_line.ScriptLine.{ScriptLine}
-use Rattle.xstate.specs.declared.script_line.ScriptLine.TheVariants as lines
+use Rattle.xstate.specs.ScriptLine.{ScriptLine}
+use Rattle.xstate.specs.ScriptLine as lines
 use Rattle.xstate.specs.declared.line_reader.BodyLine.{BodyLine}
 use Rattle.xstate.specs.declared.line_reader.BodyLine.TheVariants.{Order as OrderLine, End as EndLine}
 use Rattle.xstate.specs.ScriptLine.{line_text, command_text}
@@ -30,7 +30,7 @@ IsGet reg = IsCommand amx_rows (Get reg)
 
 -- a line of a body, as a line of a script
 abbrev pub body_line : BodyLine → ScriptLine
-body_line (OrderLine command) = lines.Command command
+body_line (OrderLine command) = lines.Order command
 body_line EndLine = lines.End
 
 abbrev pub body_line_text : BodyLine → List ℕ

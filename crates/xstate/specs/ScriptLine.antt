@@ -8,8 +8,18 @@ use Rattle.xs_model.specs.declared.script.Named.TheVariants.{Amx}
 use Rattle.xs_model.specs.declared.script.Command.{Command}
 use Rattle.xs_model.specs.declared.script.Command.TheVariants as commands
 use Rattle.xs_model.specs.Script.{is_name, IsCommand}
-use Rattle.xstate.specs.declared.script_line.ScriptLine.{ScriptLine}
-use Rattle.xstate.specs.declared.script_line.ScriptLine.TheVariants as lines
+
+-- A line of a script, without its line feed: `xstate 1`, `machine NAME`, `cpus N`, `quantum N`, `large N`, the first line
+-- of a block, a command, and `end`.
+pub data ScriptLine : Type 0 where
+  Version : ScriptLine
+  Machine : Named → ScriptLine
+  Cpus : ℕ → ScriptLine
+  Quantum : ℕ → ScriptLine
+  Large : ℕ → ScriptLine
+  Task : List ℕ → ScriptLine
+  Order : Command → ScriptLine
+  End : ScriptLine
 
 abbrev pub machine_name : Named → List ℕ
 machine_name Amx = codes "amx"
@@ -20,22 +30,22 @@ command_text (commands.Set reg bytes) = codes "set " ++ (reg ++ 32 ∷ encode_lo
 command_text (commands.Get reg) = codes "get " ++ reg
 
 abbrev pub line_text : ScriptLine → List ℕ
-line_text lines.Version = codes "xstate 1"
-line_text (lines.Machine named) = codes "machine " ++ machine_name named
-line_text (lines.Cpus n) = codes "cpus " ++ decimal n
-line_text (lines.Quantum n) = codes "quantum " ++ decimal n
-line_text (lines.Large n) = codes "large " ++ decimal n
-line_text (lines.Task name) = codes "task " ++ name
-line_text (lines.Command command) = command_text command
-line_text lines.End = codes "end"
+line_text Version = codes "xstate 1"
+line_text (Machine named) = codes "machine " ++ machine_name named
+line_text (Cpus n) = codes "cpus " ++ decimal n
+line_text (Quantum n) = codes "quantum " ++ decimal n
+line_text (Large n) = codes "large " ++ decimal n
+line_text (Task name) = codes "task " ++ name
+line_text (Order command) = command_text command
+line_text End = codes "end"
 
 -- The line has a spelling: its numbers, names and registers are such.
 abbrev pub IsLine : ScriptLine → Type 0
-IsLine lines.Version = Unit {0}
-IsLine (lines.Machine named) = Unit {0}
-IsLine (lines.Cpus n) = n < 2 ^ 32
-IsLine (lines.Quantum n) = n < 2 ^ 32
-IsLine (lines.Large n) = n < 2 ^ 32
-IsLine (lines.Task name) = is_name name ≡ true
-IsLine (lines.Command command) = IsCommand amx_rows command
-IsLine lines.End = Unit {0}
+IsLine Version = Unit {0}
+IsLine (Machine named) = Unit {0}
+IsLine (Cpus n) = n < 2 ^ 32
+IsLine (Quantum n) = n < 2 ^ 32
+IsLine (Large n) = n < 2 ^ 32
+IsLine (Task name) = is_name name ≡ true
+IsLine (Order command) = IsCommand amx_rows command
+IsLine End = Unit {0}

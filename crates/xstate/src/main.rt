@@ -10,7 +10,6 @@ mod reading;
 #[cfg(test)]
 mod reading_tests;
 mod register;
-mod script_line;
 mod status;
 mod text;
 mod top;

@@ -73,13 +73,13 @@ pub fn read_name(bytes: &[u8]) -> Option<Name>
 fn is_letter(byte: u8) -> bool
     ensures { result ≡ is_letter byte }
 {
-    97 <= byte && byte <= 122
+    b'a' <= byte && byte <= b'z'
 }
 
 fn is_letter_or_digit(byte: u8) -> bool
     ensures { result ≡ is_letter_or_digit byte }
 {
-    is_letter(byte) || 48 <= byte && byte <= 57
+    is_letter(byte) || b'0' <= byte && byte <= b'9'
 }
 
 fn is_name(bytes: &[u8]) -> bool
