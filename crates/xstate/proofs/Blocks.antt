@@ -21,11 +21,12 @@ use Rattle.xstate.specs.Parts.{task_text, IsTask, body_text, IsBody, block_text,
 use Rattle.xstate.proofs.Bodies.{lines_more, lines_join, one_body}
 use Rattle.xstate.proofs.Spellings.{one_first_line}
 
--- an `or` that is true, and one that is false
+-- a side of an `or` that is true is true
 cases_or : (a b : Bool) → (a || b) ≡ true → (a ≡ true) ⊎ (b ≡ true)
 cases_or true b h = inl refl
 cases_or false b h = inr h
 
+-- both sides of an `or` that is false are false
 parts_or : (a b : Bool) → (a || b) ≡ false → (a ≡ false) × (b ≡ false)
 parts_or true b h = cc h
 parts_or false b h = (refl, h)
@@ -88,6 +89,7 @@ pub record GoesOn (first : ℕ) (done x : List Block) (left : List ℕ) : Type 0
   pub left_is : left ≡ blocks_text more
   pub fits : AreBlocks (line_after first done) more
 
+-- A text that begins with some blocks is a row that begins with them.
 pub blocks_go_on : (first : ℕ) (done x : List Block) (left : List ℕ) → AreBlocks first done → AreBlocks first x → blocks_text done ++ left ≡ blocks_text x → GoesOn first done x left
 blocks_go_on first [] x left hd hx e = record { more = x; whole = refl; left_is = e; fits = hx }
 blocks_go_on first (d ∷ done) [] left hd hx e = absurd (some_text d (blocks_text done ++ left) (sym (blocks_more d done left) ∙ e))
@@ -116,11 +118,12 @@ pub refused : {T : Type 0} (r : Result T ScriptError) (e : ScriptError) (P : Typ
 refused r NotBuilt P here is h = h
 refused r Memory P here is h = cc (sym here ∙ is)
 
--- a list that a test found not empty, and one that it found empty
+-- a list that a test found not empty
 pub not_empty : (left : List ℕ) (r : Bool) → r ≡ (length left == 0) → r ≡ false → left ≡ [] → ⊥
 not_empty [] r e f h = cc (sym e ∙ f)
 not_empty (b ∷ left) r e f h = cc h
 
+-- a list that a test found empty
 pub is_empty : (left : List ℕ) (r : Bool) → r ≡ (length left == 0) → r ≡ true → left ≡ []
 is_empty [] r e t = refl
 is_empty (b ∷ left) r e t =
@@ -140,17 +143,19 @@ too_many left done x (m ∷ more) some full few whole e =
     let long : length x ≡ length done + suc (length more) = ap length whole ∙ length-append done (m ∷ more) in
     omega arith
 
+-- So the text is no row of blocks.
 pub no_65th : (text left : List ℕ) (done : List Block) → AreBlocks 6 done → text ≡ blocks_text done ++ left → (left ≡ [] → ⊥) → length done ≡ 64 → (x : List Block) → IsProgram x → text ≡ blocks_text x → ⊥
 no_65th text left done fits parts some full x hx e =
     let on = blocks_go_on 6 done x left fits hx.blocks_fit (sym parts ∙ e) in
     too_many left done x on.more some full hx.few on.whole on.left_is
 
--- no next block
+-- No block is next where none is read.
 none_next : (number : ℕ) (left : List ℕ) (more : List Block) → (left ≡ [] → ⊥) → ReadsNothing block_text (IsBlock number) left → AreBlocks number more → left ≡ blocks_text more → ⊥
 none_next number left [] some none fits e = some e
 none_next number left (m ∷ more) some none fits e =
     none m (blocks_text more ++ []) fits.0 (e ∙ sym (append-nil (blocks_text (m ∷ more))) ∙ blocks_more m more [])
 
+-- So the text is no row of blocks.
 pub no_next : (text left : List ℕ) (done : List Block) (number : ℕ) → AreBlocks 6 done → text ≡ blocks_text done ++ left → (left ≡ [] → ⊥) → number ≡ line_after 6 done → ReadsNothing block_text (IsBlock number) left → (x : List Block) → IsProgram x → text ≡ blocks_text x → ⊥
 no_next text left done number fits parts some at none x hx e =
     let on = blocks_go_on 6 done x left fits hx.blocks_fit (sym parts ∙ e) in
@@ -190,7 +195,7 @@ AreDistinct-push (d ∷ done) b h none =
     let parts = parts_or (bytes_eq d.name b.name) (list_any (λ (block : Block). bytes_eq block.name b.name) done) none in
     (all_push (λ other. other ≡ d.name → ⊥) done b h.0 (λ e. let t = (bytes_eq-Decides d.name b.name).1 (sym e) in cc (sym t ∙ parts.0)), AreDistinct-push done b h.1 parts.1)
 
--- no row where a name is repeated
+-- Nothing goes on from a block with an earlier name.
 repeated_in : (number : ℕ) (left rest : List ℕ) (done more x : List Block) (b : Block) → IsBlock number b → left ≡ block_text b ++ rest → list_any (λ (block : Block). bytes_eq block.name b.name) done ≡ true → AreDistinct (map (λ (block : Block). block.name) x) → x ≡ done ++ more → AreBlocks number more → left ≡ blocks_text more → ⊥
 repeated_in number left rest done [] x b hb first found distinct whole fits e = some_text b rest (sym first ∙ e)
 repeated_in number left rest done (m ∷ more) x b hb first found distinct whole fits e =
@@ -198,6 +203,7 @@ repeated_in number left rest done (m ∷ more) x b hb first found distinct whole
     let here : x ≡ done ++ b ∷ more = whole ∙ ap (λ (n : Block). done ++ n ∷ more) (sym one.0) in
     not_distinct done more b found (subst (λ (xs : List Block). AreDistinct (map (λ (block : Block). block.name) xs)) here distinct)
 
+-- So the text is no row of blocks.
 pub no_repeated : (text left rest : List ℕ) (done : List Block) (number : ℕ) (b : Block) → AreBlocks 6 done → text ≡ blocks_text done ++ left → number ≡ line_after 6 done → IsBlock number b → left ≡ block_text b ++ rest → list_any (λ (block : Block). bytes_eq block.name b.name) done ≡ true → (x : List Block) → IsProgram x → text ≡ blocks_text x → ⊥
 no_repeated text left rest done number b fits parts at hb first found x hx e =
     let on = blocks_go_on 6 done x left fits hx.blocks_fit (sym parts ∙ e) in

@@ -52,6 +52,7 @@ pub record GoesOn (number : ℕ) (done x : List Order) (left rest : List ℕ) : 
   pub left_is : left ≡ body_text more ++ rest
   pub fits : IsBody (number + length done) more
 
+-- A text that begins with some orders and with a body has a body that begins with them.
 pub body_goes_on : (number : ℕ) (done x : List Order) (left rest : List ℕ) → IsBody number done → IsBody number x → lines_text (order_lines done) ++ left ≡ body_text x ++ rest → GoesOn number done x left rest
 body_goes_on number [] x left rest hd hx e = record { more = x; whole = refl; left_is = e; fits = rw add-zero hx }
 body_goes_on number (d ∷ done) [] left rest hd hx e =

@@ -6,7 +6,8 @@ use Rattle.hex.specs.Hex.{encode_lower}
 use Rattle.xs_base.specs.declared.component.Place.{Place}
 use Rattle.xs_base.specs.Layout.{amx_rows}
 use Rattle.xs_base.specs.Register.{IsRegister}
-use Rattle.xstate.specs.Reads.{Reads, NoLine, Lacks, IsSet, set_text, IsLane}
+use Rattle.xstate.specs.Reads.{Reads, NoLine, Lacks}
+use Rattle.xstate.specs.Parts.{IsSet, set_text, IsLane}
 use Rattle.xstate.proofs.Cuts.{one_cut, no_cut}
 use Rattle.xstate.proofs.Registers.{register_is, one_place}
 use Rattle.xstate.proofs.Spellings.{Lacks-register}

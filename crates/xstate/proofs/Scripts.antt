@@ -30,6 +30,7 @@ says_each first (b ∷ blocks) h = (
   says_each (first + length b.body + 2) blocks (record { names = h.names.1; commands = h.commands.1; tasks = h.tasks.1; numbered = h.numbered.1 }),
 )
 
+-- and back
 each_says : (first : ℕ) (blocks : List Block) → AreBlocks first blocks → Says first blocks
 each_says first [] h = record { names = tt; commands = tt; tasks = tt; numbered = tt }
 each_says first (b ∷ blocks) h =
@@ -45,6 +46,7 @@ each_says first (b ∷ blocks) h =
 rows_amx : (m : Named) → rows_of m ≡ amx_rows
 rows_amx Amx = refl
 
+-- there is no other machine
 same_machine : (m n : Named) → m ≡ n
 same_machine Amx Amx = refl
 

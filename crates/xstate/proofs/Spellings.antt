@@ -81,11 +81,12 @@ Lacks-register byte rows name place small h =
 pub lacks_number : (word : List ℕ) (n : ℕ) → Lacks 10 word → n < 2 ^ 32 → Lacks 10 (word ++ decimal n)
 lacks_number word n w fits = Lacks-append 10 word (decimal n) w (Lacks-decimal 10 n (omega arith) (omega arith))
 
--- the word has no line feed
+-- a test that a word has no line feed
 abbrev lacks_test : List ℕ → Bool
 lacks_test [] = true
 lacks_test (b ∷ bs) = not (b == 10) && lacks_test bs
 
+-- so it lacks one
 pub lacks_word : (bs : List ℕ) → lacks_test bs ≡ true → Lacks 10 bs
 lacks_word [] h = tt
 lacks_word (b ∷ bs) h =
@@ -131,10 +132,12 @@ command_kind (commands.Get reg) = 1
 abbrev command_kind_of : List ℕ → ℕ
 command_kind_of bs = if begins (codes "set ") bs then 0 else 1
 
+-- a command's first word is that of its kind
 command_kind_is : (k : Command) → command_kind_of (command_text k) ≡ command_kind k
 command_kind_is (commands.Set reg bytes) = refl
 command_kind_is (commands.Get reg) = refl
 
+-- commands of one text are of one kind
 same_command_kind : (a b : Command) → command_text a ≡ command_text b → command_kind a ≡ command_kind b
 same_command_kind a b e = sym (command_kind_is a) ∙ ap command_kind_of e ∙ command_kind_is b
 

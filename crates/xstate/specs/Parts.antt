@@ -3,6 +3,7 @@ use Rattle.std.specs.Prelude.{◌≡◌, ℕ, ◌+◌, ◌<◌, ◌≤◌, true,
 use Rattle.std.specs.List.{AllByRecursion, flat_map}
 use Rattle.xs_base.specs.Layout.{amx_rows}
 use Rattle.xs_model.specs.declared.script.BlockKind.TheVariants.{Task}
+use Rattle.xs_model.specs.declared.script.Command.TheVariants.{Set, Get}
 use Rattle.xs_model.specs.declared.script.Order.{Order}
 use Rattle.xs_model.specs.declared.script.Block.{Block}
 use Rattle.xs_model.specs.Script.{is_name, IsCommand, AreNumbered, AreDistinct}
@@ -10,8 +11,22 @@ use Rattle.xstate.specs.declared.script_line.ScriptLine.{ScriptLine}
 use Rattle.xstate.specs.declared.script_line.ScriptLine.TheVariants as lines
 use Rattle.xstate.specs.declared.line_reader.BodyLine.{BodyLine}
 use Rattle.xstate.specs.declared.line_reader.BodyLine.TheVariants.{Order as OrderLine, End as EndLine}
-use Rattle.xstate.specs.ScriptLine.{line_text}
+use Rattle.xstate.specs.ScriptLine.{line_text, command_text}
 use Rattle.xstate.specs.Grammar.{lines_text, order_lines, block_lines}
+
+-- a lane of so many bytes
+abbrev pub IsLane : ℕ → List ℕ → Type 0
+IsLane len bytes = (length bytes ≡ len) × AllByRecursion (λ byte. byte < 256) bytes
+
+-- the register and the bytes of a command that sets, and the register of one that gets
+abbrev pub set_text : List ℕ × List ℕ → List ℕ
+set_text x = command_text (Set x.0 x.1)
+
+abbrev pub IsSet : List ℕ × List ℕ → Type 0
+IsSet x = IsCommand amx_rows (Set x.0 x.1)
+
+abbrev pub IsGet : List ℕ → Type 0
+IsGet reg = IsCommand amx_rows (Get reg)
 
 -- a line of a body, as a line of a script
 abbrev pub body_line : BodyLine → ScriptLine

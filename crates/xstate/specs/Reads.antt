@@ -1,10 +1,6 @@
 -- What a reader of a text answers: exactly the value that the text spells.
-use Rattle.std.specs.Prelude.{◌≡◌, ℕ, ◌<◌, List, ◌∷◌, ◌++◌, length, Option, Some, None}
+use Rattle.std.specs.Prelude.{◌≡◌, ℕ, List, ◌∷◌, ◌++◌, Option, Some, None}
 use Rattle.std.specs.List.{AllByRecursion}
-use Rattle.xs_base.specs.Layout.{amx_rows}
-use Rattle.xs_model.specs.declared.script.Command.TheVariants.{Set, Get}
-use Rattle.xs_model.specs.Script.{IsCommand}
-use Rattle.xstate.specs.ScriptLine.{command_text}
 
 -- The bytes are the text of a value that fits. Nothing was read only if they are the text of no such value.
 abbrev pub Reads : {A : Type 0} → (A → List ℕ) → (A → Type 0) → Option A → List ℕ → Type 0
@@ -22,17 +18,3 @@ NoLine {A} text Fits bytes = (x : A) (rest : List ℕ) → Fits x → bytes ≡ 
 -- the byte is nowhere among the bytes
 abbrev pub Lacks : ℕ → List ℕ → Type 0
 Lacks byte bytes = AllByRecursion (λ b. b ≡ byte → ⊥) bytes
-
--- so many bytes
-abbrev pub IsLane : ℕ → List ℕ → Type 0
-IsLane len bytes = (length bytes ≡ len) × AllByRecursion (λ byte. byte < 256) bytes
-
--- the register and the bytes of a command, and the register of another
-abbrev pub set_text : List ℕ × List ℕ → List ℕ
-set_text x = command_text (Set x.0 x.1)
-
-abbrev pub IsSet : List ℕ × List ℕ → Type 0
-IsSet x = IsCommand amx_rows (Set x.0 x.1)
-
-abbrev pub IsGet : List ℕ → Type 0
-IsGet reg = IsCommand amx_rows (Get reg)

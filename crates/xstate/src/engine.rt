@@ -7,6 +7,9 @@ ghost use Rattle.xs_model.specs.Script.{IsValid, IsBuilt, IsCommand};
 ghost use Rattle.xs_model.specs.History.{IsWhole};
 ghost use Rattle.xstate.specs.Engine.{IsAtRest, IsInTurn, AfterLine, AfterLines, task_at, is_last, fresh_tasks, with_task, body_at, IsNext, NoneLives, work};
 
+#[cfg(test)]
+mod tests;
+
 use crate::bank::Bank;
 use crate::parked::Parked;
 use std::alloc::{AllocError, Global};

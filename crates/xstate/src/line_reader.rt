@@ -5,8 +5,8 @@ ghost use Rattle.hex.specs.Hex.{encode_lower};
 ghost use Rattle.xs_base.specs.Layout.{amx_rows};
 ghost use Rattle.xs_model.specs.Script.{IsCommand};
 ghost use Rattle.xstate.specs.ScriptLine.{command_text};
-ghost use Rattle.xstate.specs.Reads.{Reads, NoLine, IsFirstLine, Lacks, IsSet, IsGet, set_text};
-ghost use Rattle.xstate.specs.Parts.{body_line_text, IsBodyLine, task_text, IsTask};
+ghost use Rattle.xstate.specs.Reads.{Reads, NoLine, IsFirstLine, Lacks};
+ghost use Rattle.xstate.specs.Parts.{IsSet, IsGet, set_text, body_line_text, IsBodyLine, task_text, IsTask};
 
 use crate::register::place_of;
 use crate::words::{after, cut_at, read_lane, read_name, read_number};

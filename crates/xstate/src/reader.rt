@@ -57,6 +57,7 @@ fn read_head(text: &[u8]) -> Option<(u32, u32, &[u8])>
         (λ x. IsHead x.0 x.1 × (text.now ≡ head_then x.0 x.1 x.2.now)) }
     ensures shorter { IfSome result (λ x. length x.2.now ≤ length text.now) }
 {
+    // The first three lines are those of each script that is built.
     let rest = after(b"xstate 1\nmachine amx\ncpus 1\n", text)?;
     let (quantum, rest) = next_count(b"quantum ", rest)?;
     if quantum < 1 {
@@ -166,3 +167,6 @@ fn read_body(alloc: Global, first: u32, text: &[u8]) -> Result<(Items<Order>, &[
         left = rest;
     }
 }
+
+#[cfg(test)]
+mod tests;

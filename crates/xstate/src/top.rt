@@ -8,6 +8,9 @@ ghost use Rattle.xstate.specs.Answers.{IsRun, AnswerEnds, TellEnds, RunEnds, Wri
 ghost use Rattle.xstate.specs.Headline.{Headline, Refusal, Judges};
 ghost use Rattle.xstate.specs.Text.{AreTasksKnown, history_text};
 
+#[cfg(test)]
+mod tests;
+
 use crate::engine::run;
 use crate::reader::{ScriptError, read_script};
 use crate::reading::{ReadError, read_up_to};

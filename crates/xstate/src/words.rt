@@ -5,7 +5,8 @@ ghost use Rattle.std.specs.List.{list_all};
 ghost use Rattle.std.specs.Str.{bytes_eq};
 ghost use Rattle.hex.specs.Hex.{encode_lower};
 ghost use Rattle.xs_model.specs.Script.{is_letter, is_letter_or_digit, is_name};
-ghost use Rattle.xstate.specs.Reads.{Reads, Lacks, IsLane};
+ghost use Rattle.xstate.specs.Reads.{Reads, Lacks};
+ghost use Rattle.xstate.specs.Parts.{IsLane};
 
 use std::str;
 use xs_base::Lane;
