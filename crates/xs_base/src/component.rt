@@ -73,10 +73,9 @@ impl Features {
     }
 }
 
-/// A row of a machine's table of components: what CPUID leaf 0DH tells of one (SDM volume 1, 13.2), rows 0
-/// and 1 included. The size and
-/// the offset in the standard format are in bytes. Flag bit 0 is a supervisor component, bit 1 alignment to 64
-/// bytes in the compacted format, bit 2 support of XFD.
+/// A row of a machine's table of components: what CPUID leaf 0DH tells of one (SDM volume 1, 13.2), rows 0 and 1
+/// included. The size and the offset in the standard format are in bytes. Flag bit 0 is a supervisor component, bit 1
+/// alignment to 64 bytes in the compacted format, bit 2 support of XFD.
 #[derive(Clone, Copy, PartialEq, Eq, Debug)]
 pub struct Row {
     pub comp: Comp,

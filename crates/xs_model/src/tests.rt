@@ -25,7 +25,11 @@ fn turns_end_with_their_quantum(rt: HostRuntime) {
         (30, 32, Stage::Turn { cpu: 3, ran: 31 }),
         (31, 32, Stage::Ready),
     ] {
-        assert_eq!(rt; Stage::after_line(3, ran, quantum), want, "at {ran} of {quantum}");
+        assert_eq!(rt;
+            Stage::after_line(3, ran, quantum),
+            want,
+            "at {ran} of {quantum}"
+        );
     }
 }
 

@@ -1,7 +1,7 @@
 -- The engine's state, as it stands for a state of the private machine: at rest between two turns, and in a turn.
 -- A task that no turn runs is seen as its saved registers (the bytes of component 1), its place, and whether it has
 -- ended; the task in a turn has its registers in the bank.
-use Rattle.std.specs.Prelude.{◌≡◌, ℕ, ◌+◌, ◌-◌, ◌<◌, ◌≤◌, Bool, true, false, ◌==◌, List, [], ◌∷◌, length, map, replicate, slice_get, slice_index_or, slice_range, slice_set, Option, Some, None, if◌then◌else◌}
+use Rattle.std.specs.Prelude.{◌≡◌, ℕ, ◌+◌, ◌-◌, ◌<◌, ◌≤◌, Bool, true, false, ◌==◌, List, [], ◌∷◌, length, map, replicate, slice_get, slice_index_or, slice_range, slice_set, Option, Some, None, ◌⊎◌, if◌then◌else◌}
 use Rattle.xs_base.specs.declared.component.Row.{Row}
 use Rattle.xs_base.specs.declared.component.Place.{Place}
 use Rattle.xs_base.specs.Bytes.{zeros, splice}
@@ -132,6 +132,25 @@ AfterLines script bank last tasks history t from place false =
 -- a task that hasn't ended
 abbrev pub IsNext : List SavedTask → ℕ → Type 0
 IsNext tasks t = (t < length tasks) × ((task_at tasks t).ended ≡ false)
+
+-- no task from a place on is left
+abbrev pub NoneFrom : List SavedTask → ℕ → Type 0
+NoneFrom tasks from = (t : ℕ) → from ≤ t → t < length tasks → (task_at tasks t).ended ≡ true
+
+-- the first task from a place on that hasn't ended
+pub record IsFirst (tasks : List SavedTask) (from t : ℕ) : Type 0 where
+  pub after : from ≤ t
+  pub lives : IsNext tasks t
+  pub first : (u : ℕ) → from ≤ u → u < t → (task_at tasks u).ended ≡ true
+
+-- the place behind the task that was started last
+abbrev pub behind : Option ℕ → ℕ
+behind None = 0
+behind (Some last) = last + 1
+
+-- The tasks have their turns round and round, in the order of their blocks.
+abbrev pub IsInOrder : List SavedTask → Option ℕ → ℕ → Type 0
+IsInOrder tasks last t = IsFirst tasks (behind last) t ⊎ (NoneFrom tasks (behind last) × IsFirst tasks 0 t)
 
 -- every task has ended
 abbrev pub NoneLives : List SavedTask → Type 0

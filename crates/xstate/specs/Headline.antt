@@ -28,6 +28,7 @@ pub record Headline (left left' written written' : Option (List ℕ)) : Type 0 w
 pub record Refusal (left left' written written' : Option (List ℕ)) : Type 0 where
   pub input : List ℕ
   pub read : Consumes left left' input
+  pub most : length input ≤ limit + 1
   pub ended : length input ≤ limit → IsAtEnd left'
   pub refused : IsRefused input
   pub text : Appends written written' refused_text

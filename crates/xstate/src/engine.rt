@@ -5,7 +5,7 @@ ghost use Rattle.xs_base.specs.Layout.{amx_rows};
 ghost use Rattle.xs_model.specs.Machine.{how_of};
 ghost use Rattle.xs_model.specs.Script.{IsValid, IsBuilt, IsCommand};
 ghost use Rattle.xs_model.specs.History.{IsWhole};
-ghost use Rattle.xstate.specs.Engine.{IsAtRest, IsInTurn, AfterLine, AfterLines, task_at, is_last, fresh_tasks, with_task, body_at, IsNext, NoneLives, work};
+ghost use Rattle.xstate.specs.Engine.{IsAtRest, IsInTurn, AfterLine, AfterLines, task_at, is_last, fresh_tasks, with_task, body_at, IsFirst, IsInOrder, IsNext, NoneFrom, NoneLives, work};
 
 #[cfg(test)]
 mod tests;
@@ -77,6 +77,7 @@ impl Engine {
     fn next_task(&self) -> Option<u32>
         requires { vec_len self.now.tasks ≤ 64 }
         ensures some { IfSome result (λ t. IsNext self.now.tasks.items t) }
+        ensures order { IfSome result (λ t. IsInOrder self.now.tasks.items self.now.last t) }
         ensures none { IfNone result (NoneLives self.now.tasks.items) }
     {
         let first = match self.last {
@@ -225,8 +226,8 @@ fn lines_of(script: &Script, task: u32) -> &[Order]
 /// The first task from a place on that hasn't ended.
 fn first_living(tasks: &[Parked], from: usize) -> Option<u32>
     requires { length tasks.now ≤ 64 }
-    ensures some { IfSome result (λ t. IsNext tasks.now t) }
-    ensures none { IfNone result ((t : ℕ) → from ≤ t → t < length tasks.now → (task_at tasks.now t).ended ≡ true) }
+    ensures some { IfSome result (λ t. IsFirst tasks.now from t) }
+    ensures none { IfNone result (NoneFrom tasks.now from) }
 {
     let mut at = from;
     while at < tasks.len() {

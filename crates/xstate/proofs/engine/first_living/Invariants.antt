@@ -4,7 +4,7 @@ use Rattle.xstate.specs.Engine.{task_at}
 use Rattle.xstate.proofs.engine.first_living.Given as goal
 
 abbrev pub invariant-loop-at : goal.invariant-loop-at
-invariant-loop-at l = (t : ℕ) → l.from ≤ t → t < l.at → t < length l.tasks → (task_at l.tasks t).ended ≡ true
+invariant-loop-at l = (l.from ≤ l.at) × ((t : ℕ) → l.from ≤ t → t < l.at → (task_at l.tasks t).ended ≡ true)
 
 abbrev pub decreases-loop-at : goal.decreases-loop-at
 decreases-loop-at l = length l.tasks - l.at
