@@ -106,26 +106,6 @@ impl Engine {
         How::Load
     }
 
-    /// Begins a turn of the task.
-    fn begin(&mut self, script: &Script, task: u32) -> Result<(), AllocError>
-        requires built { IsBuilt script.now }
-        requires rest { IsAtRest script.now self.old.bank.registers self.old.last self.old.tasks.items self.old.history }
-        requires here { task < vec_len self.old.tasks }
-        requires lives { (task_at self.old.tasks.items task).ended ≡ false }
-        ensures turn { OnOk result (IsInTurn script.now self.new.bank.registers self.new.last self.new.tasks.items self.new.history task (task_at self.old.tasks.items task).place 0) }
-        ensures tasks { self.new.tasks.items ≡ self.old.tasks.items }
-    {
-        let how = self.restore(task);
-        self.last = Some(task);
-        self.history.push(Event::Start {
-            task,
-            cpu: 0,
-            how,
-            signal: None,
-        })?;
-        Ok(())
-    }
-
     /// Runs the line at the task's place, and answers what the block does then.
     fn run_line(
         &mut self,
@@ -177,28 +157,7 @@ impl Engine {
         Ok(Pause { place, over: false })
     }
 
-    /// Saves the task whose lines ran, and ends it where its body has ended.
-    fn leave(
-        &mut self,
-        script: &Script,
-        task: u32,
-        from: usize,
-        pause: Pause,
-    ) -> Result<(), AllocError>
-        requires here { task < vec_len self.old.tasks }
-        requires after { AfterLines script.now self.old.bank.registers self.old.last self.old.tasks.items self.old.history task from pause.place pause.over }
-        ensures rest { OnOk result (IsAtRest script.now self.new.bank.registers self.new.last self.new.tasks.items self.new.history) }
-        ensures tasks { OnOk result (self.new.tasks.items ≡ with_task self.old.tasks.items task self.old.bank.registers pause.place (not pause.over)) }
-    {
-        self.tasks[task as usize].save(&self.bank, pause.place, !pause.over);
-        if pause.over {
-            return Ok(());
-        }
-        self.history.push(Event::End { task })?;
-        Ok(())
-    }
-
-    /// One turn of a task: its Start, its lines, and its end where its body has ended.
+    /// One turn of a task: its Start, its lines, the save of its registers, and its end where its body has ended.
     fn turn(&mut self, script: &Script, task: u32) -> Result<(), AllocError>
         requires valid { IsValid script.now }
         requires built { IsBuilt script.now }
@@ -208,9 +167,20 @@ impl Engine {
         ensures progress { OnOk result (work script.now.blocks self.new.tasks.items < work script.now.blocks self.old.tasks.items) }
     {
         let from = self.tasks[task as usize].place();
-        self.begin(script, task)?;
+        let how = self.restore(task);
+        self.last = Some(task);
+        self.history.push(Event::Start {
+            task,
+            cpu: 0,
+            how,
+            signal: None,
+        })?;
         let pause = self.run_lines(script, task, from)?;
-        self.leave(script, task, from, pause)?;
+        self.tasks[task as usize].save(&self.bank, pause.place, !pause.over);
+        if pause.over {
+            return Ok(());
+        }
+        self.history.push(Event::End { task })?;
         Ok(())
     }
 }
