@@ -21,8 +21,8 @@ run_lines-requires-clause-turn c =
     let tasks = ap (λ (engine : Engine). engine.tasks.items) c.restore-how.ensures.others in
     let history = ap (λ (engine : Engine). engine.history) c.restore-how.ensures.others in
     rw (c.in_ok-push.ensures.ok, history, tasks, begins (goal.at.run_lines-requires-clause-turn c).After-place-from)
-      (turn_starts c.args.script.now before.bank.registers before.last before.tasks.items before.history c.args.task c.restore-how.result
-        c.restore-how.new.self.bank.registers c.requires.built c.requires.rest c.requires.next.0 c.requires.next.1 c.restore-how.ensures.how c.restore-how.ensures.bank)
+    (turn_starts c.args.script.now before.bank.registers before.last before.tasks.items before.history c.args.task c.restore-how.result
+    c.restore-how.new.self.bank.registers c.requires.built c.requires.rest c.requires.next.0 c.requires.next.1 c.restore-how.ensures.how c.restore-how.ensures.bank)
 
 pub run_lines-requires-clause-start : goal.run_lines-requires-clause-start
 run_lines-requires-clause-start c =
@@ -36,8 +36,8 @@ falls : (c : In_ok-pause) → c.place-from.result ≡ (task_at c.args.self.now.t
 falls c place =
     let during = c.run_lines.new.self in
     turn_falls c.args.script.now during.bank.registers during.last during.tasks.items during.history c.args.self.now.tasks.items c.args.task
-      c.place-from.result c.in_ok-pause.pause.place during.bank.registers c.in_ok-pause.pause.over
-      c.requires.rest.known c.requires.next.0 c.requires.next.1 (sym place) c.in_ok-pause.ensures.after
+    c.place-from.result c.in_ok-pause.pause.place during.bank.registers c.in_ok-pause.pause.over
+    c.requires.rest.known c.requires.next.0 c.requires.next.1 (sym place) c.in_ok-pause.ensures.after
 
 pub returns-then-pause-clause-progress : goal.returns-then-pause-clause-progress
 returns-then-pause-clause-progress c =
@@ -49,8 +49,8 @@ pub returns-clause-rest : goal.returns-clause-rest
 returns-clause-rest c =
     let during = c.run_lines.new.self in
     rw (c.save.ensures, c.if-pause.false, c.in_ok-push-2.ensures.ok)
-      (leaves c.args.script.now during.bank.registers during.last during.tasks.items during.history c.args.task c.place-from.result
-        c.in_ok-pause.pause.place c.in_ok-pause.pause.over c.if-pause.false c.in_ok-pause.ensures.after)
+    (leaves c.args.script.now during.bank.registers during.last during.tasks.items during.history c.args.task c.place-from.result
+    c.in_ok-pause.pause.place c.in_ok-pause.pause.over c.if-pause.false c.in_ok-pause.ensures.after)
 
 pub returns-clause-progress : goal.returns-clause-progress
 returns-clause-progress c =
