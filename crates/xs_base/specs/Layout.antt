@@ -3,7 +3,6 @@
 use Rattle.std.specs.Prelude.{ℕ, ◌+◌, ◌^◌, Bool, true, not, ◌&&◌, ◌==◌, List, [], ◌∷◌, max, if◌then◌else◌}
 use Rattle.std.specs.List.{list_any}
 use Rattle.xs_base.specs.declared.component.Row.{Row}
-use Rattle.xs_base.specs.declared.component.Comp.{Comp}
 use Rattle.xs_base.specs.Component.{component_numbers}
 
 abbrev pub row : ℕ → ℕ → ℕ → ℕ → Row

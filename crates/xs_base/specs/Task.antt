@@ -1,6 +1,6 @@
 -- The private task: what one user task owns, as if it had a processor to itself. It has a whole register file, and
 -- nothing of a save area but whether that has room for tiles. The place is how many lines of its body it has run.
-use Rattle.std.specs.Prelude.{ℕ, Bool, true, false, ◌&&◌, List, if◌then◌else◌}
+use Rattle.std.specs.Prelude.{ℕ, Bool, false, ◌&&◌, List, if◌then◌else◌}
 use Rattle.xs_base.specs.declared.component.Row.{Row}
 use Rattle.xs_base.specs.Bytes.{zeros}
 use Rattle.xs_base.specs.Component.{component_numbers}

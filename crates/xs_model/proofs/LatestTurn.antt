@@ -1,6 +1,6 @@
 -- Looking back from a place for the latest turn of a task.
-use Rattle.std.proofs.Common.{◌≡◌, ℕ, zero, suc, ◌+◌, ◌-◌, ◌<◌, ◌==◌, true, List, [], ◌∷◌, length, drop, get_or, refl, sym, ◌∙◌, ap, arith, eq-eqb, drop-cons, add-one}
-use Rattle.std.specs.Prelude.{Option, Some, None, if◌then◌else◌}
+use Rattle.std.proofs.Common.{◌≡◌, ℕ, zero, suc, ◌+◌, ◌<◌, List, [], ◌∷◌, length, drop, get_or, refl, sym, ◌∙◌, ap, eq-eqb, drop-cons, add-one}
+use Rattle.std.specs.Prelude.{Option, Some, None}
 use Rattle.xs_base.specs.declared.words.How.{How}
 use Rattle.xs_base.specs.declared.words.Signo.{Signo}
 use Rattle.xs_model.specs.declared.event.Event.{Event}

@@ -1,6 +1,6 @@
 -- The answers to inputs.
-use Rattle.std.proofs.Common.{◌≡◌, ℕ, ◌+◌, ◌<◌, ◌≤◌, Bool, false, List, [], ◌∷◌, ◌++◌, length, refl, sym, ap, ◌∙◌, subst, inl, inr, arith}
-use Rattle.std.specs.Prelude.{Option, ◌⊎◌}
+use Rattle.std.proofs.Common.{◌≡◌, ℕ, ◌<◌, false, List, [], ◌∷◌, length, refl, sym, subst, inl, inr, arith}
+use Rattle.std.specs.Prelude.{Option}
 use Rattle.xs_model.specs.declared.script.Script.{Script}
 use Rattle.xs_model.specs.declared.event.Event.{Event}
 use Rattle.xs_model.specs.declared.event.Event.TheVariants as events
@@ -10,7 +10,7 @@ use Rattle.xstate.specs.declared.status.Status.{Status}
 use Rattle.xstate.specs.declared.status.Status.TheVariants as statuses
 use Rattle.xstate.specs.Grammar.{Spells}
 use Rattle.xstate.specs.Text.{history_text, AreTasksKnown}
-use Rattle.xstate.specs.Answers.{IsAccepted, IsRefused, IsOutput, RunsTo, AnswerEnds, TellEnds, WriteEnds, refused_text, limit}
+use Rattle.xstate.specs.Answers.{IsAccepted, IsRefused, RunsTo, AnswerEnds, TellEnds, WriteEnds, refused_text, limit}
 use Rattle.xstate.proofs.LegalTasks.{legal_tasks}
 
 -- no task is killed in a run

@@ -1,11 +1,9 @@
 -- The registers that a save area in the standard format stands for.
-use Rattle.std.proofs.Common.{◌≡◌, ℕ, ◌+◌, ◌≤◌, ◌==◌, Bool, true, false, List, [], ◌∷◌, length, refl, sym, ap, ◌∙◌, arith}
+use Rattle.std.proofs.Common.{◌≡◌, ℕ, ◌+◌, List, [], ◌∷◌, length, refl, sym, ap, ◌∙◌, arith}
 use Rattle.std.proofs.lemmas.List.{length-replicate}
 use Rattle.std.specs.Prelude.{slice_range}
-use Rattle.std.specs.Int.{from_le_bytes, w64}
 use Rattle.xs_base.specs.Bytes.{zeros, splice}
 use Rattle.xs_base.specs.Header.{xstate_bv}
-use Rattle.xs_base.specs.Sets.{has}
 use Rattle.xstate.specs.Engine.{registers_in}
 use Rattle.xstate.proofs.SpliceLemmas.{length-splice, range-splice_same, range-splice_before}
 

@@ -1,10 +1,8 @@
 -- The engine before the first event.
-use Rattle.std.proofs.Common.{◌≡◌, ℕ, zero, suc, ◌+◌, ◌<◌, ◌≤◌, List, [], ◌∷◌, length, refl, sym, ap, ◌∙◌, arith}
-use Rattle.std.proofs.lemmas.List.{length-replicate, get_or-replicate}
-use Rattle.std.specs.Prelude.{Option, Some, None, map, replicate, slice_get}
+use Rattle.std.proofs.Common.{◌≡◌, ℕ, zero, suc, List, [], ◌∷◌, length, refl, sym, ap, ◌∙◌, arith}
+use Rattle.std.proofs.lemmas.List.{length-replicate}
+use Rattle.std.specs.Prelude.{None, map}
 use Rattle.std.specs.List.{AllByRecursion}
-use Rattle.xs_base.specs.declared.component.Row.{Row}
-use Rattle.xs_base.specs.Bytes.{zeros}
 use Rattle.xs_base.specs.Layout.{amx_rows}
 use Rattle.xs_base.specs.Task.{PrivateTask, root_task}
 use Rattle.xs_model.specs.declared.script.BlockKind.TheVariants as kinds
@@ -12,11 +10,10 @@ use Rattle.xs_model.specs.declared.script.Named.{Named}
 use Rattle.xs_model.specs.declared.script.Named.TheVariants.{Amx}
 use Rattle.xs_model.specs.declared.script.Block.{Block}
 use Rattle.xs_model.specs.declared.script.Script.{Script}
-use Rattle.xs_model.specs.declared.stage.Stage.{Stage}
 use Rattle.xs_model.specs.declared.stage.Stage.TheVariants as stages
-use Rattle.xs_model.specs.Machine.{BlockState, Machine, opening_block, opening_stage, opening}
+use Rattle.xs_model.specs.Machine.{BlockState, Machine, opening_block, opening_stage}
 use Rattle.xs_model.specs.Script.{IsBuilt, rows_of}
-use Rattle.xstate.specs.Engine.{SavedTask, fresh, fresh_tasks, task_at, block_at_rest, machine_at_rest, IsAtRest}
+use Rattle.xstate.specs.Engine.{fresh, fresh_tasks, task_at, block_at_rest, IsAtRest}
 use Rattle.xstate.proofs.TaskLemmas.{root_fresh}
 use Rattle.xstate.proofs.HeldLemmas.{held_at_first}
 

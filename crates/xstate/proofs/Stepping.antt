@@ -1,5 +1,5 @@
 -- Runs of the private machine, one event more.
-use Rattle.std.proofs.Common.{◌≡◌, List, [], ◌∷◌, ◌++◌, refl, sym, subst}
+use Rattle.std.proofs.Common.{List, [], ◌∷◌, ◌++◌, refl, subst}
 use Rattle.xs_model.specs.declared.event.Event.{Event}
 use Rattle.xs_model.specs.Machine.{Machine, Step}
 use Rattle.xs_model.specs.History.{Run}

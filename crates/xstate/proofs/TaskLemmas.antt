@@ -1,10 +1,9 @@
 -- The private tasks that the engine's states stand for.
-use Rattle.std.proofs.Common.{◌≡◌, ℕ, ◌+◌, ◌*◌, ◌<◌, ◌≤◌, List, [], ◌∷◌, length, get_or, set, refl, sym, ap, ◌∙◌, subst, arith}
+use Rattle.std.proofs.Common.{◌≡◌, ℕ, ◌+◌, ◌*◌, ◌≤◌, List, [], ◌∷◌, length, get_or, refl, sym, ap, ◌∙◌, subst, arith}
 use Rattle.std.proofs.lemmas.List.{get_or-set_same, set-set}
-use Rattle.std.specs.Prelude.{false, slice_index_or, slice_set, slice_range}
+use Rattle.std.specs.Prelude.{false, slice_range}
 use Rattle.xs_base.specs.declared.component.Row.{Row}
 use Rattle.xs_base.specs.declared.component.Place.{Place}
-use Rattle.xs_base.specs.declared.component.Comp.{Comp}
 use Rattle.xs_base.specs.Bytes.{zeros, splice}
 use Rattle.xs_base.specs.Component.{sizes, component_size, initial_part}
 use Rattle.xs_base.specs.Layout.{amx_rows}
@@ -15,7 +14,7 @@ use Rattle.xs_model.specs.declared.script.Command.{Command}
 use Rattle.xs_model.specs.declared.script.Command.TheVariants as commands
 use Rattle.xs_model.specs.declared.event.Reply.{Reply}
 use Rattle.xs_model.specs.declared.event.Reply.TheVariants as replies
-use Rattle.xs_model.specs.Machine.{Runs, past}
+use Rattle.xs_model.specs.Machine.{Runs}
 use Rattle.xstate.specs.Engine.{task_with, BankRuns}
 
 -- a root task has the machine's components

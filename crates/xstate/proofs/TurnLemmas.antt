@@ -1,16 +1,14 @@
 -- Turns: what the engine does at a Start, at a line and at an end is a step of the private machine.
-use Rattle.std.proofs.Common.{◌≡◌, ℕ, zero, suc, ◌+◌, ◌<◌, ◌≤◌, ◌==◌, ◌||◌, Bool, true, false, List, [], ◌∷◌, ◌++◌, length, get_or, set, refl, sym, ap, ◌∙◌, subst, inl, inr, arith, eq-eqb, ltb-true}
+use Rattle.std.proofs.Common.{◌≡◌, ℕ, zero, suc, ◌+◌, ◌<◌, ◌≤◌, ◌||◌, Bool, true, false, List, [], ◌∷◌, ◌++◌, length, get_or, set, refl, sym, ap, ◌∙◌, subst, inl, inr, arith, eq-eqb, ltb-true}
 use Rattle.std.proofs.lemmas.List.{set-set, length-set, length-map, map-set, get_or-set_same, get_or-set_other}
 use Rattle.std.proofs.lemmas.Bool.{cases_eq}
 use Rattle.std.proofs.lemmas.Option.{slice_get-get_or, slice_get-map, slice_get_within, slice_get_read}
-use Rattle.std.specs.Prelude.{Option, Some, None, map, slice_get, slice_set, if◌then◌else◌}
+use Rattle.std.specs.Prelude.{Option, Some, None, map, slice_get, if◌then◌else◌}
 use Rattle.std.specs.Option.{option_map}
 use Rattle.std.specs.List.{list_any, AllByRecursion}
 use Rattle.xs_base.specs.declared.words.How.{How}
-use Rattle.xs_base.specs.declared.words.How.TheVariants as hows
 use Rattle.xs_base.specs.Layout.{amx_rows}
-use Rattle.xs_base.specs.Task.{PrivateTask, root_task, parked, marks_after}
-use Rattle.xs_model.specs.declared.script.BlockKind.{BlockKind}
+use Rattle.xs_base.specs.Task.{PrivateTask, parked, marks_after}
 use Rattle.xs_model.specs.declared.script.BlockKind.TheVariants as kinds
 use Rattle.xs_model.specs.declared.script.Order.{Order}
 use Rattle.xs_model.specs.declared.script.Block.{Block}
@@ -18,10 +16,9 @@ use Rattle.xs_model.specs.declared.script.Script.{Script}
 use Rattle.xs_model.specs.declared.event.Event.{Event}
 use Rattle.xs_model.specs.declared.event.Event.TheVariants as events
 use Rattle.xs_model.specs.declared.event.Reply.{Reply}
-use Rattle.xs_model.specs.declared.stage.Stage.{Stage}
 use Rattle.xs_model.specs.declared.stage.Stage.TheVariants as stages
 use Rattle.xs_model.specs.Held.{held, is_kernel}
-use Rattle.xs_model.specs.Machine.{BlockState, Machine, is_on, how_of, goes_on, Starts, RunsLine, Ends, opening, stage_after, committing_after, task_after, happened}
+use Rattle.xs_model.specs.Machine.{BlockState, Machine, is_on, how_of, goes_on, Starts, RunsLine, Ends, opening, stage_after, happened}
 use Rattle.xs_model.specs.History.{Run}
 use Rattle.xs_model.specs.Script.{IsBuilt}
 use Rattle.xstate.specs.Engine.{SavedTask, task_at, body_of, body_at, task_with, block_at_rest, block_in_turn, machine_at_rest, machine_in_turn, is_last, IsAtRest, IsInTurn, AfterLine, AfterLines, BankRuns, with_task}

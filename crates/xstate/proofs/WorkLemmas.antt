@@ -1,15 +1,14 @@
 -- What is left to do falls at each turn, and where nothing is left the history is whole.
-use Rattle.std.proofs.Common.{◌≡◌, ℕ, zero, suc, ◌+◌, ◌-◌, ◌<◌, ◌≤◌, ◌||◌, Bool, true, false, not, List, [], ◌∷◌, length, get_or, set, refl, sym, ap, ◌∙◌, subst, arith}
-use Rattle.std.specs.Prelude.{Option, Some, None, map, slice_get, if◌then◌else◌}
+use Rattle.std.proofs.Common.{◌≡◌, ℕ, zero, suc, ◌+◌, ◌-◌, ◌<◌, ◌||◌, Bool, true, false, not, List, [], ◌∷◌, length, set, refl, ap, arith}
+use Rattle.std.specs.Prelude.{Option, Some, map, slice_get, if◌then◌else◌}
 use Rattle.std.specs.List.{list_any}
 use Rattle.xs_model.specs.declared.script.Block.{Block}
 use Rattle.xs_model.specs.declared.script.Script.{Script}
 use Rattle.xs_model.specs.declared.event.Event.{Event}
-use Rattle.xs_model.specs.declared.stage.Stage.{Stage}
 use Rattle.xs_model.specs.declared.stage.Stage.TheVariants as stages
 use Rattle.xs_model.specs.Machine.{BlockState}
 use Rattle.xs_model.specs.History.{lives, IsWhole}
-use Rattle.xstate.specs.Engine.{SavedTask, task_at, body_of, body_at, block_at_rest, machine_at_rest, IsAtRest, AfterLines, NoneLives, with_task, work_of, work}
+use Rattle.xstate.specs.Engine.{SavedTask, task_at, body_at, block_at_rest, machine_at_rest, IsAtRest, AfterLines, NoneLives, with_task, work_of, work}
 use Rattle.xstate.proofs.TurnLemmas.{turn_lines}
 
 -- Less work for one task is less work in all.

@@ -1,6 +1,6 @@
 -- What `xstate` answers: which command lines it takes, which inputs it accepts, and what it writes for them. All of it
 -- is this project's own.
-use Rattle.std.specs.Prelude.{◌≡◌, ℕ, ◌+◌, ◌≤◌, Bool, false, List, [], ◌∷◌, ◌++◌, length, codes, Option, Some, None, ⊤, ◌⊎◌}
+use Rattle.std.specs.Prelude.{◌≡◌, ℕ, ◌+◌, ◌≤◌, false, List, [], ◌∷◌, ◌++◌, length, codes, Option, ◌⊎◌}
 use Rattle.std.specs.Io.KnownBytes.{Appends, Consumes, IsAtEnd}
 use Rattle.xs_io.specs.Causes.{Rose}
 use Rattle.xs_model.specs.declared.script.Script.{Script}

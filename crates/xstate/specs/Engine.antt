@@ -2,7 +2,6 @@
 -- A task that no turn runs is seen as its saved registers (the bytes of component 1), its place, and whether it has
 -- ended; the task in a turn has its registers in the bank.
 use Rattle.std.specs.Prelude.{◌≡◌, ℕ, ◌+◌, ◌-◌, ◌<◌, ◌≤◌, Bool, true, false, ◌==◌, List, [], ◌∷◌, length, map, replicate, slice_get, slice_index_or, slice_range, slice_set, Option, Some, None, ◌⊎◌, if◌then◌else◌}
-use Rattle.xs_base.specs.declared.component.Row.{Row}
 use Rattle.xs_base.specs.declared.component.Place.{Place}
 use Rattle.xs_base.specs.Bytes.{zeros, splice}
 use Rattle.xs_base.specs.Sets.{has}

@@ -1,5 +1,4 @@
 -- The engine is between two turns; each turn leaves less to do.
-use Rattle.xs_model.specs.declared.script.Script.{Script}
 use Rattle.xstate.specs.Engine.{IsAtRest, work}
 use Rattle.xstate.proofs.engine.run.Given as goal
 

@@ -1,4 +1,4 @@
-use Rattle.std.proofs.Common.{◌<◌, ◌+◌, length, ap, arith}
+use Rattle.std.proofs.Common.{◌<◌, length, ap, arith}
 use Rattle.std.specs.Prelude.{Err}
 use Rattle.xstate.specs.Answers.{limit}
 use Rattle.xstate.proofs.AnswerLemmas.{too_long, spells_none, refused_told, run_told}

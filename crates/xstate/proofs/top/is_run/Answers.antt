@@ -1,5 +1,5 @@
 use Rattle.std.proofs.Common.{ap, ◌∙◌, List, ℕ}
-use Rattle.std.specs.Prelude.{bytes_eq, codes, string_bytes}
+use Rattle.std.specs.Prelude.{bytes_eq, string_bytes}
 use Rattle.xstate.proofs.CommandWords.{is_run_word}
 use Rattle.xstate.proofs.top.is_run.Goals as goal
 

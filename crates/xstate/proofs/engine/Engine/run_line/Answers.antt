@@ -1,4 +1,3 @@
-use Rattle.std.proofs.Common.{◌≡◌, ◌<◌, length, ap, arith}
 use Rattle.xstate.proofs.TurnLemmas.{turn_line, body_found}
 use Rattle.xstate.proofs.engine.Engine.run_line.Goals as goal
 

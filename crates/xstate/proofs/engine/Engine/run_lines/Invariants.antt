@@ -1,7 +1,5 @@
 -- The turn is open, and below its quantum; no task between its turns has changed.
-use Rattle.std.proofs.Common.{◌≡◌, ◌-◌, ◌<◌, ◌≤◌, length}
-use Rattle.xs_model.specs.declared.script.Script.{Script}
-use Rattle.xstate.specs.Engine.{IsInTurn, SavedTask, body_at}
+use Rattle.std.proofs.Common.{◌-◌}
 use Rattle.xstate.proofs.EngineLoops.{IsRunning}
 use Rattle.xstate.proofs.engine.Engine.run_lines.Given as goal
 

@@ -1,6 +1,5 @@
-use Rattle.std.proofs.Common.{◌≡◌, ap, ◌∙◌, length, vec_len, sym}
+use Rattle.std.proofs.Common.{ap, ◌∙◌, length}
 use Rattle.std.specs.Prelude.{false}
-use Rattle.xs_base.specs.Bytes.{zeros}
 use Rattle.xstate.specs.Engine.{registers_in, SavedTask}
 use Rattle.xstate.proofs.AreaLemmas.{registers_in-zeros, length-zeros}
 use Rattle.xstate.proofs.parked.Parked.new.Goals as goal
