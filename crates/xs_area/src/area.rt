@@ -9,7 +9,9 @@ use byteorder::{ByteOrder, LittleEndian};
 /// 512 to 575 the header (SDM volume 1, 13.4).
 #[derive(Debug, Drop)]
 pub struct Area {
+    /// The area's number.
     pub id: u64,
+    /// The area's bytes, at least 576.
     pub bytes: Vec<u8>,
 }
 

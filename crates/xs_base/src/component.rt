@@ -78,16 +78,23 @@ impl Features {
 /// alignment to 64 bytes in the compacted format, bit 2 support of XFD.
 #[derive(Clone, Copy, PartialEq, Eq, Debug)]
 pub struct Row {
+    /// The component's number.
     pub comp: Comp,
+    /// Its bytes.
     pub size: u32,
+    /// The byte of the standard format that it begins at.
     pub offset: u32,
+    /// The bits of ECX.
     pub flags: u32,
 }
 
 /// Where a register stands: `len` bytes of a component, from `offset` on.
 #[derive(Clone, Copy, PartialEq, Eq, Debug)]
 pub struct Place {
+    /// The component.
     pub comp: Comp,
+    /// The byte of the component that the register begins at.
     pub offset: u32,
+    /// The register's bytes, at most 64.
     pub len: u32,
 }

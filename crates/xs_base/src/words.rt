@@ -7,9 +7,13 @@ pub struct Signo(pub u8);
 /// An error's number in Linux (`errno-base.h`, `errno.h`): ESRCH, EFAULT, EINVAL, EOPNOTSUPP.
 #[derive(Clone, Copy, PartialEq, Eq, Debug)]
 pub enum Errno {
+    /// No such process.
     Srch = 3,
+    /// A bad address.
     Fault = 14,
+    /// An invalid argument.
     Invalid = 22,
+    /// Not supported.
     NotSupported = 95,
 }
 
@@ -17,14 +21,19 @@ pub enum Errno {
 /// them, or none, for a kernel thread.
 #[derive(Clone, Copy, PartialEq, Eq, Debug)]
 pub enum How {
+    /// They are restored.
     Load,
+    /// The bank still has them.
     Skip,
+    /// A kernel thread has none.
     Kern,
 }
 
 /// A register set of ptrace: NT_X86_XSTATE or NT_PRFPREG.
 #[derive(Clone, Copy, PartialEq, Eq, Debug)]
 pub enum Set {
+    /// Every component, in the standard format.
     Xstate,
+    /// x87 and SSE, in the format of FXSAVE.
     Fx,
 }

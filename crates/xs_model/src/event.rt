@@ -10,28 +10,42 @@ use xs_base::{How, Lane, Signo};
 /// What a line answers.
 #[derive(Drop)]
 pub enum Reply {
+    /// The line was done and has nothing to tell.
     Done,
     /// 1 to 64 bytes.
     Bytes(Lane),
+    /// A count of bytes, or 0.
     Count(u32),
     /// An error's number.
     Error(u32),
+    /// The task waits for its child.
     Blocked,
+    /// The child is stopped.
     Stopped,
+    /// The child has ended.
     Ended,
+    /// The task is stopped.
     Held,
+    /// The whole frame was restored.
     Full,
+    /// The legacy part of the frame was restored.
     Legacy,
 }
 
 /// Why a task was killed: no permission for tiles, no Large area, or a signal frame that is refused.
 #[derive(Clone, Copy, PartialEq, Eq, Debug)]
 pub enum Why {
+    /// The task has no permission to use tiles.
     Permission,
+    /// No Large area is free.
     Area,
+    /// The frame has components that the task may not use.
     FrameFeatures,
+    /// The frame is in the compacted format.
     FrameCompacted,
+    /// Reserved bytes of the frame aren't zero.
     FrameReserved,
+    /// The frame's MXCSR has a bit above 15.
     FrameMxcsr,
 }
 

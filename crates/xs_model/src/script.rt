@@ -14,8 +14,11 @@ pub enum Named {
 /// What a block of lines is: a task from the start, a task that a fork makes, or a kernel thread.
 #[derive(Clone, Copy, PartialEq, Eq, Debug)]
 pub enum BlockKind {
+    /// A task from the start.
     Task,
+    /// A task that a fork makes.
     Child,
+    /// A kernel thread.
     Kthread,
 }
 
@@ -31,16 +34,22 @@ pub enum Command {
 /// A line of a block: its number in the script, counted from 1, and its command.
 #[derive(Drop)]
 pub struct Order {
+    /// The number of the line in the script, from 1.
     pub number: u32,
+    /// What the line asks.
     pub command: Command,
 }
 
 /// A block: the lines between its first line and `end`. The handler is empty where there is none.
 #[derive(Drop)]
 pub struct Block {
+    /// What the block is.
     pub kind: BlockKind,
+    /// Its name, which no other block has.
     pub name: Name,
+    /// Its lines outside the handler.
     pub body: Items<Order>,
+    /// The lines of its signal handler.
     pub handler: Items<Order>,
 }
 
@@ -48,10 +57,16 @@ pub struct Block {
 /// 1 to 32; `large` the number of Large save areas, 0 to 64; `sched` the processors of a replay, in turn.
 #[derive(Drop)]
 pub struct Script {
+    /// The machine.
     pub machine: Named,
+    /// The number of processors.
     pub cpus: u32,
+    /// The most Local events of a turn.
     pub quantum: u32,
+    /// The number of Large save areas.
     pub large: u32,
+    /// The processors of a replay, in turn.
     pub sched: Items<u32>,
+    /// The blocks, 1 to 64, in the order of the text.
     pub blocks: Items<Block>,
 }

@@ -38,7 +38,7 @@ spells_none input none script accepted = none script accepted.spelled
 -- an input that is refused, once that was told
 pub refused_told : (input : List ℕ) (written written' : Option (List ℕ)) (faults faults' : ℕ) (result : Status) → IsRefused input → TellEnds statuses.Refused refused_text written written' faults faults' result → AnswerEnds input written written' faults faults' result
 refused_told input written written' faults faults' result refused told = elim told [
-  | inl told ↦ subst (λ (status : Status). AnswerEnds input written written' faults faults' status) (sym told.0) (refused, told.1)
+  | inl told ↦ subst (λ (status : Status). AnswerEnds input written written' faults faults' status) (sym told.0) (told.1, refused, told.2)
   | inr failed ↦ subst (λ (status : Status). AnswerEnds input written written' faults faults' status) (sym failed.0) (failed.1, refused_text, inr (refused, refl), failed.2)
 ]
 
@@ -54,7 +54,7 @@ runs_to input script history accepted whole = record {
 
 -- an input that is a script, once its history was written
 pub run_told : (input : List ℕ) (script : Script) (written written' : Option (List ℕ)) (faults faults' : ℕ) (result : Status) → IsAccepted input script → WriteEnds script written written' faults faults' result → AnswerEnds input written written' faults faults' result
-run_told input script written written' faults faults' statuses.Done accepted ends = (history_text script ends.0, runs_to input script ends.0 accepted ends.1, ends.2)
+run_told input script written written' faults faults' statuses.Done accepted ends = (ends.0, history_text script ends.1, runs_to input script ends.1 accepted ends.2, ends.3)
 run_told input script written written' faults faults' statuses.Refused accepted ends = absurd ends
 run_told input script written written' faults faults' statuses.ReadFault accepted ends = absurd ends
 run_told input script written written' faults faults' statuses.WriteFault accepted ends = (ends.0, history_text script ends.1, inl (runs_to input script ends.1 accepted ends.2), ends.3)

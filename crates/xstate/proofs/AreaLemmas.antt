@@ -4,12 +4,8 @@ use Rattle.std.proofs.lemmas.List.{length-replicate}
 use Rattle.std.specs.Prelude.{slice_range}
 use Rattle.xs_base.specs.Bytes.{zeros, splice}
 use Rattle.xs_base.specs.Header.{xstate_bv}
-use Rattle.xstate.specs.Engine.{registers_in}
+use Rattle.xstate.specs.Engine.{registers_in, sse_alone}
 use Rattle.xstate.proofs.SpliceLemmas.{length-splice, range-splice_same, range-splice_before}
-
--- XSTATE_BV with component 1 alone
-abbrev pub sse_alone : List ℕ
-sse_alone = 2 ∷ 0 ∷ 0 ∷ 0 ∷ 0 ∷ 0 ∷ 0 ∷ 0 ∷ []
 
 -- What was saved is what the area stands for.
 pub registers_saved : (area registers : List ℕ) → length area ≡ 576 → length registers ≡ 256 → registers_in (splice 512 sse_alone (splice 160 registers area)) ≡ registers

@@ -53,40 +53,59 @@ pub record IsRead (left left' : Option (List ℕ)) (input : List ℕ) : Type 0 w
   pub most : length input ≤ limit + 1
   pub whole : length input ≤ limit → IsAtEnd left'
 
+-- No more was taken of the source than one byte above the limit.
+pub record TakesAtMost (left left' : Option (List ℕ)) : Type 0 where
+  pub bytes : List ℕ
+  pub taken : Consumes left left' bytes
+  pub most : length bytes ≤ limit + 1
+
 -- How the answer to an input ends, by the status: what was written, and the count of the sink's faults.
 abbrev pub AnswerEnds : List ℕ → Option (List ℕ) → Option (List ℕ) → ℕ → ℕ → Status → Type 0
-AnswerEnds input written written' faults faults' statuses.Done = (text : List ℕ) × RunsTo input text × Appends written written' text
-AnswerEnds input written written' faults faults' statuses.Refused = IsRefused input × Appends written written' refused_text
+AnswerEnds input written written' faults faults' statuses.Done = (faults' ≡ faults) × (text : List ℕ) × RunsTo input text × Appends written written' text
+AnswerEnds input written written' faults faults' statuses.Refused = (faults' ≡ faults) × IsRefused input × Appends written written' refused_text
 AnswerEnds input written written' faults faults' statuses.ReadFault = ⊥
 AnswerEnds input written written' faults faults' statuses.WriteFault = Rose faults faults' × (text : List ℕ) × IsOutput input text × AppendsFront written written' text
-AnswerEnds input written written' faults faults' statuses.NoMemory = written' ≡ written
+AnswerEnds input written written' faults faults' statuses.NoMemory = (faults' ≡ faults) × (written' ≡ written)
 AnswerEnds input written written' faults faults' statuses.Usage = ⊥
 
--- How a text that is told in place of a history ends.
+-- How a text ends that is told with a status.
 abbrev pub TellEnds : Status → List ℕ → Option (List ℕ) → Option (List ℕ) → ℕ → ℕ → Status → Type 0
 TellEnds status text written written' faults faults' result =
-    ((result ≡ status) × Appends written written' text) ⊎ ((result ≡ statuses.WriteFault) × Rose faults faults' × AppendsFront written written' text)
-
--- How `run` ends.
-abbrev pub RunEnds : Option (List ℕ) → Option (List ℕ) → ℕ → ℕ → Option (List ℕ) → Option (List ℕ) → ℕ → ℕ → Status → Type 0
-RunEnds left left' reads reads' written written' writes writes' statuses.Done = (input : List ℕ) × IsRead left left' input × AnswerEnds input written written' writes writes' statuses.Done
-RunEnds left left' reads reads' written written' writes writes' statuses.Refused = (input : List ℕ) × IsRead left left' input × AnswerEnds input written written' writes writes' statuses.Refused
-RunEnds left left' reads reads' written written' writes writes' statuses.ReadFault = Rose reads reads' × (written' ≡ written)
-RunEnds left left' reads reads' written written' writes writes' statuses.WriteFault = (input : List ℕ) × IsRead left left' input × AnswerEnds input written written' writes writes' statuses.WriteFault
-RunEnds left left' reads reads' written written' writes writes' statuses.NoMemory = written' ≡ written
-RunEnds left left' reads reads' written written' writes writes' statuses.Usage = ⊥
+    ((result ≡ status) × (faults' ≡ faults) × Appends written written' text) ⊎ ((result ≡ statuses.WriteFault) × Rose faults faults' × AppendsFront written written' text)
 
 -- How the run of a script ends.
 abbrev pub WriteEnds : Script → Option (List ℕ) → Option (List ℕ) → ℕ → ℕ → Status → Type 0
-WriteEnds script written written' faults faults' statuses.Done = (history : List Event) × IsWhole script history × Appends written written' (history_text script history)
+WriteEnds script written written' faults faults' statuses.Done = (faults' ≡ faults) × (history : List Event) × IsWhole script history × Appends written written' (history_text script history)
 WriteEnds script written written' faults faults' statuses.Refused = ⊥
 WriteEnds script written written' faults faults' statuses.ReadFault = ⊥
 WriteEnds script written written' faults faults' statuses.WriteFault = Rose faults faults' × (history : List Event) × IsWhole script history × AppendsFront written written' (history_text script history)
-WriteEnds script written written' faults faults' statuses.NoMemory = written' ≡ written
+WriteEnds script written written' faults faults' statuses.NoMemory = (faults' ≡ faults) × (written' ≡ written)
 WriteEnds script written written' faults faults' statuses.Usage = ⊥
 
--- What was written is a front of what the words and the input ask for.
+-- The input was read without a fault, and its answer ends so.
+abbrev pub ReadAndEnds : Option (List ℕ) → Option (List ℕ) → ℕ → ℕ → (List ℕ → Type 0) → Type 0
+ReadAndEnds left left' reads reads' Ends = (reads' ≡ reads) × (input : List ℕ) × IsRead left left' input × Ends input
+
+-- How `run` ends.
+abbrev pub RunEnds : Option (List ℕ) → Option (List ℕ) → ℕ → ℕ → Option (List ℕ) → Option (List ℕ) → ℕ → ℕ → Status → Type 0
+RunEnds left left' reads reads' written written' writes writes' statuses.Done = ReadAndEnds left left' reads reads' (λ input. AnswerEnds input written written' writes writes' statuses.Done)
+RunEnds left left' reads reads' written written' writes writes' statuses.Refused = ReadAndEnds left left' reads reads' (λ input. AnswerEnds input written written' writes writes' statuses.Refused)
+RunEnds left left' reads reads' written written' writes writes' statuses.ReadFault = Rose reads reads' × TakesAtMost left left' × (writes' ≡ writes) × (written' ≡ written)
+RunEnds left left' reads reads' written written' writes writes' statuses.WriteFault = ReadAndEnds left left' reads reads' (λ input. AnswerEnds input written written' writes writes' statuses.WriteFault)
+RunEnds left left' reads reads' written written' writes writes' statuses.NoMemory = (reads' ≡ reads) × TakesAtMost left left' × (writes' ≡ writes) × (written' ≡ written)
+RunEnds left left' reads reads' written written' writes writes' statuses.Usage = ⊥
+
+-- What was written is a front of what the words and the input ask for. Of wrong words nothing was read.
 abbrev pub IsFront : List (List ℕ) → Option (List ℕ) → Option (List ℕ) → Option (List ℕ) → Option (List ℕ) → Type 0
 IsFront words left left' written written' =
-    ((IsRun words → ⊥) × AppendsFront written written' usage_text)
+    ((IsRun words → ⊥) × (left' ≡ left) × AppendsFront written written' usage_text)
     ⊎ (IsRun words × (input text : List ℕ) × IsRead left left' input × IsOutput input text × AppendsFront written written' text)
+
+-- Neither count of faults rose but where the status says so.
+abbrev pub Unfailed : ℕ → ℕ → ℕ → ℕ → Status → Type 0
+Unfailed reads reads' writes writes' statuses.Done = (reads' ≡ reads) × (writes' ≡ writes)
+Unfailed reads reads' writes writes' statuses.Refused = (reads' ≡ reads) × (writes' ≡ writes)
+Unfailed reads reads' writes writes' statuses.ReadFault = writes' ≡ writes
+Unfailed reads reads' writes writes' statuses.WriteFault = reads' ≡ reads
+Unfailed reads reads' writes writes' statuses.NoMemory = (reads' ≡ reads) × (writes' ≡ writes)
+Unfailed reads reads' writes writes' statuses.Usage = (reads' ≡ reads) × (writes' ≡ writes)

@@ -30,9 +30,13 @@ pub record SavedTask : Type 0 where
   pub place : ℕ
   pub ended : Bool
 
--- The XMM registers that a save area in the standard format stands for (SDM volume 1, 13.4.1 and 13.6).
+-- The XMM registers that a save area in the standard format stands for (SDM volume 1, 13.4 and 13.8).
 unfoldable pub registers_in : List ℕ → List ℕ
 registers_in area = if has (xstate_bv area) 1 then slice_range area 160 416 else zeros 256
+
+-- the bytes of an XSTATE_BV that has component 1 alone
+abbrev pub sse_alone : List ℕ
+sse_alone = 2 ∷ 0 ∷ 0 ∷ 0 ∷ 0 ∷ 0 ∷ 0 ∷ 0 ∷ []
 
 -- a task that has had no turn
 abbrev pub fresh : SavedTask

@@ -13,6 +13,7 @@ use xs_model::{Command, Reply};
 /// The sixteen XMM registers, XMM 0 first, 16 bytes each.
 #[derive(Drop)]
 pub struct Bank {
+    /// The bytes of the registers, in the order of component 1 (SDM volume 1, 13.5.2).
     pub registers: [u8; 256],
 }
 

@@ -1,11 +1,10 @@
 //! The engine of one processor: it runs the tasks of a script by turns, and keeps their registers apart.
 
-ghost use Rattle.std.specs.Prelude.{◌≡◌, ℕ, ◌+◌, ◌<◌, ◌≤◌, true, false, not, ◌∷◌, [], ◌++◌, length, slice_get, vec_len, slice_set, IfOk, OnOk, IfSome, IfNone, Some};
-ghost use Rattle.xs_base.specs.Layout.{amx_rows};
+ghost use Rattle.std.specs.Prelude.{◌≡◌, ◌+◌, ◌<◌, ◌≤◌, length, vec_len, IfOk, OnOk, IfSome, IfNone, Some};
 ghost use Rattle.xs_model.specs.Machine.{how_of};
-ghost use Rattle.xs_model.specs.Script.{IsValid, IsBuilt, IsCommand};
+ghost use Rattle.xs_model.specs.Script.{IsValid, IsBuilt};
 ghost use Rattle.xs_model.specs.History.{IsWhole};
-ghost use Rattle.xstate.specs.Engine.{IsAtRest, IsInTurn, AfterLine, AfterLines, task_at, is_last, fresh_tasks, with_task, body_at, IsFirst, IsInOrder, IsNext, NoneFrom, NoneLives, work};
+ghost use Rattle.xstate.specs.Engine.{IsAtRest, IsInTurn, AfterLine, AfterLines, task_at, is_last, fresh_tasks, body_at, IsFirst, IsInOrder, IsNext, NoneFrom, NoneLives, work};
 
 #[cfg(test)]
 mod tests;

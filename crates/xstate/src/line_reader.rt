@@ -1,7 +1,6 @@
 //! The lines of a script, read.
 
-ghost use Rattle.std.specs.Prelude.{◌≡◌, ◌^◌, ◌<◌, ◌≤◌, List, ℕ, ◌∷◌, ◌++◌, length, codes, decimal, MatchOption, IfSome};
-ghost use Rattle.hex.specs.Hex.{encode_lower};
+ghost use Rattle.std.specs.Prelude.{◌^◌, ◌<◌, List, ℕ, ◌++◌, length, codes, decimal, MatchOption, IfSome};
 ghost use Rattle.xs_base.specs.Layout.{amx_rows};
 ghost use Rattle.xs_model.specs.Script.{IsCommand};
 ghost use Rattle.xstate.specs.ScriptLine.{command_text};
@@ -16,7 +15,9 @@ use xs_model::{Command, Name};
 /// A line of a block after its first.
 #[derive(Drop)]
 pub enum BodyLine {
+    /// A command.
     Order(Command),
+    /// `end`
     End,
 }
 

@@ -1,8 +1,8 @@
 //! A task between its turns.
 
-ghost use Rattle.std.specs.Prelude.{◌≡◌, length, IfOk, true};
-ghost use Rattle.xs_base.specs.Bytes.{zeros};
-ghost use Rattle.xstate.specs.Engine.{registers_in};
+ghost use Rattle.std.specs.Prelude.{◌≡◌, length, IfOk};
+ghost use Rattle.xs_base.specs.Bytes.{splice, zeros};
+ghost use Rattle.xstate.specs.Engine.{registers_in, sse_alone};
 
 use crate::bank::{Bank, put};
 use std::alloc::{AllocError, Global};
@@ -88,6 +88,7 @@ fn save_registers(area: &mut [u8], registers: &[u8])
     requires size { length area.old ≡ 576 }
     requires many { length registers.now ≡ 256 }
     ensures saved { registers_in area.new ≡ registers.now }
+    ensures written { area.new ≡ splice 512 sse_alone (splice 160 registers.now area.old) }
     ensures len { length area.new ≡ 576 }
 {
     put(area, 160, registers);

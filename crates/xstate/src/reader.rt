@@ -18,7 +18,9 @@ use xs_model::{Block, BlockKind, Items, Name, Named, Order, Script};
 /// Why no script was read: the text is no script of the forms that are built, or there was no memory.
 #[derive(Debug, Drop)]
 pub enum ScriptError {
+    /// The text is no script of the forms of this version.
     NotBuilt,
+    /// There was no memory for the script.
     Memory,
 }
 

@@ -1,6 +1,6 @@
 //! The registers of this version, by their names.
 
-ghost use Rattle.std.specs.Prelude.{◌≡◌, ◌≤◌, length, MatchOption, IfSome};
+ghost use Rattle.std.specs.Prelude.{◌≤◌, length, MatchOption, IfSome};
 ghost use Rattle.xs_base.specs.declared.component.Place.{Place};
 ghost use Rattle.xs_base.specs.Layout.{amx_rows};
 ghost use Rattle.xs_base.specs.Register.{IsRegister};

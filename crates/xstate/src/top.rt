@@ -4,7 +4,7 @@ ghost use Rattle.std.specs.Prelude.{◌≡◌, ℕ, List, ◌⊎◌, ◌↔◌, 
 ghost use Rattle.std.specs.Io.KnownBytes.{Appends};
 ghost use Rattle.xs_io.specs.Causes.{Rose};
 ghost use Rattle.xs_model.specs.Script.{IsValid, IsBuilt};
-ghost use Rattle.xstate.specs.Answers.{IsRun, AnswerEnds, TellEnds, RunEnds, WriteEnds, IsFront, usage_text};
+ghost use Rattle.xstate.specs.Answers.{IsRun, AnswerEnds, TellEnds, RunEnds, WriteEnds, IsFront, TakesAtMost, Unfailed, usage_text};
 ghost use Rattle.xstate.specs.Headline.{Headline, Refusal, Judges};
 ghost use Rattle.xstate.specs.Text.{AreTasksKnown, history_text};
 
@@ -53,13 +53,16 @@ pub fn top<S: Source, K: Sink>(
     ensures exactly { (input : List ℕ) → S.left source.old ≡ Some input → IsRun (map string_bytes words.now) → Judges input result }
     // 4: only where the source failed in this call, and nothing was written.
     ensures read_fault { result ≡ Status.ReadFault → Rose (S.fault_count source.old) (S.fault_count source.new)
-        × (K.written sink.new ≡ K.written sink.old) }
+        × TakesAtMost (S.left source.old) (S.left source.new) × (K.written sink.new ≡ K.written sink.old) }
     // 5: only where the sink failed in this call.
     ensures write_fault { result ≡ Status.WriteFault → Rose (K.fault_count sink.old) (K.fault_count sink.new) }
     // What was written before a write failed is a front of the right output.
     ensures front { result ≡ Status.WriteFault → IsFront (map string_bytes words.now) (S.left source.old) (S.left source.new) (K.written sink.old) (K.written sink.new) }
-    // 6: there was no memory, and nothing was written.
-    ensures no_memory { result ≡ Status.NoMemory → IsRun (map string_bytes words.now) × (K.written sink.new ≡ K.written sink.old) }
+    // 6: nothing was written. It is the answer to want of memory, for which no clause can ask.
+    ensures no_memory { result ≡ Status.NoMemory → IsRun (map string_bytes words.now)
+        × TakesAtMost (S.left source.old) (S.left source.new) × (K.written sink.new ≡ K.written sink.old) }
+    // No fault is passed over: the source failed only at 4, and the sink only at 5.
+    ensures unfailed { Unfailed (S.fault_count source.old) (S.fault_count source.new) (K.fault_count sink.old) (K.fault_count sink.new) result }
 {
     if is_run(words) {
         run_command(alloc, source, sink)
