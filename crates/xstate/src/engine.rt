@@ -45,13 +45,13 @@ pub fn run(alloc: Global, script: &Script) -> Result<History, AllocError>
     Ok(history)
 }
 
-/// As many tasks that have had no turn, each with an area of its own.
+/// So many tasks that have had no turn, each with an area of its own.
 fn open_tasks(alloc: Global, count: usize) -> Result<Vec<Parked>, AllocError>
     ensures { IfOk result (λ tasks. tasks.items ≡ fresh_tasks count) }
 {
     let mut tasks = Vec::new(alloc);
-    for id in 0..count {
-        tasks.push(Parked::new(alloc, id as u64)?)?;
+    'each: while tasks.len() < count {
+        tasks.push(Parked::new(alloc)?)?;
     }
     Ok(tasks)
 }

@@ -33,13 +33,13 @@ impl Model for Parked {
 impl Parked {
     ghost use Rattle.xstate.specs.Engine.{fresh};
 
-    /// A task that has had no turn. Its area is zero and has this number.
-    pub fn new(alloc: Global, id: u64) -> Result<Parked, AllocError>
+    /// A task that has had no turn. Its area is zero, and has no number: this version's bank knows no area again.
+    pub fn new(alloc: Global) -> Result<Parked, AllocError>
         ensures { IfOk result (λ task. task ≡ fresh) }
     {
         let bytes = zeros_of(alloc, 576)?;
         Ok(Parked {
-            area: Area { id, bytes },
+            area: Area { id: 0, bytes },
             place: 0,
             ended: false,
         })
