@@ -12,10 +12,10 @@ use Rattle.xs_base.specs.Register.{IsRegister}
 use Rattle.xs_model.specs.declared.script.Named.TheVariants as machines
 use Rattle.xs_model.specs.declared.script.Command.TheVariants as commands
 use Rattle.xs_model.specs.declared.script.Command.{Command}
-use Rattle.xs_model.specs.Script.{IsCommand}
+use Rattle.xs_model.specs.Script.{is_name, IsCommand}
 use Rattle.xstate.specs.ScriptLine.{ScriptLine}
 use Rattle.xstate.specs.ScriptLine as lines
-use Rattle.xstate.specs.ScriptLine.{line_text, command_text, IsLine}
+use Rattle.xstate.specs.ScriptLine.{line_text, command_text}
 use Rattle.xstate.specs.Reads.{Lacks}
 use Rattle.xstate.specs.declared.line_reader.BodyLine.{BodyLine}
 use Rattle.xstate.specs.declared.line_reader.BodyLine.TheVariants.{Order as OrderLine, End as EndLine}
@@ -23,6 +23,17 @@ use Rattle.xstate.specs.Parts.{body_line_text, IsBodyLine, task_text, IsTask}
 use Rattle.xstate.proofs.Cuts.{Lacks-append, Lacks-decimal, Lacks-name, Lacks-hex, one_cut}
 use Rattle.xstate.proofs.Lanes.{one_lane}
 use Rattle.xstate.proofs.Registers.{register_is, one_place}
+
+-- The line has a spelling: its numbers, names and registers are such.
+abbrev pub IsLine : ScriptLine → Type 0
+IsLine lines.Version = Unit {0}
+IsLine (lines.Machine named) = Unit {0}
+IsLine (lines.Cpus n) = n < 2 ^ 32
+IsLine (lines.Quantum n) = n < 2 ^ 32
+IsLine (lines.Large n) = n < 2 ^ 32
+IsLine (lines.Task name) = is_name name ≡ true
+IsLine (lines.Order command) = IsCommand amx_rows command
+IsLine lines.End = Unit {0}
 
 -- the text begins with the word
 abbrev begins : List ℕ → List ℕ → Bool

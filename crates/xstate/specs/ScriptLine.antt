@@ -1,13 +1,10 @@
--- The one spelling of each line of a script, and the lines that have a spelling. The script language is this
--- project's own.
-use Rattle.std.specs.Prelude.{◌≡◌, ℕ, ◌^◌, ◌<◌, true, List, ◌∷◌, ◌++◌, codes, decimal}
+-- The one spelling of each line of a script. The script language is this project's own.
+use Rattle.std.specs.Prelude.{ℕ, List, ◌∷◌, ◌++◌, codes, decimal}
 use Rattle.hex.specs.Hex.{encode_lower}
-use Rattle.xs_base.specs.Layout.{amx_rows}
 use Rattle.xs_model.specs.declared.script.Named.{Named}
 use Rattle.xs_model.specs.declared.script.Named.TheVariants.{Amx}
 use Rattle.xs_model.specs.declared.script.Command.{Command}
 use Rattle.xs_model.specs.declared.script.Command.TheVariants as commands
-use Rattle.xs_model.specs.Script.{is_name, IsCommand}
 
 -- A line of a script, without its line feed: `xstate 1`, `machine NAME`, `cpus N`, `quantum N`, `large N`, the first line
 -- of a block, a command, and `end`.
@@ -38,14 +35,3 @@ line_text (Large n) = codes "large " ++ decimal n
 line_text (Task name) = codes "task " ++ name
 line_text (Order command) = command_text command
 line_text End = codes "end"
-
--- The line has a spelling: its numbers, names and registers are such.
-abbrev pub IsLine : ScriptLine → Type 0
-IsLine Version = Unit {0}
-IsLine (Machine named) = Unit {0}
-IsLine (Cpus n) = n < 2 ^ 32
-IsLine (Quantum n) = n < 2 ^ 32
-IsLine (Large n) = n < 2 ^ 32
-IsLine (Task name) = is_name name ≡ true
-IsLine (Order command) = IsCommand amx_rows command
-IsLine End = Unit {0}

@@ -28,10 +28,11 @@ use xs_io::{StdSink, StdSource};
 /// The last flush is made here, since a buffer that is dropped loses its error: where it fails the output was not all
 /// taken, and the status is that of a failed write.
 fn main(rt: HostRuntime) -> ExitCode {
-    ExitCode::from(run(&rt).code())
+    ExitCode::from(answer(&rt).code())
 }
 
-fn run(rt: &HostRuntime) -> Status {
+/// Answers the command line, and flushes.
+fn answer(rt: &HostRuntime) -> Status {
     let alloc = rt.alloc();
     let Ok(words) = command_line(rt) else {
         return Status::NoMemory;

@@ -10,6 +10,18 @@ use std::marker::Model;
 use xs_area::{Area, xstate_bv};
 use xs_base::{Comp, Features};
 
+/// The bytes of the legacy region and the header (SDM volume 1, 13.4).
+const AREA_BYTES: usize = 576;
+
+/// Where the XMM registers stand in the legacy region (SDM volume 1, 13.4.1).
+const XMM: usize = 160;
+
+/// The bytes of the XMM registers.
+const XMM_BYTES: usize = 256;
+
+/// Where the header stands, and in it XSTATE_BV (SDM volume 1, 13.4.2).
+const HEADER: usize = 512;
+
 /// A task that no turn runs: its save area of 576 bytes in the standard format, its place, and whether it has ended.
 /// Contracts see the registers that the area stands for.
 #[derive(Drop)]
@@ -37,7 +49,7 @@ impl Parked {
     pub fn new(alloc: Global) -> Result<Parked, AllocError>
         ensures { IfOk result (λ task. task ≡ fresh) }
     {
-        let bytes = zeros_of(alloc, 576)?;
+        let bytes = zeros_of(alloc, AREA_BYTES)?;
         Ok(Parked {
             area: Area { id: 0, bytes },
             place: 0,
@@ -75,7 +87,8 @@ impl Parked {
         ensures { bank.new.registers ≡ self.now.registers }
     {
         if Features(xstate_bv(&self.area.bytes)).has(Comp(1)) {
-            bank.registers.copy_from_slice(&self.area.bytes[160..416]);
+            bank.registers
+                .copy_from_slice(&self.area.bytes[XMM..XMM + XMM_BYTES]);
         } else {
             bank.registers = [0; 256];
         }
@@ -91,8 +104,8 @@ fn save_registers(area: &mut [u8], registers: &[u8])
     ensures written { area.new ≡ splice 512 sse_alone (splice 160 registers.now area.old) }
     ensures len { length area.new ≡ 576 }
 {
-    put(area, 160, registers);
-    put(area, 512, &[2, 0, 0, 0, 0, 0, 0, 0]);
+    put(area, XMM, registers);
+    put(area, HEADER, &[2, 0, 0, 0, 0, 0, 0, 0]);
 }
 
 /// A vector of `len` zeros.

@@ -15,6 +15,15 @@ use crate::words::after;
 use std::alloc::Global;
 use xs_model::{Block, BlockKind, Items, Name, Named, Order, Script};
 
+/// The greatest quantum, in Local events.
+const MOST_QUANTUM: u32 = 32;
+
+/// The most Large save areas.
+const MOST_LARGE: u32 = 64;
+
+/// The most blocks of a script.
+const MOST_BLOCKS: usize = 64;
+
 /// Why no script was read: the text is no script of the forms that are built, or there was no memory.
 #[derive(Debug, Drop)]
 pub enum ScriptError {
@@ -65,11 +74,11 @@ fn read_head(text: &[u8]) -> Option<(u32, u32, &[u8])>
     if quantum < 1 {
         return None;
     }
-    if quantum > 32 {
+    if quantum > MOST_QUANTUM {
         return None;
     }
     let (large, rest) = next_count(b"large ", rest)?;
-    if large > 64 {
+    if large > MOST_LARGE {
         return None;
     }
     Some((quantum, large, rest))
@@ -85,7 +94,7 @@ fn read_blocks(alloc: Global, text: &[u8]) -> Result<Items<Block>, ScriptError>
     let mut number = 6;
     let mut left = text;
     'each: while !left.is_empty() {
-        if blocks.len() == 64 {
+        if blocks.len() == MOST_BLOCKS {
             return Err(ScriptError::NotBuilt);
         }
         let (block, rest) = match read_block(alloc, number, left) {

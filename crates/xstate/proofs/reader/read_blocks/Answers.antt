@@ -2,8 +2,8 @@ use Rattle.std.proofs.Common.{arith, length-append, ◌∙◌, sym}
 use Rattle.xstate.proofs.Blocks.{Refuses-map, not_empty, is_empty, no_65th, no_next, no_repeated, no_blocks, blocks_push, AreBlocks-push, AreDistinct-push, line_after-push}
 use Rattle.xstate.proofs.reader.read_blocks.Goals as goal
 
-pub returns-then-len-eq64-clause-refused : goal.returns-then-len-eq64-clause-refused
-returns-then-len-eq64-clause-refused c =
+pub returns-then-len-eq-MOST_BLOCKS-clause-refused : goal.returns-then-len-eq-MOST_BLOCKS-clause-refused
+returns-then-len-eq-MOST_BLOCKS-clause-refused c =
     let inv = c.each.invariant in
     no_65th c.args.text.now c.each.left.now c.each.blocks inv.fits inv.parts (not_empty c.each.left.now _ c.is_empty.ensures c.each-test.true) (omega arith)
 
