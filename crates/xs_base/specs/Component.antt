@@ -13,6 +13,10 @@ component_numbers = 0 ∷ 1 ∷ 2 ∷ 5 ∷ 6 ∷ 7 ∷ 9 ∷ 17 ∷ 18 ∷ []
 unfoldable pub sizes : List ℕ
 sizes = 160 ∷ 256 ∷ 256 ∷ 0 ∷ 0 ∷ 64 ∷ 512 ∷ 1024 ∷ 0 ∷ 8 ∷ 0 ∷ 0 ∷ 0 ∷ 0 ∷ 0 ∷ 0 ∷ 0 ∷ 64 ∷ 8192 ∷ []
 
+-- how many numbers the table of sizes has
+abbrev pub component_count : ℕ
+component_count = 19
+
 -- the bytes of component c
 unfoldable pub component_size : ℕ → ℕ
 component_size c = slice_index sizes c

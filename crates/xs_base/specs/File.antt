@@ -1,13 +1,13 @@
 -- A register file: the bytes of every component, by its number, and MXCSR beside component 1.
 -- A number that the machine doesn't have keeps its initial bytes, but for PKRU, which every task has.
-use Rattle.std.specs.Prelude.{ℕ, ◌+◌, Bool, not, ◌&&◌, ◌||◌, ◌==◌, List, [], ◌++◌, map, bytes_eq, slice_index_or, slice_range, slice_set}
+use Rattle.std.specs.Prelude.{◌≡◌, ℕ, ◌+◌, ◌%◌, ◌^◌, ◌<◌, Bool, true, false, not, ◌&&◌, ◌||◌, ◌==◌, nat_le, nat_lt, List, [], ◌++◌, length, map, bytes_eq, slice_index, slice_index_or, slice_range, slice_set, if◌then◌else◌}
 use Rattle.std.specs.List.{range_with_len}
-use Rattle.std.specs.Int.{to_le_bytes, w32}
+use Rattle.std.specs.Int.{from_le_bytes, to_le_bytes, w32}
 use Rattle.xs_base.specs.declared.component.Row.{Row}
 use Rattle.xs_base.specs.declared.component.Place.{Place}
-use Rattle.xs_base.specs.Bytes.{zeros, splice}
-use Rattle.xs_base.specs.Component.{initial_part, initial_mxcsr}
-use Rattle.xs_base.specs.Layout.{has_row}
+use Rattle.xs_base.specs.Bytes.{zeros, splice, is_within}
+use Rattle.xs_base.specs.Component.{component_count, component_size, initial_part, initial_mxcsr}
+use Rattle.xs_base.specs.Layout.{IsLayout, has_row}
 
 pub record File : Type 0 where
   pub rows : List Row
@@ -24,19 +24,45 @@ with_part file c bytes = record file { parts = slice_set file.parts c bytes }
 
 -- Every component is in its initial configuration (SDM volume 1, 13.6).
 abbrev pub initial_file : List Row → File
-initial_file rows = record { rows = rows; parts = map initial_part (range_with_len 0 19); mxcsr = initial_mxcsr }
+initial_file rows = record { rows = rows; parts = map initial_part (range_with_len 0 component_count); mxcsr = initial_mxcsr }
 
 -- The file with this PKRU. That the upper four bytes of its component are zero is this project's own.
 abbrev pub with_pkru : File → ℕ → File
 with_pkru file value = with_part file 9 (to_le_bytes w32 value ++ zeros 4)
 
+-- Byte k of component c belongs to a register. Byte 5 of component 0, its bytes 24 to 31 and the upper six bytes of each
+-- ST slot, and the upper four bytes of component 9 belong to none.
+abbrev pub is_own : ℕ → ℕ → Bool
+is_own c k =
+    if c == 0 then not (k == 5) && not (is_within 24 8 k) && not (nat_le 32 k && nat_le 10 (k % 16))
+    else if c == 9 then nat_lt k 4
+    else true
+
+-- A file of a machine: each component has its size, what belongs to no register is zero, and what the machine lacks is
+-- initial but for PKRU.
+pub record IsFile (file : File) : Type 0 where
+  pub layout : IsLayout file.rows
+  pub count : length file.parts ≡ component_count
+  pub sizes : (c : ℕ) → c < component_count → length (part file c) ≡ component_size c
+  pub clean : (c k : ℕ) → is_own c k ≡ false → slice_index (part file c) k ≡ 0
+  pub absent : (c : ℕ) → c < component_count → has_row file.rows c ≡ false → (c ≡ 9 → ⊥) → part file c ≡ initial_part c
+  pub control : file.mxcsr < 2 ^ 32
+
+-- MXCSR stands beside the components, in a place of its own name: this is the project's own.
+abbrev pub is_mxcsr : Place → Bool
+is_mxcsr place = (place.comp.0 == 1) && (place.offset == 256)
+
 -- the bytes of a register
 abbrev pub read_place : File → Place → List ℕ
-read_place file place = slice_range (part file place.comp.0) place.offset (place.offset + place.len)
+read_place file place =
+    if is_mxcsr place then to_le_bytes w32 file.mxcsr
+    else slice_range (part file place.comp.0) place.offset (place.offset + place.len)
 
 -- the file with these bytes in a register
 abbrev pub write_place : File → Place → List ℕ → File
-write_place file place bytes = with_part file place.comp.0 (splice place.offset bytes (part file place.comp.0))
+write_place file place bytes =
+    if is_mxcsr place then record file { mxcsr = from_le_bytes w32 bytes }
+    else with_part file place.comp.0 (splice place.offset bytes (part file place.comp.0))
 
 -- Component c of the machine is in use: it isn't in its initial configuration. MXCSR doesn't count. A processor's
 -- XINUSE (SDM volume 1, 13.6) may be 1 for more components than these; that it is just these is this project's own.

@@ -1,9 +1,14 @@
 -- A machine's table of components: a row each, as CPUID leaf 0DH gives them (SDM volume 1, 13.2). That rows 0 and 1
--- stand in the table too, and that rows rise in number, is this project's own.
-use Rattle.std.specs.Prelude.{ℕ, ◌+◌, ◌^◌, Bool, true, not, ◌&&◌, ◌==◌, List, [], ◌∷◌, max, if◌then◌else◌}
+-- stand in the table too, that rows rise in number and in place, and every test of a table is this project's own.
+use Rattle.std.specs.Prelude.{◌≡◌, ℕ, ◌+◌, ◌^◌, Bool, true, false, not, ◌&&◌, ◌||◌, ◌==◌, nat_le, nat_lt, List, [], ◌∷◌, max, Option, Some, None, if◌then◌else◌}
 use Rattle.std.specs.List.{list_any}
 use Rattle.xs_base.specs.declared.component.Row.{Row}
-use Rattle.xs_base.specs.Component.{component_numbers}
+use Rattle.xs_base.specs.declared.layout_error.LayoutError.{LayoutError}
+use Rattle.xs_base.specs.declared.layout_error.LayoutError.TheVariants as errors
+use Rattle.xs_base.specs.declared.layout_error.LayoutFault.{LayoutFault}
+use Rattle.xs_base.specs.First.{first_of}
+use Rattle.xs_base.specs.Sets.{has}
+use Rattle.xs_base.specs.Component.{component_numbers, component_size}
 
 abbrev pub row : ℕ → ℕ → ℕ → ℕ → Row
 row number size offset flags = record { comp = record { 0 = number }; size = size; offset = offset; flags = flags }
@@ -14,9 +19,102 @@ amx_rows =
     row 0 160 0 0 ∷ row 1 256 160 0 ∷ row 2 256 576 0 ∷ row 5 64 1088 0 ∷ row 6 512 1152 0 ∷ row 7 1024 1664 0
     ∷ row 9 8 2688 0 ∷ row 17 64 2752 2 ∷ row 18 8192 2816 6 ∷ []
 
+-- The machine `avx`: x87, SSE and AVX alone.
+unfoldable pub avx_rows : List Row
+avx_rows = row 0 160 0 0 ∷ row 1 256 160 0 ∷ row 2 256 576 0 ∷ []
+
 -- the machine has component c
 unfoldable pub has_row : List Row → ℕ → Bool
 has_row rows c = list_any (λ r. r.comp.0 == c) rows
+
+-- where a row ends in the standard format
+abbrev pub row_end : Row → ℕ
+row_end r = r.offset + r.size
+
+-- ---- the tests of one row, where `before` is the row before it
+
+abbrev pub is_unknown : Row → Bool
+is_unknown r = not (list_any (λ c. c == r.comp.0) component_numbers)
+
+abbrev pub is_repeated : Option Row → Row → Bool
+is_repeated None r = false
+is_repeated (Some before) r = nat_le r.comp.0 before.comp.0
+
+-- Rows 0 and 1 stand in the legacy region, at 0 and at 160 (SDM volume 1, 13.4.1).
+abbrev pub has_wrong_size : Row → Bool
+has_wrong_size r =
+    not (r.size == component_size r.comp.0) || ((r.comp.0 == 0) && not (r.offset == 0)) || ((r.comp.0 == 1) && not (r.offset == 160))
+
+-- A flag above bit 2, a supervisor component, XFD of another component than TILEDATA, TILEDATA without XFD, or a
+-- flag of a legacy component.
+abbrev pub has_wrong_flags : Row → Bool
+has_wrong_flags r =
+    nat_lt 7 r.flags || has r.flags 0 || (has r.flags 2 && not (r.comp.0 == 18)) || (not (has r.flags 2) && (r.comp.0 == 18))
+    || (nat_le r.comp.0 1 && not (r.flags == 0))
+
+-- the greatest end of a component
+abbrev pub most_bytes : ℕ
+most_bytes = 16384
+
+abbrev pub is_too_large : Row → Bool
+is_too_large r = nat_lt most_bytes (row_end r)
+
+-- Below 576 stand the legacy region and the header.
+abbrev pub begins_before : Option Row → Row → Bool
+begins_before None r = nat_lt r.offset 576
+begins_before (Some before) r = nat_lt r.offset 576 || nat_lt r.offset (row_end before)
+
+abbrev pub overlaps : Option Row → Row → Bool
+overlaps before r = nat_le 2 r.comp.0 && begins_before before r
+
+-- the first test that the row fails
+unfoldable pub row_error : Option Row → Row → Option LayoutError
+row_error before r = first_of (
+    (is_unknown r, errors.UnknownComponent)
+    ∷ (is_repeated before r, errors.Repeated)
+    ∷ (r.size == 0, errors.SizeZero)
+    ∷ (has_wrong_size r, errors.SizeWrong)
+    ∷ (has_wrong_flags r, errors.FlagsWrong)
+    ∷ (is_too_large r, errors.TooLarge)
+    ∷ (overlaps before r, errors.Overlap)
+    ∷ [])
+
+-- ---- the tests of a table
+
+abbrev pub lacks_legacy : List Row → Bool
+lacks_legacy rows = not (has_row rows 0 && has_row rows 1)
+
+-- TILECFG or TILEDATA is there without the other
+abbrev pub has_lone_tile : List Row → Bool
+has_lone_tile rows = (has_row rows 17 && not (has_row rows 18)) || (not (has_row rows 17) && has_row rows 18)
+
+-- the first test of the whole table that it fails
+unfoldable pub table_error : List Row → Option LayoutError
+table_error rows = first_of ((lacks_legacy rows, errors.LegacyMissing) ∷ (has_lone_tile rows, errors.TileAlone) ∷ [])
+
+-- an error of this row, or else what comes after
+abbrev pub fault_or : Option ℕ → Option LayoutError → Option LayoutFault → Option LayoutFault
+fault_or at (Some error) later = Some (record { row = at; error = error })
+fault_or at None later = later
+
+-- The first row that fails, by its place, and its error. `before` is the row before these, `at` the place of their first.
+unfoldable pub first_row_fault : Option Row → ℕ → List Row → Option LayoutFault
+first_row_fault before at [] = None
+first_row_fault before at (r ∷ rows) = fault_or (Some at) (row_error before r) (first_row_fault (Some r) (at + 1) rows)
+
+abbrev pub fault_else : Option LayoutFault → Option LayoutFault → Option LayoutFault
+fault_else (Some fault) later = Some fault
+fault_else None later = later
+
+-- the first test that a list of rows fails: each row in turn, then the table
+unfoldable pub layout_fault : List Row → Option LayoutFault
+layout_fault rows = fault_else (first_row_fault None 0 rows) (fault_or None (table_error rows) None)
+
+-- The rows are a machine's table: they pass every test.
+abbrev pub IsLayout : List Row → Type 0
+IsLayout rows = layout_fault rows ≡ None
+
+-- ---- sets and sizes
 
 -- the set of the components that a test names
 unfoldable pub set_of : (ℕ → Bool) → List ℕ → ℕ
@@ -34,7 +132,11 @@ default_features rows = set_of (λ c. has_row rows c && not (c == 18)) component
 -- The end of the last row that a test names, and at least 576, the end of the header.
 unfoldable pub end_of : (ℕ → Bool) → List Row → ℕ
 end_of test [] = 576
-end_of test (r ∷ rows) = if test r.comp.0 then max (r.offset + r.size) (end_of test rows) else end_of test rows
+end_of test (r ∷ rows) = if test r.comp.0 then max (row_end r) (end_of test rows) else end_of test rows
+
+-- the bytes of the standard format with the components of a mask (SDM volume 1, 13.4.3)
+abbrev pub standard_size : List Row → ℕ → ℕ
+standard_size rows mask = end_of (has mask) rows
 
 -- the bytes of the standard format with every component, and with all but TILEDATA
 abbrev pub full_size : List Row → ℕ

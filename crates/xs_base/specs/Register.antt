@@ -1,32 +1,70 @@
--- The names of registers and where each stands in its component. A family is a run of registers that differ in
--- a number: the names are this project's, the places are those of SDM volume 1, 10.5.1 and 13.4.
-use Rattle.std.specs.Prelude.{◌≡◌, ℕ, ◌+◌, ◌*◌, ◌<◌, true, List, [], ◌∷◌, ◌++◌, codes, decimal, Any}
+-- The names of registers and where each stands in its component. The names are this project's, the places are those
+-- of SDM volume 1, 10.5.1, 13.4 and 13.5.
+use Rattle.std.specs.Prelude.{◌≡◌, ℕ, ◌+◌, ◌-◌, ◌*◌, ◌<◌, ◌≤◌, true, List, [], ◌∷◌, ◌++◌, codes, decimal, Any}
 use Rattle.xs_base.specs.declared.component.Row.{Row}
 use Rattle.xs_base.specs.declared.component.Place.{Place}
 use Rattle.xs_base.specs.Layout.{has_row}
 
+abbrev pub place_at : ℕ → ℕ → ℕ → Place
+place_at component offset len = record { comp = record { 0 = component }; offset = offset; len = len }
+
+-- a register with a name of its own
+pub record Single : Type 0 where
+  pub name : List ℕ
+  pub place : Place
+
+abbrev pub single : List ℕ → ℕ → ℕ → ℕ → Single
+single name component offset len = record { name = name; place = place_at component offset len }
+
+abbrev pub singles : List Single
+singles =
+    single (codes "fcw") 0 0 2 ∷ single (codes "fsw") 0 2 2 ∷ single (codes "ftw") 0 4 1 ∷ single (codes "fop") 0 6 2
+    ∷ single (codes "fip") 0 8 8 ∷ single (codes "fdp") 0 16 8 ∷ single (codes "mxcsr") 1 256 4
+    ∷ single (codes "pkru") 9 0 4 ∷ single (codes "tilecfg") 17 0 64 ∷ []
+
+-- A run of registers whose names are a stem and a number: the first has the number `from` and stands at `offset`, and
+-- each next one stands `stride` bytes further.
 pub record Family : Type 0 where
   pub stem : List ℕ
-  pub component : ℕ
+  pub from : ℕ
   pub count : ℕ
-  pub first : ℕ
+  pub component : ℕ
+  pub offset : ℕ
   pub stride : ℕ
   pub len : ℕ
 
--- xmm0 to xmm15
-abbrev pub xmm : Family
-xmm = record { stem = codes "xmm"; component = 1; count = 16; first = 0; stride = 16; len = 16 }
+abbrev pub family : List ℕ → ℕ → ℕ → ℕ → ℕ → ℕ → ℕ → Family
+family stem from count component offset stride len = record { stem = stem; from = from; count = count; component = component; offset = offset; stride = stride; len = len }
 
+-- st0 to st7, xmm0 to xmm15, ymmh0 to ymmh15, k0 to k7, zmmh0 to zmmh15, zmm16 to zmm31
 abbrev pub families : List Family
-families = xmm ∷ []
+families =
+    family (codes "st") 0 8 0 32 16 10 ∷ family (codes "xmm") 0 16 1 0 16 16 ∷ family (codes "ymmh") 0 16 2 0 16 16
+    ∷ family (codes "k") 0 8 5 0 8 8 ∷ family (codes "zmmh") 0 16 6 0 32 32 ∷ family (codes "zmm") 16 16 7 0 64 64 ∷ []
 
--- The name is that of the family's register with this index, which stands at this place.
+-- The name is that of the family's register of this number, which stands at this place.
 pub record IsMember (name : List ℕ) (place : Place) (family : Family) : Type 0 where
   pub index : ℕ
   pub within : index < family.count
-  pub spelled : name ≡ family.stem ++ decimal index
-  pub placed : place ≡ record { comp = record { 0 = family.component }; offset = family.first + family.stride * index; len = family.len }
+  pub spelled : name ≡ family.stem ++ decimal (family.from + index)
+  pub placed : place ≡ place_at family.component (family.offset + family.stride * index) family.len
 
--- The name is that of a register of the machine, which stands at this place.
+-- The name is that of row `row` of tile `tile`: tmm0.0 to tmm7.15.
+pub record IsTileRow (name : List ℕ) (place : Place) : Type 0 where
+  pub tile : ℕ
+  pub row : ℕ
+  pub tiles : tile < 8
+  pub rows : row < 16
+  pub spelled : name ≡ codes "tmm" ++ (decimal tile ++ codes "." ++ decimal row)
+  pub placed : place ≡ place_at 18 (1024 * tile + 64 * row) 64
+
+-- The name names a register, which stands at this place.
+pub data IsNamed (name : List ℕ) (place : Place) : Type 0 where
+  Alone : Any (λ (s : Single). (name ≡ s.name) × (place ≡ s.place)) singles → IsNamed name place
+  Member : Any (IsMember name place) families → IsNamed name place
+  TileRow : IsTileRow name place → IsNamed name place
+
+-- The name is that of a register of the machine, which stands at this place: a machine has the registers of its
+-- components.
 abbrev pub IsRegister : List Row → List ℕ → Place → Type 0
-IsRegister rows name place = Any (IsMember name place) families × (has_row rows place.comp.0 ≡ true)
+IsRegister rows name place = IsNamed name place × (has_row rows place.comp.0 ≡ true)

@@ -5,10 +5,12 @@
 
 mod component;
 mod lane;
+mod layout_error;
 #[cfg(test)]
 mod tests;
 mod words;
 
 pub use component::{Comp, Features, Place, Row};
 pub use lane::Lane;
+pub use layout_error::{LayoutError, LayoutFault};
 pub use words::{Errno, How, Set, Signo};
