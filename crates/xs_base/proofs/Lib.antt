@@ -1,2 +1,5 @@
+pub mod ByteLemmas
+pub mod ComponentLemmas
 pub mod LayoutLemmas
+pub mod StandardLemmas
 pub mod WorkedValues
