@@ -1,7 +1,10 @@
 -- The definitions at worked values: the machine `amx`, and a task before its first turn.
-use Rattle.std.proofs.Common.{◌≡◌, refl}
-use Rattle.xs_base.specs.Component.{sizes, component_size}
+use Rattle.std.proofs.Common.{◌≡◌, ℕ, Bool, true, false, List, [], ◌∷◌, length, refl}
+use Rattle.xs_base.specs.declared.component.Place.{Place}
+use Rattle.xs_base.specs.Component.{sizes, component_size, initial_part}
 use Rattle.xs_base.specs.Layout.{amx_rows, has_row, set_of, end_of, features, default_features, full_size, default_size}
+use Rattle.xs_base.specs.File.{File, initial_file, part, in_use, is_saved}
+use Rattle.xs_base.specs.Task.{PrivateTask, root_task, user_features, user_size}
 
 amx_features : features amx_rows ≡ 0x602e7
 unfolding amx_rows has_row set_of
