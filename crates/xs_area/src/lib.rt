@@ -3,5 +3,8 @@
 #![tactic(auto)]
 
 mod area;
+mod check;
 
 pub use area::{Area, mxcsr, xcomp_bv, xstate_bv};
+pub use check::read_standard;
+pub use xs_base::{HeaderError, Origin, Parts};
