@@ -1,2 +1,6 @@
+pub mod SetLemmas
 pub mod LayoutLemmas
+pub mod SizeLemmas
+pub mod CompactLemmas
+pub mod PlaceLemmas
 pub mod WorkedValues
