@@ -3,4 +3,9 @@ pub mod ComponentLemmas
 pub mod LayoutLemmas
 pub mod RowLemmas
 pub mod StandardLemmas
+pub mod SetLemmas
+pub mod LayoutLemmas
+pub mod SizeLemmas
+pub mod CompactLemmas
+pub mod PlaceLemmas
 pub mod WorkedValues
