@@ -1,6 +1,7 @@
 //! Images of the standard format from outside: whether they may be taken, and what they have.
 
-ghost use Rattle.std.specs.Prelude.{◌≡◌, ◌≤◌, length, MatchResult, Option, Some, None, if◌then◌else◌};
+ghost use Rattle.std.specs.Prelude.{◌≡◌, ◌+◌, ◌≤◌, length, slice_range, MatchResult};
+ghost use Rattle.std.specs.Int.{from_le_bytes, w32};
 ghost use Rattle.xs_base.specs.Layout as table;
 ghost use Rattle.xs_base.specs.HeaderCheck as check;
 
@@ -17,6 +18,7 @@ const MOST_MXCSR: u32 = 0xffff;
 
 /// What an image in the standard format has, at least `full_size` bytes, or the first test that it fails where these
 /// components are allowed (Linux 6.6, arch/x86/kernel/fpu/xstate.c, validate_user_xstate_header).
+#[tactic(auto, using(xs_base::proofs::SizeLemmas::end_low))]
 pub fn read_standard(
     layout: &Layout,
     bytes: &[u8],
@@ -74,6 +76,7 @@ fn checks_mxcsr(origin: Origin, bits: Features) -> bool
 }
 
 /// What an accepted image has.
+#[tactic(auto, using(xs_base::proofs::SizeLemmas::end_low))]
 fn parts_of(layout: &Layout, bytes: &[u8], origin: Origin) -> Parts
     requires { table.full_size layout.now ≤ length bytes.now }
     ensures { result ≡ check.parts_in layout.now origin bytes.now }
@@ -131,14 +134,23 @@ fn pkru_of(layout: &Layout, bytes: &[u8], bits: Features) -> u32
     let Some(row) = row_of(layout, Comp(9)) else {
         return 0;
     };
-    let at = row.offset as usize;
+    number_at(bytes, row.offset as usize)
+}
+
+/// The four bytes from byte `at` on, as a number.
+#[tactic(auto, using(crate::proofs::LittleEndian::four_bytes))]
+fn number_at(bytes: &[u8], at: usize) -> u32
+    requires { at + 4 ≤ length bytes.now }
+    ensures { result ≡ from_le_bytes w32 (slice_range bytes.now at (at + 4)) }
+{
     LittleEndian::read_u32(&bytes[at..at + 4])
 }
 
 /// The row of a component, where there is one.
 #[tactic(auto, using(xs_base::proofs::RowLemmas::row_of_more, xs_base::proofs::RowLemmas::row_of_here, xs_base::proofs::RowLemmas::row_of_all))]
 pub fn row_of(layout: &Layout, comp: Comp) -> Option<Row>
-    ensures { result ≡ table.row_of layout.now comp.0 }
+    ensures row { result ≡ table.row_of layout.now comp.0 }
+    ensures layout { table.IsLayout layout.now }
 {
     'each: for i in 0..layout.len() {
         let row = layout.row_at(i);

@@ -1,11 +1,10 @@
+pub mod SetLemmas
 pub mod ByteLemmas
 pub mod ComponentLemmas
 pub mod LayoutLemmas
 pub mod RowLemmas
-pub mod StandardLemmas
-pub mod SetLemmas
-pub mod LayoutLemmas
 pub mod SizeLemmas
 pub mod CompactLemmas
 pub mod PlaceLemmas
+pub mod StandardLemmas
 pub mod WorkedValues
