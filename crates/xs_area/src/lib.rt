@@ -4,6 +4,7 @@
 
 mod area;
 mod check;
+mod cursor;
 
 pub use area::{Area, mxcsr, xcomp_bv, xstate_bv};
 pub use check::read_standard;
