@@ -1,6 +1,6 @@
 -- A machine's table of components: a row each, as CPUID leaf 0DH gives them (SDM volume 1, 13.2). That rows 0 and 1
 -- stand in the table too, that rows rise in number and in place, and every test of a table is this project's own.
-use Rattle.std.specs.Prelude.{◌≡◌, ℕ, ◌+◌, ◌^◌, Bool, true, false, not, ◌&&◌, ◌||◌, ◌==◌, nat_le, nat_lt, List, [], ◌∷◌, max, Option, Some, None, if◌then◌else◌}
+use Rattle.std.specs.Prelude.{◌≡◌, ℕ, ◌+◌, ◌^◌, ◌<◌, ◌≤◌, Bool, true, false, not, ◌&&◌, ◌||◌, ◌==◌, nat_le, nat_lt, List, [], ◌∷◌, length, max, Option, Some, None, if◌then◌else◌}
 use Rattle.std.specs.List.{list_any}
 use Rattle.xs_base.specs.declared.component.Row.{Row}
 use Rattle.xs_base.specs.declared.layout_error.LayoutError.{LayoutError}
@@ -8,7 +8,7 @@ use Rattle.xs_base.specs.declared.layout_error.LayoutError.TheVariants as errors
 use Rattle.xs_base.specs.declared.layout_error.LayoutFault.{LayoutFault}
 use Rattle.xs_base.specs.First.{first_of}
 use Rattle.xs_base.specs.Sets.{has}
-use Rattle.xs_base.specs.Component.{component_numbers, component_size}
+use Rattle.xs_base.specs.Component.{component_numbers, component_count, component_size}
 
 abbrev pub row : ℕ → ℕ → ℕ → ℕ → Row
 row number size offset flags = record { comp = record { 0 = number }; size = size; offset = offset; flags = flags }
@@ -33,8 +33,12 @@ row_end r = r.offset + r.size
 
 -- ---- the tests of one row, where `before` is the row before it
 
+-- the number is that of a component
+abbrev pub is_known : ℕ → Bool
+is_known number = list_any (λ c. c == number) component_numbers
+
 abbrev pub is_unknown : Row → Bool
-is_unknown r = not (list_any (λ c. c == r.comp.0) component_numbers)
+is_unknown r = not (is_known r.comp.0)
 
 abbrev pub is_repeated : Option Row → Row → Bool
 is_repeated None r = false
@@ -113,6 +117,22 @@ layout_fault rows = fault_else (first_row_fault None 0 rows) (fault_or None (tab
 -- The rows are a machine's table: they pass every test.
 abbrev pub IsLayout : List Row → Type 0
 IsLayout rows = layout_fault rows ≡ None
+
+-- What the tests of a row tell of it, whatever stands before it.
+pub record IsSound (r : Row) : Type 0 where
+  pub known : is_known r.comp.0 ≡ true
+  pub number : r.comp.0 < component_count
+  pub size : r.size ≡ component_size r.comp.0
+  pub some : 0 < r.size
+  pub flags : r.flags ≤ 7
+  pub ends : r.offset + r.size ≤ most_bytes
+  pub x87 : r.comp.0 ≡ 0 → (r.offset ≡ 0) × (r.size ≡ 160)
+  pub sse : r.comp.0 ≡ 1 → (r.offset ≡ 160) × (r.size ≡ 256)
+  pub extended : 2 ≤ r.comp.0 → 576 ≤ r.offset
+
+-- A machine has each component once at most.
+abbrev pub most_rows : ℕ
+most_rows = length component_numbers
 
 -- ---- sets and sizes
 

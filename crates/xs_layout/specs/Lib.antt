@@ -1,0 +1,2 @@
+-- What the fields of a layout keep.
+pub mod Rows

@@ -1,0 +1,8 @@
+//! Machines' tables of components: which components a machine has, their sizes, and where each stands in the
+//! standard and in the compacted format of an area. A layout is a list of rows that passes every test of a table.
+#![tactic(auto)]
+
+mod layout;
+
+pub use layout::Layout;
+pub use xs_base::{LayoutError, LayoutFault, Row};
