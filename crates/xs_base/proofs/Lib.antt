@@ -1,3 +1,7 @@
+pub mod SetLemmas
 pub mod LayoutLemmas
+pub mod SizeLemmas
+pub mod CompactLemmas
+pub mod PlaceLemmas
 pub mod WorkedValues
 pub mod Registers

@@ -27,6 +27,11 @@ avx_rows = row 0 160 0 0 ∷ row 1 256 160 0 ∷ row 2 256 576 0 ∷ []
 unfoldable pub has_row : List Row → ℕ → Bool
 has_row rows c = list_any (λ r. r.comp.0 == c) rows
 
+-- the row of component c, where there is one
+unfoldable pub row_of : List Row → ℕ → Option Row
+row_of [] c = None
+row_of (r ∷ rows) c = if r.comp.0 == c then Some r else row_of rows c
+
 -- where a row ends in the standard format
 abbrev pub row_end : Row → ℕ
 row_end r = r.offset + r.size

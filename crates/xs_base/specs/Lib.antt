@@ -9,4 +9,6 @@ pub mod File
 pub mod Standard
 pub mod Register
 pub mod Header
+pub mod HeaderCheck
+pub mod Area
 pub mod Task

@@ -4,6 +4,7 @@
 #![tactic(auto)]
 
 mod component;
+mod header;
 mod lane;
 mod layout_error;
 #[cfg(test)]
@@ -11,6 +12,7 @@ mod tests;
 mod words;
 
 pub use component::{Comp, Features, Place, Row};
+pub use header::{HeaderError, Origin, Parts};
 pub use lane::Lane;
 pub use layout_error::{LayoutError, LayoutFault};
 pub use words::{Errno, How, Set, Signo};

@@ -24,7 +24,6 @@ use Rattle.xs_model.specs.declared.event.Event.{Event}
 use Rattle.xs_model.specs.declared.event.Event.TheVariants.{Start, Local, Outer, Grow, Kill, End}
 use Rattle.xs_model.specs.declared.stage.Stage.{Stage}
 use Rattle.xs_model.specs.declared.stage.Stage.TheVariants.{Unborn, Ready, Turn, Stopped, Waiting, Ended}
-use Rattle.xs_model.specs.Script.{rows_of}
 use Rattle.xs_model.specs.Held.{held}
 
 -- The state of one block. A kernel thread uses the place of its private task alone.
@@ -51,7 +50,7 @@ opening_block rows block = record { stage = opening_stage block.kind; task = roo
 
 -- the machine before the first event
 abbrev pub opening : Script → Machine
-opening script = record { script = script; blocks = map (opening_block (rows_of script.machine)) script.blocks; committing = None; history = [] }
+opening script = record { script = script; blocks = map (opening_block script.layout) script.blocks; committing = None; history = [] }
 
 -- the machine after an event, with a new state of one block
 abbrev pub happened : Machine → Event → ℕ → BlockState → Option ℕ → Machine

@@ -1,12 +1,12 @@
 -- Scripts: which values are scripts. Every limit and every rule of names here is this project's own.
-use Rattle.std.specs.Prelude.{◌≡◌, ℕ, ◌+◌, ◌<◌, ◌≤◌, Bool, true, false, ◌&&◌, ◌||◌, nat_le, List, [], ◌∷◌, length, map}
+use Rattle.std.specs.Prelude.{◌≡◌, ℕ, ◌+◌, ◌<◌, ◌≤◌, Bool, true, false, ◌&&◌, ◌||◌, ◌==◌, nat_le, nat_lt, List, [], ◌∷◌, length, map}
 use Rattle.std.specs.List.{list_all, AllByRecursion}
 use Rattle.xs_base.specs.declared.component.Row.{Row}
 use Rattle.xs_base.specs.declared.component.Place.{Place}
-use Rattle.xs_base.specs.Layout.{amx_rows}
-use Rattle.xs_base.specs.Register.{IsRegister}
+use Rattle.xs_base.specs.Layout.{IsLayout, amx_rows, avx_rows}
+use Rattle.xs_base.specs.Register.{IsNamed, IsRegister}
 use Rattle.xs_model.specs.declared.script.Named.{Named}
-use Rattle.xs_model.specs.declared.script.Named.TheVariants.{Amx}
+use Rattle.xs_model.specs.declared.script.Named.TheVariants.{Amx, Avx, Rows}
 use Rattle.xs_model.specs.declared.script.BlockKind.TheVariants.{Task}
 use Rattle.xs_model.specs.declared.script.Command.{Command}
 use Rattle.xs_model.specs.declared.script.Command.TheVariants.{Set, Get}
@@ -14,9 +14,12 @@ use Rattle.xs_model.specs.declared.script.Order.{Order}
 use Rattle.xs_model.specs.declared.script.Block.{Block}
 use Rattle.xs_model.specs.declared.script.Script.{Script}
 
--- the table of components of a machine
-abbrev pub rows_of : Named → List Row
-rows_of Amx = amx_rows
+-- The rows are the table of components of a machine: of one with a name its own, and of one that is given by its rows
+-- any table that passes the tests.
+abbrev pub IsTableOf : Named → List Row → Type 0
+IsTableOf Amx rows = rows ≡ amx_rows
+IsTableOf Avx rows = rows ≡ avx_rows
+IsTableOf Rows rows = IsLayout rows
 
 abbrev pub is_letter : ℕ → Bool
 is_letter byte = nat_le 97 byte && nat_le byte 122
@@ -28,6 +31,11 @@ is_letter_or_digit byte = is_letter byte || (nat_le 48 byte && nat_le byte 57)
 abbrev pub is_name : List ℕ → Bool
 is_name [] = false
 is_name (first ∷ more) = is_letter first && list_all is_letter_or_digit more && nat_le (length more) 15
+
+-- the register that a command names
+abbrev pub register_of : Command → List ℕ
+register_of (Set reg bytes) = reg
+register_of (Get reg) = reg
 
 -- A command names a register of the machine, and sets it to as many bytes as it has.
 abbrev pub IsCommand : List Row → Command → Type 0
@@ -50,6 +58,8 @@ AreBlocksNumbered first (block ∷ blocks) = AreNumbered (first + 1) block.body 
 
 -- a script whose parts are within their limits
 pub record IsValid (script : Script) : Type 0 where
+  pub layout : IsLayout script.layout
+  pub machine : IsTableOf script.machine script.layout
   pub cpus : (0 < script.cpus) × (script.cpus ≤ 16)
   pub quantum : (0 < script.quantum) × (script.quantum ≤ 32)
   pub large : script.large ≤ 64
@@ -57,10 +67,19 @@ pub record IsValid (script : Script) : Type 0 where
   pub few : length script.blocks ≤ 64
   pub names : AllByRecursion (λ (block : Block). is_name block.name ≡ true) script.blocks
   pub distinct : AreDistinct (map (λ (block : Block). block.name) script.blocks)
-  pub commands : AllByRecursion (λ (block : Block). AllByRecursion (λ (order : Order). IsCommand (rows_of script.machine) order.command) block.body) script.blocks
+  pub commands : AllByRecursion (λ (block : Block). AllByRecursion (λ (order : Order). IsCommand script.layout order.command) block.body) script.blocks
 
--- A script of the forms of this version: one processor, no schedule, and tasks without handlers.
+-- A register that the program has: XMM alone.
+abbrev pub is_built : Place → Bool
+is_built place = (place.comp.0 == 1) && nat_lt place.offset 256
+
+-- The command's register is one that the program has.
+abbrev pub IsBuiltCommand : Command → Type 0
+IsBuiltCommand command = (place : Place) × IsNamed (register_of command) place × (is_built place ≡ true)
+
+-- A script of the forms of this version: one processor, no schedule, tasks without handlers, and XMM registers.
 pub record IsBuilt (script : Script) : Type 0 where
   pub one : script.cpus ≡ 1
   pub unscheduled : script.sched ≡ []
   pub tasks : AllByRecursion (λ (block : Block). (block.kind ≡ Task) × (block.handler ≡ [])) script.blocks
+  pub registers : AllByRecursion (λ (block : Block). AllByRecursion (λ (order : Order). IsBuiltCommand order.command) block.body) script.blocks

@@ -3,12 +3,17 @@
 use crate::items::Items;
 use crate::name::Name;
 use xs_base::Lane;
+use xs_layout::Layout;
 
 /// A machine that a script names.
 #[derive(Clone, Copy, PartialEq, Eq, Debug)]
 pub enum Named {
     /// x87, SSE, AVX, AVX-512, PKRU and AMX.
     Amx,
+    /// x87, SSE and AVX.
+    Avx,
+    /// The components of the script's own rows.
+    Rows,
 }
 
 /// What a block of lines is: a task from the start, a task that a fork makes, or a kernel thread.
@@ -59,6 +64,8 @@ pub struct Block {
 pub struct Script {
     /// The machine.
     pub machine: Named,
+    /// The machine's table of components.
+    pub layout: Layout,
     /// The number of processors.
     pub cpus: u32,
     /// The most Local events of a turn.
