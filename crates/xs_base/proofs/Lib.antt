@@ -3,5 +3,8 @@ pub mod LayoutLemmas
 pub mod SizeLemmas
 pub mod CompactLemmas
 pub mod PlaceLemmas
+pub mod ByteLemmas
+pub mod ComponentLemmas
+pub mod StandardLemmas
 pub mod WorkedValues
 pub mod Registers
