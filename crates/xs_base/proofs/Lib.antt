@@ -8,3 +8,4 @@ pub mod ComponentLemmas
 pub mod StandardLemmas
 pub mod WorkedValues
 pub mod Registers
+pub mod FileLemmas
