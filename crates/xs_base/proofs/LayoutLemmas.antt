@@ -4,6 +4,7 @@ use Rattle.std.proofs.lemmas.Bool.{cases_order, cases_lt, eq-eqb, eqb-true}
 use Rattle.std.proofs.lemmas.Bool.Decides.{nat_tests}
 use Rattle.std.proofs.lemmas.List.Folds.{list_any_at}
 use Rattle.std.specs.List.{list_any}
+use Rattle.xs_base.proofs.SetLemmas.{has_set_of}
 use Rattle.xs_base.specs.declared.component.Row.{Row}
 use Rattle.xs_base.specs.declared.layout_error.LayoutError.{LayoutError}
 use Rattle.xs_base.specs.declared.layout_error.LayoutError.TheVariants as errors
@@ -11,7 +12,7 @@ use Rattle.xs_base.specs.declared.layout_error.LayoutFault.{LayoutFault}
 use Rattle.xs_base.specs.First.{first_of}
 use Rattle.xs_base.specs.Sets.{has}
 use Rattle.xs_base.specs.Component.{component_numbers, component_count, component_size, sizes}
-use Rattle.xs_base.specs.Layout.{is_known, is_unknown, is_repeated, has_wrong_size, has_wrong_flags, is_too_large, overlaps, row_error, first_row_fault, fault_or, fault_else, layout_fault, table_error, IsLayout, IsSound, most_rows, amx_rows, avx_rows, has_row}
+use Rattle.xs_base.specs.Layout.{is_known, is_unknown, is_repeated, has_wrong_size, has_wrong_flags, is_too_large, overlaps, row_error, first_row_fault, fault_or, fault_else, layout_fault, table_error, IsLayout, IsSound, IsRowOf, most_rows, amx_rows, avx_rows, has_row, features, default_features}
 
 -- two runs of bytes have no byte in common
 abbrev pub AreApart : ℕ → ℕ → ℕ → ℕ → Type 0
@@ -243,3 +244,41 @@ few_from before at (r ∷ rows) s h =
 -- a machine's table has a row for each component at most
 pub few_rows : (rows : List Row) → IsLayout rows → length rows ≤ most_rows
 few_rows rows h = let few = few_from None 0 rows tt (layout_parts rows h).0 in omega arith
+
+-- ---- features
+
+-- a component that the rows have has a row
+pub row_of : (rows : List Row) (c : ℕ) → has_row rows c ≡ true → (r : Row) × IsRowOf rows c r
+unfolding has_row
+row_of [] c h = cc
+row_of (r ∷ rows) c h = one (r.comp.0 == c) refl h (row_of rows c)
+  where
+    one : (b : Bool) → (r.comp.0 == c) ≡ b → (b || list_any (λ (x : Row). x.comp.0 == c) rows) ≡ true → (list_any (λ (x : Row). x.comp.0 == c) rows ≡ true → (x : Row) × IsRowOf rows c x) → (x : Row) × IsRowOf (r ∷ rows) c x
+    one true is any rest = (r, record { index = 0; within = omega arith; at = refl; number = eqb-true r.comp.0 c is })
+    one false is any rest =
+        let found = rest any in
+        let within : found.1.index < length rows = found.1.within in
+        (found.0, record { index = suc found.1.index; within = omega arith; at = found.1.at; number = found.1.number })
+
+-- what the rows have is a component
+pub has_row_known : (rows : List Row) → IsLayout rows → (c : ℕ) → has_row rows c ≡ true → is_known c ≡ true
+has_row_known rows h c on =
+    let found = row_of rows c on in
+    subst (λ (n : ℕ). is_known n ≡ true) found.1.number (sound_at rows h found.1.index found.0 found.1.within found.1.at).known
+
+set_known : (b k : Bool) → (b ≡ true → k ≡ true) → (b && k) ≡ b
+set_known true k h = h refl
+set_known false k h = refl
+
+-- the features are the components of the rows
+pub has_features : (rows : List Row) → IsLayout rows → (c : ℕ) → has (features rows) c ≡ has_row rows c
+has_features rows h c = has_set_of (has_row rows) component_numbers refl c ∙ set_known (has_row rows c) (is_known c) (has_row_known rows h c)
+
+pub has_default_features : (rows : List Row) → IsLayout rows → (c : ℕ) → has (default_features rows) c ≡ (has_row rows c && not (c == 18))
+has_default_features rows h c =
+    has_set_of (λ k. has_row rows k && not (k == 18)) component_numbers refl c
+    ∙ set_known (has_row rows c && not (c == 18)) (is_known c) (λ on. has_row_known rows h c (first (has_row rows c) (not (c == 18)) on))
+  where
+    first : (a b : Bool) → (a && b) ≡ true → a ≡ true
+    first true b h = refl
+    first false b h = h

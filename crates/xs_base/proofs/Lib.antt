@@ -1,5 +1,6 @@
 pub mod SetLemmas
 pub mod LayoutLemmas
+pub mod FaultLemmas
 pub mod SizeLemmas
 pub mod CompactLemmas
 pub mod PlaceLemmas

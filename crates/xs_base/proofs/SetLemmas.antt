@@ -62,9 +62,13 @@ has_added m k i h =
     here off lt (inr above) = rw (above_added m k i above off) (grind (arith, nat_tests))
 
 -- no number stands twice in the list
-abbrev pub AreDistinct : List ℕ → Type 0
-AreDistinct [] = Unit {0}
-AreDistinct (c ∷ cs) = (list_any (λ k. k == c) cs ≡ false) × AreDistinct cs
+abbrev pub are_distinct : List ℕ → Bool
+are_distinct [] = true
+are_distinct (c ∷ cs) = not (list_any (λ k. k == c) cs) && are_distinct cs
+
+distinct_parts : (any rest : Bool) → (not any && rest) ≡ true → (any ≡ false) × (rest ≡ true)
+distinct_parts true rest h = cc
+distinct_parts false rest h = (refl, h)
 
 or_false : (b : Bool) → (b && false) ≡ false
 or_false true = refl
@@ -88,7 +92,9 @@ set_more test others rest c i none is = here (test c) refl
     here false off = rw (zero-add rest) (is i ∙ left_out (test i) (others i) i c (λ e. ap test e ∙ off))
 
 -- what is in a set that a test makes of a list of numbers
-pub has_set_of : (test : ℕ → Bool) (cs : List ℕ) → AreDistinct cs → (i : ℕ) → has (set_of test cs) i ≡ (test i && list_any (λ k. k == i) cs)
+pub has_set_of : (test : ℕ → Bool) (cs : List ℕ) → are_distinct cs ≡ true → (i : ℕ) → has (set_of test cs) i ≡ (test i && list_any (λ k. k == i) cs)
 unfolding set_of
 has_set_of test [] d i = has_none i ∙ sym (or_false (test i))
-has_set_of test (c ∷ cs) d i = set_more test (λ k. list_any (λ n. n == k) cs) (set_of test cs) c i d.0 (has_set_of test cs d.1)
+has_set_of test (c ∷ cs) d i =
+    let parts = distinct_parts (list_any (λ k. k == c) cs) (are_distinct cs) d in
+    set_more test (λ k. list_any (λ n. n == k) cs) (set_of test cs) c i parts.0 (has_set_of test cs parts.1)
