@@ -1,6 +1,7 @@
 -- The fields of a layout: its rows first, and then rows of nothing.
 use Rattle.std.specs.Prelude.{◌≡◌, ℕ, ◌+◌, ◌-◌, ◌≤◌, List, ◌++◌, length, take, replicate, refl}
-use Rattle.std.proofs.Common.{sym, ap, arith, length-append, length-take}
+use Rattle.std.proofs.Common.{sym, ap, subst, arith, length-append, length-take}
+use Rattle.std.proofs.Math.Seq.{take-append_seam}
 use Rattle.std.proofs.lemmas.List.{length-replicate}
 use Rattle.xs_base.specs.declared.component.Row.{Row}
 use Rattle.xs_base.specs.Layout.{IsLayout, row, most_rows}
@@ -38,3 +39,15 @@ same_inside a b m n rows count = cc
 pub fields_back : (l : Inside) → AreRows l.rows l.count → record { rows = padded (take l.count l.rows); count = length (take l.count l.rows) } ≡ l
 unfolding inside
 fields_back l h = same_inside (padded (take l.count l.rows)) l.rows (length (take l.count l.rows)) l.count (sym h.rest) (length_is l.rows l.count h)
+
+-- the rows come back from the fields
+pub take_padded : (rows : List Row) → take (length rows) (padded rows) ≡ rows
+unfolding padded
+take_padded rows = take-append_seam rows (replicate (most_rows - length rows) no_row)
+
+pub are_rows : (rows : List Row) → IsLayout rows → length rows ≤ most_rows → AreRows (padded rows) (length rows)
+are_rows rows h few = record {
+  few = few;
+  layout = subst (λ (x : List Row). IsLayout x) (sym (take_padded rows)) h;
+  rest = ap padded (sym (take_padded rows));
+}

@@ -162,10 +162,7 @@ pub fn layout_fault(rows: &[Row]) -> Option<LayoutFault>
         return Some(fault);
     }
     match table_error(rows) {
-        Some(error) => Some(LayoutFault {
-            row: None,
-            error,
-        }),
+        Some(error) => Some(LayoutFault { row: None, error }),
         None => None,
     }
 }

@@ -4,6 +4,7 @@
 
 mod checks;
 mod layout;
+mod places;
 
 pub use checks::{component_size, row_error, table_error};
 pub use layout::Layout;

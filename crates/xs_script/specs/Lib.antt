@@ -1,0 +1,6 @@
+-- The definitions of the script's text, one file a noun.
+pub mod ScriptLine
+pub mod Reads
+pub mod Grammar
+pub mod LineOrder
+pub mod Refusal
