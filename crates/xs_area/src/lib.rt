@@ -3,5 +3,9 @@
 #![tactic(auto)]
 
 mod area;
+mod check;
+mod cursor;
 
 pub use area::{Area, mxcsr, xcomp_bv, xstate_bv};
+pub use check::read_standard;
+pub use xs_base::{HeaderError, Origin, Parts};
