@@ -1,0 +1,6 @@
+mod Numbers
+pub mod Cuts
+pub mod Lanes
+pub mod Spellings
+pub mod FirstLines
+pub mod Kept
