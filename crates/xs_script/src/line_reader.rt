@@ -13,6 +13,30 @@ use crate::words::{after, before, cut_at, read_bytes, read_name, read_number, re
 use xs_base::{Comp, Lane, Row};
 use xs_model::{Command, Name, Named};
 
+/// The first words of the forms that this version doesn't have.
+const UNBUILT_WORDS: [&[u8]; 20] = [
+    b"sched",
+    b"child",
+    b"kthread",
+    b"handler",
+    b"sigreturn",
+    b"tilerelease",
+    b"ksec",
+    b"perm",
+    b"yield",
+    b"peek",
+    b"poke",
+    b"bpeek",
+    b"bpoke",
+    b"fork",
+    b"kill",
+    b"stop",
+    b"wait",
+    b"getregs",
+    b"setregs",
+    b"cont",
+];
+
 /// The first line of the text, if it is spelled as a line, and the text after its line feed. Of a value of more than 64
 /// bytes none is kept, and of a row's number above 255 it is 255.
 pub fn next_line(text: &[u8]) -> Option<(Line, &[u8])>
@@ -41,33 +65,11 @@ pub fn begins_row(text: &[u8]) -> bool
     word == b"row".as_slice()
 }
 
-/// The first words of the forms that this version doesn't have.
+/// Whether it is one of those words.
 fn is_unbuilt_word(word: &[u8]) -> bool
     ensures { result ≡ list_any (λ other. bytes_eq other word.now) unbuilt_words }
 {
-    match word {
-        b"sched"
-        | b"child"
-        | b"kthread"
-        | b"handler"
-        | b"sigreturn"
-        | b"tilerelease"
-        | b"ksec"
-        | b"perm"
-        | b"yield"
-        | b"peek"
-        | b"poke"
-        | b"bpeek"
-        | b"bpoke"
-        | b"fork"
-        | b"kill"
-        | b"stop"
-        | b"wait"
-        | b"getregs"
-        | b"setregs"
-        | b"cont" => true,
-        _ => false,
-    }
+    UNBUILT_WORDS.iter().any(|other| *other == word)
 }
 
 /// Whether the line sets a number of processors that this version doesn't have.
