@@ -5,3 +5,5 @@ pub mod HexText
 pub mod Spellings
 pub mod FirstLines
 pub mod Kept
+pub mod Readings
+pub mod Unbuilt
