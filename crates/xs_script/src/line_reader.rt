@@ -202,3 +202,6 @@ fn read_get(line: &[u8]) -> Option<Name>
 {
     read_register(after(b"get ", line)?)
 }
+
+#[cfg(test)]
+mod tests;
