@@ -1,8 +1,7 @@
 -- The fields of a layout: its rows first, and then rows of nothing.
-use Rattle.std.specs.Prelude.{◌≡◌, ℕ, ◌+◌, ◌-◌, ◌≤◌, List, ◌++◌, length, take, replicate, refl}
-use Rattle.std.proofs.Common.{sym, ap, subst, arith, length-append, length-take}
+use Rattle.std.specs.Prelude.{◌≡◌, ℕ, ◌-◌, ◌≤◌, List, ◌++◌, length, take, replicate}
+use Rattle.std.proofs.Common.{sym, ap, subst}
 use Rattle.std.proofs.Math.Seq.{take-append_seam}
-use Rattle.std.proofs.lemmas.List.{length-replicate}
 use Rattle.xs_base.specs.declared.component.Row.{Row}
 use Rattle.xs_base.specs.Layout.{IsLayout, row, most_rows}
 use Rattle.xs_layout.specs.declared.layout.Layout.TheInside.{Inside}

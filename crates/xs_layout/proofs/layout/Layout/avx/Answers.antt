@@ -1,5 +1,4 @@
 -- The rows of the constant are those of the definition, and pass every test.
-use Rattle.std.proofs.Common.{◌∙◌, refl}
 use Rattle.xs_base.specs.Layout.{avx_rows}
 use Rattle.xs_base.proofs.LayoutLemmas.{avx_is_layout}
 use Rattle.xs_layout.proofs.layout.Layout.avx.Goals as goal
