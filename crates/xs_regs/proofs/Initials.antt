@@ -1,10 +1,10 @@
 -- The test of an initial component.
-use Rattle.std.proofs.Common.{◌≡◌, ℕ, suc, ◌==◌, ◌&&◌, Bool, true, false, List, [], ◌∷◌, length, take, drop, refl, sym, ap, ◌∙◌, arith}
+use Rattle.std.proofs.Common.{◌≡◌, ℕ, ◌==◌, ◌&&◌, Bool, true, false, List, [], ◌∷◌, length, take, drop, refl, sym, ap, ◌∙◌, arith}
 use Rattle.std.specs.List.{list_all}
 use Rattle.std.specs.Str.{bytes_eq}
 use Rattle.xs_base.specs.Bytes.{zeros}
 use Rattle.xs_base.specs.Component.{initial_part, component_size}
-use Rattle.xs_base.proofs.ComponentLemmas.{initial_x87, initial_other}
+use Rattle.xs_base.proofs.ComponentLemmas.{x87_size, initial_x87, initial_other}
 
 -- bytes that are all zero
 pub zeros_test : (bytes : List ℕ) (n : ℕ) → length bytes ≡ n → bytes_eq bytes (zeros n) ≡ list_all (λ b. b == 0) bytes
@@ -25,3 +25,8 @@ x87_test (a ∷ b ∷ rest) len = rw initial_x87 (regroup (a == 0x7f) (b == 0x03
 
 pub other_test : (c : ℕ) (bytes : List ℕ) → (c ≡ 0 → ⊥) → length bytes ≡ component_size c → bytes_eq bytes (initial_part c) ≡ list_all (λ b. b == 0) bytes
 other_test c bytes other len = rw (initial_other c other) (zeros_test bytes (component_size c) len)
+
+pub x87_is : (c : ℕ) (bytes front others start : List ℕ) → c ≡ 0 → length bytes ≡ component_size c → front ≡ take 2 bytes → others ≡ drop 2 bytes → start ≡ 0x7f ∷ 0x03 ∷ [] → (bytes_eq front start && list_all (λ b. b == 0) others) ≡ bytes_eq bytes (initial_part c)
+x87_is c bytes front others start zero size cut rest is =
+    let len : length bytes ≡ 160 = size ∙ ap component_size zero ∙ x87_size in
+    rw (cut, rest, is, zero) (sym (x87_test bytes len))

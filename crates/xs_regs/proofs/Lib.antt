@@ -5,3 +5,5 @@ pub mod TileRows
 pub mod NameKinds
 pub mod Initials
 pub mod Parts
+pub mod InUse
+pub mod StandardBytes

@@ -1,7 +1,7 @@
 -- Names of the rows of tiles.
-use Rattle.std.proofs.Common.{◌≡◌, ℕ, ◌+◌, ◌*◌, ◌<◌, List, [], ◌∷◌, ◌++◌, length, refl, sym, ap, ◌∙◌, arith, codes, decimal, length-append}
+use Rattle.std.proofs.Common.{◌≡◌, ℕ, ◌+◌, ◌*◌, ◌<◌, List, ◌∷◌, ◌++◌, refl, sym, ◌∙◌, arith, codes, decimal}
 use Rattle.std.proofs.lemmas.List.{append_cancel_left}
-use Rattle.std.proofs.lemmas.Fmt.{decimal_digit, decimal_nonempty}
+use Rattle.std.proofs.lemmas.Fmt.{decimal_digit}
 use Rattle.xs_base.specs.declared.component.Place.{Place}
 use Rattle.xs_base.specs.Register.{IsTileRow, place_at}
 use Rattle.xs_regs.proofs.Numbers.{IsIndex}

@@ -1,5 +1,5 @@
 -- What the readers of names find, in tables that have the entries of the definitions.
-use Rattle.std.specs.Prelude.{◌≡◌, ℕ, List, map, Any}
+use Rattle.std.specs.Prelude.{◌≡◌, ℕ, List, Any}
 use Rattle.xs_base.specs.declared.component.Place.{Place}
 use Rattle.xs_base.specs.Register as register
 use Rattle.xs_base.specs.Register.{IsMember}

@@ -1,6 +1,6 @@
 //! Register files.
 
-ghost use Rattle.std.specs.Prelude.{◌≡◌, ℕ, ◌<◌, ◌≤◌, ◌==◌, List, length, IfOk};
+ghost use Rattle.std.specs.Prelude.{◌≡◌, ℕ, ◌<◌, ◌≤◌, ◌==◌, List, length, slice_index, IfOk};
 ghost use Rattle.std.specs.List.{list_all};
 ghost use Rattle.std.specs.Str.{bytes_eq};
 ghost use Rattle.xs_base.specs.Component.{component_count, component_size, initial_part};
@@ -8,7 +8,7 @@ ghost use Rattle.xs_base.specs.File.{part, initial_file, is_mxcsr, read_place, w
 ghost use Rattle.xs_base.specs.Layout.{standard_size};
 ghost use Rattle.xs_base.specs.Register.{IsRegister};
 ghost use Rattle.xs_base.specs.Sets.{has};
-ghost use Rattle.xs_base.specs.Standard.{IsStandard, control_bytes};
+ghost use Rattle.xs_base.specs.Standard.{IsStandard, component_byte, saved_byte, has_control, control_bytes};
 
 use std::alloc::{AllocError, Global};
 use std::marker::Model;
@@ -105,7 +105,11 @@ impl File {
         if is_mxcsr(place) {
             self.mxcsr = u32::from_le_bytes([bytes[0], bytes[1], bytes[2], bytes[3]]);
         } else {
-            put(&mut self.parts[place.comp.0 as usize], place.offset as usize, bytes);
+            put(
+                &mut self.parts[place.comp.0 as usize],
+                place.offset as usize,
+                bytes,
+            );
         }
     }
 
@@ -113,9 +117,10 @@ impl File {
     pub fn in_use(&self) -> Features
         ensures { (c : ℕ) → has result.0 c ≡ in_use self.now c }
     {
+        let layout = self.layout();
         let mut bits = 0;
-        'rows: for i in 0..self.layout.len() {
-            let comp = self.layout.row_at(i).comp;
+        'rows: for i in 0..layout.len() {
+            let comp = layout.row_at(i).comp;
             if !self.is_initial(comp) {
                 bits |= 1u64 << comp.0;
             }
@@ -142,16 +147,33 @@ impl File {
         requires { standard_size self.now.rows mask.0 ≤ length out.old }
         ensures { IsStandard self.now mask.0 out.old out.new }
     {
-        'rows: for i in 0..self.layout.len() {
-            let row = self.layout.row_at(i);
+        self.components_into(mask, out);
+        if has_control(mask) {
+            put(out, 24, &control_bytes(self.mxcsr));
+        }
+    }
+
+    /// Writes the components of the mask, each at its place in the standard format. Bytes 24 to 31 stay.
+    fn components_into(&self, mask: Features, out: &mut [u8])
+        requires { standard_size self.now.rows mask.0 ≤ length out.old }
+        ensures len { length out.new ≡ length out.old }
+        ensures each { (k : ℕ) → slice_index out.new k ≡ component_byte (saved_byte self.now) (λ r. r.offset) mask.0 k self.now.rows (slice_index out.old k) }
+    {
+        let layout = self.layout();
+        'rows: for i in 0..layout.len() {
+            let row = layout.row_at(i);
             if mask.has(row.comp) {
                 put_component(out, row.offset as usize, row.comp, self.part(row.comp));
             }
         }
-        if mask.has(Comp(1)) || mask.has(Comp(2)) {
-            put(out, 24, &control_bytes(self.mxcsr));
-        }
     }
+}
+
+/// MXCSR is saved with SSE and with AVX (SDM volume 1, 13.7).
+fn has_control(mask: Features) -> bool
+    ensures { result ≡ has_control mask.0 }
+{
+    mask.has(Comp(1)) || mask.has(Comp(2))
 }
 
 /// Whether the place is that of MXCSR.

@@ -7,3 +7,5 @@ mod register;
 mod tables;
 
 pub use file::File;
+pub use register::{one_place, place_of, place_of_bytes};
+pub use xs_base::Place;

@@ -1,14 +1,46 @@
 //! The registers of a machine by their names.
 
-ghost use Rattle.std.specs.Prelude.{◌≡◌, ℕ, List, ◌∷◌, ◌++◌, map, codes, MatchOption};
+ghost use Rattle.std.specs.Prelude.{◌≡◌, ℕ, ◌+◌, ◌<◌, ◌≤◌, false, List, ◌∷◌, ◌++◌, length, map, codes, MatchOption, IfSome};
 ghost use Rattle.xs_base.specs.declared.component.Place.{Place};
-ghost use Rattle.xs_base.specs.Register.{IsMember, IsTileRow, IsNamed, singles, families};
+ghost use Rattle.xs_base.specs.declared.component.Row.{Row};
+ghost use Rattle.xs_base.specs.Component.{component_size};
+ghost use Rattle.xs_base.specs.File.{is_mxcsr};
+ghost use Rattle.xs_base.specs.Register.{IsMember, IsTileRow, IsNamed, IsRegister, singles, families};
 ghost use Rattle.xs_regs.specs.Finds.{Finds};
 ghost use Rattle.xs_regs.specs.Names.{IsAlone, IsNumbered, single_of, family_of};
 
 use crate::number::{read_digit, read_index};
 use crate::tables::{FAMILIES, Family, SINGLES, Single};
 use xs_base::{Comp, Place};
+use xs_layout::Layout;
+
+/// The place of the register with this name; None exactly where the machine has no such register.
+pub fn place_of(name: &str, layout: &Layout) -> Option<Place>
+    ensures register { MatchOption result ((place : Place) → IsRegister layout.now name.now place → ⊥) (IsRegister layout.now name.now) }
+    ensures sizes { IfSome result (λ place. (0 < place.len) × (place.len ≤ 64) × (length name.now ≤ 16)) }
+    ensures within { IfSome result (λ place. is_mxcsr place ≡ false → place.offset + place.len ≤ component_size place.comp.0) }
+{
+    place_of_bytes(name.as_bytes(), layout)
+}
+
+/// `place_of` for a name that is bytes.
+pub fn place_of_bytes(name: &[u8], layout: &Layout) -> Option<Place>
+    ensures register { MatchOption result ((place : Place) → IsRegister layout.now name.now place → ⊥) (IsRegister layout.now name.now) }
+    ensures sizes { IfSome result (λ place. (0 < place.len) × (place.len ≤ 64) × (length name.now ≤ 16)) }
+    ensures within { IfSome result (λ place. is_mxcsr place ≡ false → place.offset + place.len ≤ component_size place.comp.0) }
+{
+    let place = find_named(name)?;
+    if layout.has_row(place.comp) {
+        Some(place)
+    } else {
+        None
+    }
+}
+
+/// A name is that of one place, on every machine that has the register. A call does nothing.
+pub fn one_place()
+    ensures { (name : List ℕ) (rows others : List Row) (p q : Place) → IsRegister rows name p → IsRegister others name q → p ≡ q }
+{}
 
 /// The bytes after the prefix, if they begin with it.
 fn after<'a>(prefix: &[u8], bytes: &'a [u8]) -> Option<&'a [u8]>

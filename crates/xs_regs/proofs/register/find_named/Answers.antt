@@ -1,5 +1,4 @@
 -- A name is one of the three kinds.
-use Rattle.std.proofs.Common.{◌≡◌}
 use Rattle.xs_regs.proofs.NameKinds.{last_kind}
 use Rattle.xs_regs.proofs.register.find_named.Goals as goal
 

@@ -1,5 +1,4 @@
 -- A family has a register of the name, or none so far has one.
-use Rattle.std.proofs.Common.{◌≡◌}
 use Rattle.xs_base.specs.declared.component.Place.{Place}
 use Rattle.xs_base.specs.Register.{Family, IsMember}
 use Rattle.xs_regs.specs.Names.{family_of}

@@ -1,5 +1,5 @@
 -- A row's name has at least three bytes after the stem, the second of them a point.
-use Rattle.std.proofs.Common.{◌≡◌, length, slice_index, ap, arith}
+use Rattle.std.proofs.Common.{length, slice_index, ap, arith}
 use Rattle.xs_regs.proofs.TileRows.{tile_row_text}
 use Rattle.xs_regs.proofs.register.find_tile_row.Goals as goal
 

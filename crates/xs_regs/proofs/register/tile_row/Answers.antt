@@ -1,5 +1,5 @@
 -- The two numbers are those of a row of a tile.
-use Rattle.std.proofs.Common.{◌≡◌, ◌<◌, arith}
+use Rattle.std.proofs.Common.{◌≡◌, arith}
 use Rattle.xs_regs.proofs.Members.{one_index}
 use Rattle.xs_regs.proofs.TileRows.{tile_row_at, tile_row_parts}
 use Rattle.xs_regs.proofs.register.tile_row.Goals as goal

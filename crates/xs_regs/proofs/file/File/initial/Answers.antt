@@ -1,9 +1,8 @@
 -- One part more is initial, and at the end all are.
-use Rattle.std.proofs.Common.{◌≡◌, map, refl, sym, subst, ap, arith, List, ℕ, ◌∙◌}
+use Rattle.std.proofs.Common.{◌≡◌, refl, arith}
 use Rattle.std.proofs.lemmas.List.{map-append}
 use Rattle.std.proofs.lemmas.List.FromFn.{map-range_with_len_more}
 use Rattle.xs_base.specs.Component.{initial_part}
-use Rattle.xs_base.specs.File.{File, IsFile}
 use Rattle.xs_base.proofs.FileLemmas.{initial_is_file}
 use Rattle.xs_regs.proofs.file.File.initial.Goals as goal
 

@@ -1,7 +1,6 @@
 -- The register's component has other bytes of the register, and the file stays a file.
 use Rattle.std.proofs.Common.{◌≡◌, false, List, ℕ, length, sym, ap, ◌∙◌}
-use Rattle.xs_base.specs.File.{File, is_mxcsr}
-use Rattle.xs_base.specs.Register.{IsRegister}
+use Rattle.xs_base.specs.File.{is_mxcsr}
 use Rattle.xs_base.proofs.FileLemmas.{write_is_file}
 use Rattle.xs_regs.proofs.Parts.{shown_file, register_fits, register_spliced}
 use Rattle.xs_regs.proofs.file.File.write.Goals as goal

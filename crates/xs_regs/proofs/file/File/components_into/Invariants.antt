@@ -1,7 +1,7 @@
 -- The components of the rows so far are written.
 use Rattle.std.proofs.Common.{◌≡◌, ℕ, length, drop, slice_index}
 use Rattle.xs_base.specs.Standard.{component_byte, saved_byte}
-use Rattle.xs_regs.proofs.file.File.standard_into.Given as goal
+use Rattle.xs_regs.proofs.file.File.components_into.Given as goal
 
 abbrev pub invariant-rows : goal.invariant-rows
 invariant-rows l = record {
