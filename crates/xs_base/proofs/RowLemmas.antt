@@ -34,11 +34,11 @@ pub row_of_tells : (rows : List Row) (c : ℕ) (r : Row) → row_of rows c ≡ S
 unfolding row_of
 row_of_tells [] c r found = cc
 row_of_tells (s ∷ rows) c r found = elim (cases_Bool (s.comp.0 == c)) [
-    inl own ↦
-        let same : s ≡ r = same_Some s r (let first : (if s.comp.0 == c then Some s else row_of rows c) ≡ Some s = rw own refl in sym first ∙ found) in
-        record { index = 0; within = omega arith; is = sym same; number = ap (λ (x : Row). x.comp.0) (sym same) ∙ eqb-true s.comp.0 c own }
-    | inr other ↦
-        let later : (if s.comp.0 == c then Some s else row_of rows c) ≡ row_of rows c = rw other refl in
-        let tells = row_of_tells rows c r (sym later ∙ found) in
-        record { index = tells.index + 1; within = omega arith; is = rw add-one tells.is; number = tells.number }
-  ]
+  | inl own ↦
+      let same : s ≡ r = same_Some s r (let first : (if s.comp.0 == c then Some s else row_of rows c) ≡ Some s = rw own refl in sym first ∙ found) in
+      record { index = 0; within = omega arith; is = sym same; number = ap (λ (x : Row). x.comp.0) (sym same) ∙ eqb-true s.comp.0 c own }
+  | inr other ↦
+      let later : (if s.comp.0 == c then Some s else row_of rows c) ≡ row_of rows c = rw other refl in
+      let tells = row_of_tells rows c r (sym later ∙ found) in
+      record { index = tells.index + 1; within = omega arith; is = rw add-one tells.is; number = tells.number }
+]
