@@ -11,11 +11,11 @@ use Rattle.xs_base.specs.declared.component.Row.{Row}
 use Rattle.xs_base.specs.Area.{has_room, ends_inside}
 use Rattle.xs_base.specs.Compact.{is_compacted, place, has_place}
 use Rattle.xs_base.specs.Header.{xcomp_bv}
-use Rattle.xs_base.specs.Layout.{IsLayout, has_row, row_of}
+use Rattle.xs_base.specs.Layout.{IsLayout, IsRowOf, has_row, row_of}
 use Rattle.xs_base.specs.Sets.{has}
 use Rattle.xs_base.proofs.LayoutLemmas.{has_row_at, sound_at}
 use Rattle.xs_base.proofs.PlaceLemmas.{place_legacy}
-use Rattle.xs_base.proofs.RowLemmas.{row_of_at, row_of_tells, row_found, has_sse, IsRowOf}
+use Rattle.xs_base.proofs.RowLemmas.{row_of_at, row_of_tells, row_found, has_sse}
 use Rattle.xs_area.specs.Copy.{is_copied}
 use Rattle.xs_area.specs.declared.cursor.Cursor.{Cursor}
 use Rattle.xs_area.proofs.CursorLemmas.{IsBefore, passed, before_place, before_next}

@@ -2,9 +2,13 @@ pub mod SetLemmas
 pub mod ByteLemmas
 pub mod ComponentLemmas
 pub mod LayoutLemmas
+pub mod FaultLemmas
+pub mod FeatureLemmas
 pub mod RowLemmas
 pub mod SizeLemmas
 pub mod CompactLemmas
 pub mod PlaceLemmas
 pub mod StandardLemmas
+pub mod FileLemmas
+pub mod Registers
 pub mod WorkedValues

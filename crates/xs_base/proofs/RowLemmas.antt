@@ -7,7 +7,7 @@ use Rattle.xs_base.specs.declared.component.Row.{Row}
 use Rattle.std.proofs.lemmas.List.{get_or_default}
 use Rattle.std.specs.List.{list_any}
 use Rattle.xs_base.specs.declared.layout_error.LayoutError.TheVariants as errors
-use Rattle.xs_base.specs.Layout.{IsLayout, row_of, has_row, table_error}
+use Rattle.xs_base.specs.Layout.{IsLayout, IsRowOf, row_of, has_row, table_error}
 use Rattle.xs_base.proofs.LayoutLemmas.{has_row_at, same_index, else_none, layout_parts}
 use Rattle.xs_base.proofs.StandardLemmas.{one_row_more}
 
@@ -25,13 +25,6 @@ row_of_here rows c i r lt is own = one_row_more (λ xs. row_of xs c) rows i r lt
 pub row_of_all : (rows : List Row) (c i : ℕ) → length rows ≤ i → row_of (drop i rows) c ≡ None
 unfolding row_of
 row_of_all rows c i past = at_drop_all (λ xs. row_of xs c) rows i past
-
--- The row stands among the rows, and is that of component c.
-pub record IsRowOf (rows : List Row) (c : ℕ) (r : Row) : Type 0 where
-  pub index : ℕ
-  pub within : index < length rows
-  pub is : r ≡ get_or rows index r
-  pub number : r.comp.0 ≡ c
 
 -- what a look-up that finds a row tells
 pub row_of_tells : (rows : List Row) (c : ℕ) (r : Row) → row_of rows c ≡ Some r → IsRowOf rows c r

@@ -2,7 +2,12 @@
 //! standard and in the compacted format of an area. A layout is a list of rows that passes every test of a table.
 #![tactic(auto)]
 
+mod checks;
 mod layout;
+mod places;
+#[cfg(test)]
+mod tests;
 
-pub use layout::Layout;
+pub use checks::{component_size, row_error, table_error};
+pub use layout::{Layout, MOST_ROWS};
 pub use xs_base::{LayoutError, LayoutFault, Row};

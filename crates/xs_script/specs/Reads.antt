@@ -1,0 +1,25 @@
+-- What a reader of a text answers: exactly the value that the text spells.
+use Rattle.std.specs.Prelude.{◌≡◌, ℕ, List, ◌∷◌, ◌++◌, Option, Some, None}
+use Rattle.std.specs.List.{AllByRecursion}
+
+-- The bytes are the text of a value that fits. Nothing was read only if they are the text of no such value.
+abbrev pub Reads : {A : Type 0} → (A → List ℕ) → (A → Type 0) → Option A → List ℕ → Type 0
+Reads {A} text Fits None bytes = (x : A) → Fits x → bytes ≡ text x → ⊥
+Reads text Fits (Some x) bytes = Fits x × (bytes ≡ text x)
+
+-- The same of a reader that answers what it keeps of the value.
+abbrev pub ReadsAs : {A B : Type 0} → (A → List ℕ) → (A → Type 0) → (A → B) → Option B → List ℕ → Type 0
+ReadsAs {A} text Fits keep None bytes = (x : A) → Fits x → bytes ≡ text x → ⊥
+ReadsAs {A} text Fits keep (Some y) bytes = (x : A) × Fits x × (bytes ≡ text x) × (y ≡ keep x)
+
+-- The first line of the bytes is the text of a value that fits, and the rest comes after its line feed.
+abbrev pub IsFirstLine : {A : Type 0} → (A → List ℕ) → (A → Type 0) → A → List ℕ → List ℕ → Type 0
+IsFirstLine text Fits x bytes rest = Fits x × (bytes ≡ text x ++ 10 ∷ rest)
+
+-- The first line of the bytes is the text of no such value.
+abbrev pub NoLine : {A : Type 0} → (A → List ℕ) → (A → Type 0) → List ℕ → Type 0
+NoLine {A} text Fits bytes = (x : A) (rest : List ℕ) → Fits x → bytes ≡ text x ++ 10 ∷ rest → ⊥
+
+-- the byte is nowhere among the bytes
+abbrev pub Lacks : ℕ → List ℕ → Type 0
+Lacks byte bytes = AllByRecursion (λ b. b ≡ byte → ⊥) bytes

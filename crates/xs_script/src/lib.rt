@@ -1,0 +1,10 @@
+//! The script reader: the one script that a text spells, or its first refusal.
+#![tactic(auto)]
+
+mod line;
+mod line_reader;
+mod refusal;
+mod words;
+
+pub use line::Line;
+pub use refusal::{Kind, LimitName, ScriptError};
