@@ -6,7 +6,7 @@ use Rattle.std.specs.Prelude.{slice_get}
 use Rattle.xs_base.specs.declared.component.Row.{Row}
 use Rattle.xs_base.specs.Area.{HoldsPlaces, has_room}
 use Rattle.xs_base.specs.Compact.{place}
-use Rattle.xs_base.specs.Header.{xstate_bv, xcomp_bv}
+use Rattle.xs_base.specs.Header.{xcomp_bv}
 use Rattle.xs_base.specs.Sets.{has}
 use Rattle.xs_area.specs.Copy.{is_copied}
 use Rattle.xs_area.proofs.TakeLemmas.{row_index}
@@ -21,6 +21,7 @@ room_for rows area wanted copied back c copies backs same other bit =
     left true b off h = refl
     left false true off h = absurd (true≢false off)
     left false false off h = h
+
     third : (a b r : Bool) → (a && not b && r) ≡ true → r ≡ true
     third true true r h = absurd (true≢false (sym h))
     third true false r h = h
