@@ -1,10 +1,10 @@
 -- The row of a component among the rows of a machine.
-use Rattle.std.proofs.Common.{◌≡◌, ℕ, zero, suc, ◌+◌, ◌<◌, ◌≤◌, ◌==◌, Bool, true, false, List, [], ◌∷◌, length, get_or, drop, Option, Some, None, if◌then◌else◌, refl, sym, ap, ◌∙◌, add-one, inl, inr, arith}
+use Rattle.std.proofs.Common.{◌≡◌, ℕ, ◌+◌, ◌<◌, ◌≤◌, ◌==◌, List, [], ◌∷◌, length, get_or, drop, Some, None, if◌then◌else◌, refl, sym, ap, ◌∙◌, add-one, inl, inr, arith}
 use Rattle.std.proofs.lemmas.Bool.{cases_Bool, eqb-true, eq-eqb, ne_eqb}
 use Rattle.std.proofs.lemmas.Option.{same_Some}
 use Rattle.std.proofs.lemmas.List.{at_drop_all}
 use Rattle.xs_base.specs.declared.component.Row.{Row}
-use Rattle.xs_base.specs.Layout.{row_of, has_row}
+use Rattle.xs_base.specs.Layout.{row_of, IsRowOf}
 use Rattle.xs_base.proofs.StandardLemmas.{one_row_more}
 
 -- another component's row
@@ -21,13 +21,6 @@ row_of_here rows c i r lt is own = one_row_more (λ xs. row_of xs c) rows i r lt
 pub row_of_all : (rows : List Row) (c i : ℕ) → length rows ≤ i → row_of (drop i rows) c ≡ None
 unfolding row_of
 row_of_all rows c i past = at_drop_all (λ xs. row_of xs c) rows i past
-
--- The row stands among the rows, and is that of component c.
-pub record IsRowOf (rows : List Row) (c : ℕ) (r : Row) : Type 0 where
-  pub index : ℕ
-  pub within : index < length rows
-  pub is : r ≡ get_or rows index r
-  pub number : r.comp.0 ≡ c
 
 -- what a look-up that finds a row tells
 pub row_of_tells : (rows : List Row) (c : ℕ) (r : Row) → row_of rows c ≡ Some r → IsRowOf rows c r
