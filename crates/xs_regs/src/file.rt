@@ -1,6 +1,6 @@
 //! Register files.
 
-ghost use Rattle.std.specs.Prelude.{◌≡◌, ℕ, ◌<◌, ◌≤◌, ◌==◌, List, length, slice_index, IfOk};
+ghost use Rattle.std.specs.Prelude.{◌≡◌, ℕ, ◌<◌, ◌≤◌, ◌==◌, false, List, length, slice_index, IfOk};
 ghost use Rattle.std.specs.List.{list_all};
 ghost use Rattle.std.specs.Str.{bytes_eq};
 ghost use Rattle.xs_base.specs.Component.{component_count, component_size, initial_part};
@@ -99,7 +99,8 @@ impl File {
     pub fn write(&mut self, place: Place, lane: &Lane)
         requires register { (name : List ℕ) × IsRegister self.old.rows name place }
         requires len { length lane.now ≡ place.len }
-        ensures { self.new ≡ write_place self.old place lane.now }
+        ensures written { self.new ≡ write_place self.old place lane.now }
+        ensures machine { self.new.rows ≡ self.old.rows }
     {
         let bytes = lane.as_slice();
         if is_mxcsr(place) {
@@ -115,7 +116,8 @@ impl File {
 
     /// The components that aren't in their initial configuration. MXCSR doesn't count.
     pub fn in_use(&self) -> Features
-        ensures { (c : ℕ) → has result.0 c ≡ in_use self.now c }
+        ensures each { (c : ℕ) → has result.0 c ≡ in_use self.now c }
+        ensures above { (c : ℕ) → component_count ≤ c → has result.0 c ≡ false }
     {
         let layout = self.layout();
         let mut bits = 0;
