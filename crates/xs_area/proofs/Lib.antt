@@ -1,1 +1,3 @@
 pub mod LittleEndian
+pub mod CursorLemmas
+pub mod HeldLemmas

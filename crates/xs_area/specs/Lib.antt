@@ -1,1 +1,3 @@
--- The definitions of areas stand in xs_base.
+-- The definitions of areas stand in xs_base: here is what the crate's own loops cite.
+pub mod Cursor
+pub mod Held

@@ -3,5 +3,11 @@
 #![tactic(auto)]
 
 mod area;
+mod check;
+mod cursor;
+mod standard;
 
 pub use area::{Area, mxcsr, xcomp_bv, xstate_bv};
+pub use check::read_standard;
+pub use standard::standard_of;
+pub use xs_base::{HeaderError, Origin, Parts};

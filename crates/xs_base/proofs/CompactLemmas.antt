@@ -1,13 +1,12 @@
 -- Places in the compacted format.
 use Rattle.std.proofs.Common.{◌≡◌, ◌≢◌, ◌⊎◌, inl, inr, ℕ, zero, suc, ◌+◌, ◌*◌, ◌/◌, ◌^◌, ◌<◌, ◌≤◌, Bool, true, false, ◌&&◌, ◌==◌, nat_le, List, [], ◌∷◌, length, get_or, drop, Option, Some, None, if◌then◌else◌, refl, sym, ap, subst, ◌∙◌, arith}
-use Rattle.std.proofs.lemmas.Bool.{cases_order, cases_lt, cases_Bool, eq-eqb, ne_eqb, eqb-true}
-use Rattle.std.proofs.lemmas.Bool.Decides.{nat_tests}
+use Rattle.std.proofs.lemmas.Bool.{cases_order, eq-eqb, ne_eqb}
 use Rattle.std.proofs.lemmas.List.{at_drop_more, at_drop_all}
 use Rattle.xs_base.specs.declared.component.Row.{Row}
 use Rattle.xs_base.specs.Sets.{has}
-use Rattle.xs_base.specs.Layout.{IsLayout, IsSound, first_row_fault}
+use Rattle.xs_base.specs.Layout.{IsLayout, IsSound, most_rows, first_row_fault}
 use Rattle.xs_base.specs.Compact.{aligned, is_extended, compact_after, compact_end, compact_from, compact_size, compact_offset}
-use Rattle.xs_base.proofs.LayoutLemmas.{AreApart, sound_at, rise_at, rise_from, row_fault_none, layout_parts}
+use Rattle.xs_base.proofs.LayoutLemmas.{AreApart, rise_from, row_fault_none, layout_parts}
 
 -- ---- one row on, from row i
 
@@ -193,7 +192,7 @@ along_more mask i end r s h =
     let size : r.size ≤ 16384 = omega (arith, s.ends) in
     record { low = omega arith; few = omega arith }
 
-pub along_fits : (i end : ℕ) (r : Row) → i ≤ 9 → IsSound r → IsAlong i end → end + 63 + r.size < 2 ^ 32
+pub along_fits : (i end : ℕ) (r : Row) → i ≤ most_rows → IsSound r → IsAlong i end → end + 63 + r.size < 2 ^ 32
 along_fits i end r le s h =
     let few = h.few in
     let size : r.size ≤ 16384 = omega (arith, s.ends) in

@@ -1,11 +1,10 @@
 -- The first row that fails, row after row.
-use Rattle.std.proofs.Common.{◌≡◌, ℕ, suc, ◌+◌, ◌<◌, ◌≤◌, List, [], ◌∷◌, length, get_or, drop, Option, Some, None, refl, sym, ap, ◌∙◌, arith}
+use Rattle.std.proofs.Common.{◌≡◌, ℕ, ◌+◌, ◌<◌, ◌≤◌, List, ◌∷◌, length, get_or, drop, Option, Some, None, refl, sym, ap, ◌∙◌, arith}
 use Rattle.std.proofs.lemmas.List.{at_drop_more, at_drop_all}
 use Rattle.xs_base.specs.declared.component.Row.{Row}
 use Rattle.xs_base.specs.declared.layout_error.LayoutError.{LayoutError}
-use Rattle.xs_base.specs.declared.layout_error.LayoutFault.{LayoutFault}
-use Rattle.xs_base.specs.Layout.{row_error, first_row_fault, fault_or, IsSound, most_rows}
-use Rattle.xs_base.proofs.LayoutLemmas.{passes, passes_sound, rank_after, rank_none, rank_more, rank_most, IsSoundBefore}
+use Rattle.xs_base.specs.Layout.{row_error, first_row_fault, fault_or, most_rows}
+use Rattle.xs_base.proofs.LayoutLemmas.{passes, passes_sound, rank_after, rank_more, rank_most, IsSoundBefore}
 
 -- The rows before place i have passed, and the last of them is `before`.
 pub record IsChecked (rows : List Row) (before : Option Row) (i : ℕ) : Type 0 where

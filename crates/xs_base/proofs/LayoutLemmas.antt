@@ -1,6 +1,6 @@
 -- What the tests of a machine's table tell of its rows.
-use Rattle.std.proofs.Common.{◌≡◌, ◌≢◌, ◌⊎◌, inl, inr, ℕ, zero, suc, ◌+◌, ◌<◌, ◌≤◌, Bool, true, false, not, ◌&&◌, ◌||◌, ◌==◌, nat_le, nat_lt, List, [], ◌∷◌, length, get_or, Option, Some, None, if◌then◌else◌, refl, sym, ap, subst, ◌∙◌, arith}
-use Rattle.std.proofs.lemmas.Bool.{cases_order, cases_lt, eq-eqb, eqb-true}
+use Rattle.std.proofs.Common.{◌≡◌, ◌⊎◌, inl, inr, ℕ, zero, suc, ◌+◌, ◌<◌, ◌≤◌, Bool, true, false, not, ◌&&◌, ◌||◌, ◌==◌, nat_lt, List, [], ◌∷◌, length, get_or, Option, Some, None, if◌then◌else◌, refl, sym, ap, subst, ◌∙◌, arith}
+use Rattle.std.proofs.lemmas.Bool.{cases_order, eq-eqb, eqb-true}
 use Rattle.std.proofs.lemmas.Bool.Decides.{nat_tests}
 use Rattle.std.proofs.lemmas.List.Folds.{list_any_at}
 use Rattle.std.specs.List.{list_any}
@@ -9,7 +9,6 @@ use Rattle.xs_base.specs.declared.component.Row.{Row}
 use Rattle.xs_base.specs.declared.layout_error.LayoutError.{LayoutError}
 use Rattle.xs_base.specs.declared.layout_error.LayoutError.TheVariants as errors
 use Rattle.xs_base.specs.declared.layout_error.LayoutFault.{LayoutFault}
-use Rattle.xs_base.specs.First.{first_of}
 use Rattle.xs_base.specs.Sets.{has}
 use Rattle.xs_base.specs.Component.{component_numbers, component_count, component_size, sizes}
 use Rattle.xs_base.specs.Layout.{is_known, is_unknown, is_repeated, has_wrong_size, has_wrong_flags, is_too_large, overlaps, row_error, first_row_fault, fault_or, fault_else, layout_fault, table_error, IsLayout, IsSound, IsRowOf, most_rows, amx_rows, avx_rows, has_row, features, default_features}

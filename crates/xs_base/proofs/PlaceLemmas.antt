@@ -1,15 +1,15 @@
 -- Where the components of a machine stand, in the standard format and by XCOMP_BV in either.
-use Rattle.std.proofs.Common.{◌≡◌, ◌≢◌, ◌⊎◌, inl, inr, ℕ, zero, suc, ◌+◌, ◌<◌, ◌≤◌, Bool, true, false, not, ◌&&◌, ◌||◌, ◌==◌, nat_le, nat_lt, List, [], ◌∷◌, length, get_or, Option, Some, None, if◌then◌else◌, refl, sym, ap, subst, ◌∙◌, arith}
-use Rattle.std.proofs.lemmas.Bool.{cases_order, cases_lt, cases_Bool, eq-eqb, eqb-true, le-leb}
+use Rattle.std.proofs.Common.{◌≡◌, ◌≢◌, ◌⊎◌, inl, inr, ℕ, zero, suc, ◌+◌, ◌<◌, ◌≤◌, Bool, true, false, not, ◌&&◌, ◌||◌, nat_le, List, [], ◌∷◌, length, get_or, Option, Some, None, if◌then◌else◌, refl, sym, ap, subst, ◌∙◌, arith}
+use Rattle.std.proofs.lemmas.Bool.{cases_order, cases_lt, cases_Bool, le-leb}
 use Rattle.std.proofs.lemmas.Bool.Decides.{nat_tests}
 use Rattle.xs_base.specs.declared.component.Row.{Row}
 use Rattle.xs_base.specs.Sets.{has}
 use Rattle.xs_base.specs.Layout.{first_row_fault, IsLayout, IsSound, has_row, standard_size}
-use Rattle.xs_base.specs.Compact.{is_extended, is_compacted, compact_from, compact_end, compact_offset, compact_size, place, has_place}
+use Rattle.xs_base.specs.Compact.{is_extended, is_compacted, compact_offset, compact_size, place, has_place}
 use Rattle.std.specs.Cmp.Derive.{both_true}
 use Rattle.xs_base.proofs.CompactLemmas.{compact_offset_low, compact_size_low, compact_size_covers, compact_apart}
 use Rattle.xs_base.proofs.SizeLemmas.{end_covers}
-use Rattle.xs_base.proofs.LayoutLemmas.{AreApart, Passes, passes, passes_sound, number_after, row_fault_none, layout_parts, sound_at, rise_at}
+use Rattle.xs_base.proofs.LayoutLemmas.{AreApart, Passes, passes, passes_sound, number_after, row_fault_none, layout_parts, sound_at}
 
 -- ---- places in the standard format
 

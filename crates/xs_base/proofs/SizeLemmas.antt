@@ -1,10 +1,9 @@
 -- Sizes in the standard format: what ends where.
-use Rattle.std.proofs.Common.{◌≡◌, ◌⊎◌, inl, inr, ℕ, zero, suc, ◌+◌, ◌<◌, ◌≤◌, Bool, true, false, not, ◌&&◌, ◌==◌, List, [], ◌∷◌, length, get_or, drop, max, if◌then◌else◌, refl, sym, ap, subst, ◌∙◌, arith}
-use Rattle.std.proofs.Math.Nat.{le-max_left, le-max_right}
+use Rattle.std.proofs.Common.{◌≡◌, ℕ, zero, suc, ◌+◌, ◌<◌, ◌≤◌, Bool, true, false, not, ◌&&◌, ◌==◌, List, [], ◌∷◌, length, get_or, drop, max, if◌then◌else◌, refl, sym, ap, subst, ◌∙◌, arith}
 use Rattle.std.proofs.lemmas.List.{at_drop_more, at_drop_all}
 use Rattle.xs_base.specs.declared.component.Row.{Row}
 use Rattle.xs_base.specs.Sets.{has}
-use Rattle.xs_base.specs.Layout.{IsLayout, IsSound, end_of, row_end, most_bytes, has_row, full_size, default_size}
+use Rattle.xs_base.specs.Layout.{IsLayout, end_of, row_end, most_bytes, has_row, full_size, default_size}
 use Rattle.xs_base.proofs.LayoutLemmas.{sound_at, has_row_at}
 
 -- one row on, from row i

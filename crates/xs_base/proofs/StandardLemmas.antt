@@ -4,6 +4,7 @@ use Rattle.std.proofs.lemmas.List.{at_drop_more, at_drop_all}
 use Rattle.xs_base.specs.declared.component.Row.{Row}
 use Rattle.xs_base.specs.Sets.{has}
 use Rattle.xs_base.specs.Bytes.{is_within}
+use Rattle.xs_base.proofs.ByteLemmas.{within_tells}
 use Rattle.xs_base.specs.Standard.{has_byte, component_byte, IsWritten}
 
 -- one row further, for any function of the rows that are left
@@ -64,3 +65,15 @@ module _ (byte : ℕ → ℕ → ℕ) (place : Row → ℕ) (mask : ℕ) where
       component_none rows k _ (λ j t later at m. others (j + 1) t (omega arith) (rw add-one at) m (λ e. omega arith)) ∙ first
   component_one (s ∷ rows) (suc i) r k d lt is wanted here others =
       component_one rows i r k _ (omega arith) is wanted here (λ j t later at m apart. others (j + 1) t (omega arith) (rw add-one at) m (λ e. apart (omega arith)))
+
+-- Only the bytes of the place count.
+pub written_as : (at n : ℕ) (byte other : ℕ → ℕ) (old new : List ℕ) → ((k : ℕ) → k < n → byte k ≡ other k) → IsWritten at n byte old new → IsWritten at n other old new
+written_as at n byte other old new same written = record { len = written.len; each = λ i. written.each i ∙ each i }
+  where
+    choose : (a b : Bool) (x y z : ℕ) → (a ≡ true → x ≡ y) → (if a && b then x else z) ≡ (if a && b then y else z)
+    choose true true x y z e = e refl
+    choose true false x y z e = refl
+    choose false b x y z e = refl
+
+    each : (i : ℕ) → (if is_within at n i && not (is_within 24 8 i) then byte (i - at) else get_or old i 0) ≡ (if is_within at n i && not (is_within 24 8 i) then other (i - at) else get_or old i 0)
+    each i = choose (is_within at n i) (not (is_within 24 8 i)) (byte (i - at)) (other (i - at)) (get_or old i 0) (λ inside. let tells = within_tells at n i inside in same (i - at) (omega arith))

@@ -1,5 +1,7 @@
 -- What a save area stands for, in either format (SDM volume 1, 13.4, 13.8 and 13.12). An area says nothing of PKRU: the
--- kernel keeps it beside (Linux 6.6, arch/x86/include/asm/thread_info.h and arch/x86/kernel/process_64.c).
+-- kernel keeps it beside (Linux 6.6, arch/x86/include/asm/processor.h, struct thread_struct, and
+-- arch/x86/kernel/process_64.c, x86_pkru_load). What a copy leaves out, and when it names a component, is this project's
+-- own.
 use Rattle.std.specs.Prelude.{◌≡◌, ℕ, ◌+◌, ◌<◌, ◌≤◌, Bool, true, false, not, ◌&&◌, ◌||◌, ◌==◌, nat_le, List, length, slice_index, slice_get, slice_range, Option, Some, None, if◌then◌else◌}
 use Rattle.xs_base.specs.declared.component.Row.{Row}
 use Rattle.xs_base.specs.declared.header.Parts.{Parts}
@@ -49,7 +51,7 @@ abbrev pub ends_inside : List Row → List ℕ → Option Row → Bool
 ends_inside rows area None = false
 ends_inside rows area (Some r) = nat_le (place rows (xcomp_bv area) r + r.size) (length area)
 
--- The area has room for component c: the component has a place in it.
+-- The area has room for component c: the component has a place by XCOMP_BV, and the area has its bytes.
 abbrev pub has_room : List Row → List ℕ → ℕ → Bool
 has_room rows area c = has_place rows (xcomp_bv area) c && ends_inside rows area (row_of rows c)
 
@@ -64,12 +66,12 @@ pub record IsCut (rows : List Row) (area : List ℕ) (file cut : File) : Type 0 
   pub left_out : (c : ℕ) → has_row rows c ≡ true → has_room rows area c ≡ false → part cut c ≡ initial_part c
   pub control : cut.mxcsr ≡ (if has_control_room rows area then file.mxcsr else initial_mxcsr)
 
--- Component c is named in XSTATE_BV by a kernel's copy of these components: PKRU never is, and SSE also where MXCSR isn't
--- initial and goes with it.
+-- Component c is named in XSTATE_BV by a kernel's copy of components `bits` and this MXCSR: PKRU never is, and SSE also
+-- where MXCSR isn't initial and goes with it.
 abbrev pub is_named : List Row → List ℕ → ℕ → ℕ → ℕ → Bool
-is_named rows area bits value c =
+is_named rows area bits control c =
     (has bits c && not (c == 9) && has_room rows area c)
-    || ((c == 1) && is_compacted (xcomp_bv area) && has_room rows area 1 && not (value == initial_mxcsr))
+    || ((c == 1) && is_compacted (xcomp_bv area) && has_room rows area 1 && not (control == initial_mxcsr))
 
 -- What a copy leaves of the area that it writes: the length, XCOMP_BV and the reserved bytes of the header.
 pub record KeepsForm (old new : List ℕ) : Type 0 where

@@ -1,5 +1,6 @@
 -- A register file: the bytes of every component, by its number, and MXCSR beside component 1.
--- A number that the machine doesn't have keeps its initial bytes, but for PKRU, which every task has.
+-- A number that the machine doesn't have keeps its initial bytes, but for PKRU, which every task has: this is the project's
+-- own.
 use Rattle.std.specs.Prelude.{◌≡◌, ℕ, ◌+◌, ◌%◌, ◌^◌, ◌<◌, Bool, true, false, not, ◌&&◌, ◌||◌, ◌==◌, nat_le, nat_lt, List, [], ◌++◌, length, map, bytes_eq, slice_index, slice_index_or, slice_range, slice_set, if◌then◌else◌}
 use Rattle.std.specs.List.{range_with_len}
 use Rattle.std.specs.Int.{from_le_bytes, to_le_bytes, w32}
@@ -31,7 +32,7 @@ abbrev pub with_pkru : File → ℕ → File
 with_pkru file value = with_part file 9 (to_le_bytes w32 value ++ zeros 4)
 
 -- Byte k of component c belongs to a register. Byte 5 of component 0, its bytes 24 to 31 and the upper six bytes of each
--- ST slot, and the upper four bytes of component 9 belong to none.
+-- ST slot, and the upper four bytes of component 9 belong to none. That they are zero in a file is this project's own.
 abbrev pub is_own : ℕ → ℕ → Bool
 is_own c k =
     if c == 0 then not (k == 5) && not (is_within 24 8 k) && not (nat_le 32 k && nat_le 10 (k % 16))

@@ -54,8 +54,8 @@ abbrev pub has_wrong_size : Row → Bool
 has_wrong_size r =
     not (r.size == component_size r.comp.0) || ((r.comp.0 == 0) && not (r.offset == 0)) || ((r.comp.0 == 1) && not (r.offset == 160))
 
--- A flag above bit 2, a supervisor component, XFD of another component than TILEDATA, TILEDATA without XFD, or a
--- flag of a legacy component.
+-- A flag above bit 2, a supervisor component, XFD (SDM volume 1, 13.14) of another component than TILEDATA, TILEDATA
+-- without XFD, or a flag of a legacy component.
 abbrev pub has_wrong_flags : Row → Bool
 has_wrong_flags r =
     nat_lt 7 r.flags || has r.flags 0 || (has r.flags 2 && not (r.comp.0 == 18)) || (not (has r.flags 2) && (r.comp.0 == 18))
@@ -153,11 +153,12 @@ unfoldable pub set_of : (ℕ → Bool) → List ℕ → ℕ
 set_of test [] = 0
 set_of test (c ∷ cs) = (if test c then 2 ^ c else 0) + set_of test cs
 
--- XCR0 of the machine
+-- XCR0 of the machine (SDM volume 1, 13.3)
 abbrev pub features : List Row → ℕ
 features rows = set_of (has_row rows) component_numbers
 
--- the machine's features without TILEDATA
+-- The machine's features without TILEDATA, which a task must ask for (Linux 6.6, arch/x86/kernel/fpu/xstate.c,
+-- fpu__init_system_xstate: default_features).
 abbrev pub default_features : List Row → ℕ
 default_features rows = set_of (λ c. has_row rows c && not (c == 18)) component_numbers
 
@@ -170,7 +171,8 @@ end_of test (r ∷ rows) = if test r.comp.0 then max (row_end r) (end_of test ro
 abbrev pub standard_size : List Row → ℕ → ℕ
 standard_size rows mask = end_of (has mask) rows
 
--- the bytes of the standard format with every component, and with all but TILEDATA
+-- The bytes of the standard format with every component, and with all but TILEDATA (Linux 6.6,
+-- arch/x86/include/asm/fpu/types.h, struct fpu_state_config: max_size, default_size).
 abbrev pub full_size : List Row → ℕ
 full_size rows = end_of (λ _. true) rows
 

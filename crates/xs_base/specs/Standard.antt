@@ -18,7 +18,7 @@ abbrev pub saved_byte : File → ℕ → ℕ → ℕ
 saved_byte file c k = if is_own c k then slice_index (part file c) k else 0
 
 -- Byte i of an area: the byte of the component of the mask that has it, and d where none has it. The component of a row
--- stands at `place` of the row, and `byte c k` is byte k of component c.
+-- stands at `place` of the row, and `byte c k` is byte k of component c. Places don't overlap, so at most one row has it.
 unfoldable pub component_byte : (ℕ → ℕ → ℕ) → (Row → ℕ) → ℕ → ℕ → List Row → ℕ → ℕ
 component_byte byte place mask i [] d = d
 component_byte byte place mask i (r ∷ rows) d =

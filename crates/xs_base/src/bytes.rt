@@ -4,7 +4,7 @@ ghost use Rattle.std.specs.Prelude.{◌≡◌, ◌+◌, ◌≤◌, length, slice
 ghost use Rattle.xs_base.specs.Bytes.{splice, zeros};
 ghost use Rattle.xs_base.specs.Component.{component_size, initial_part};
 ghost use Rattle.xs_base.specs.File.{is_own};
-ghost use Rattle.xs_base.specs.Standard.{IsWritten, IsCleaned};
+ghost use Rattle.xs_base.specs.Standard.{IsWritten, IsCleaned, control_bytes};
 
 use crate::component::Comp;
 
@@ -95,4 +95,15 @@ pub fn put_initial_component(out: &mut [u8], at: usize, comp: Comp, size: usize)
     control.copy_from_slice(&out[24..32]);
     put_initial(out, at, comp, size);
     put(out, 24, &control);
+}
+
+/// Writes MXCSR and MXCSR_MASK into an area, bytes 24 to 31 (SDM volume 1, 10.5.1).
+#[tactic(auto, unfolding(crate::specs::Standard::control_bytes))]
+pub fn put_control(out: &mut [u8], mxcsr: u32)
+    requires { 32 ≤ length out.old }
+    ensures written { out.new ≡ splice 24 (control_bytes mxcsr) out.old }
+    ensures len { length out.new ≡ length out.old }
+{
+    let [a, b, c, d] = mxcsr.to_le_bytes();
+    put(out, 24, &[a, b, c, d, 0xff, 0xff, 0, 0]);
 }

@@ -4,23 +4,23 @@
 #[derive(Clone, Copy, PartialEq, Eq, Debug)]
 pub enum LayoutError {
     /// The number is that of no component here.
-    UnknownComponent,
+    UnknownComponent = 1,
     /// The number isn't above that of the row before.
-    Repeated,
+    Repeated = 2,
     /// The size is 0.
-    SizeZero,
+    SizeZero = 3,
     /// The size isn't the component's, or row 0 or 1 stands elsewhere than in the legacy region.
-    SizeWrong,
+    SizeWrong = 4,
     /// The flags aren't those that the component may have.
-    FlagsWrong,
+    FlagsWrong = 5,
     /// The row ends past byte 16,384.
-    TooLarge,
+    TooLarge = 6,
     /// The row begins in the legacy region or the header, or before the end of the row before.
-    Overlap,
+    Overlap = 7,
     /// Row 0 or row 1 isn't there.
-    LegacyMissing,
+    LegacyMissing = 8,
     /// Of TILECFG and TILEDATA one is there without the other.
-    TileAlone,
+    TileAlone = 9,
 }
 
 /// The first test that a table fails: of its first row that fails, or of the table as a whole.

@@ -13,7 +13,9 @@ mod little_endian;
 mod tests;
 mod words;
 
-pub use bytes::{clean, clear, put, put_component, put_initial, put_initial_component};
+pub use bytes::{
+    clean, clear, put, put_component, put_control, put_initial, put_initial_component,
+};
 pub use component::{Comp, Features, Place, Row};
 pub use header::{HeaderError, Origin, Parts};
 pub use lane::Lane;

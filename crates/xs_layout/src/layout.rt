@@ -2,7 +2,7 @@
 
 ghost use Rattle.std.specs.Prelude.{◌≡◌, ℕ, ◌<◌, ◌≤◌, Bool, true, false, not, ◌&&◌, ◌==◌, length, slice_index_or, IfOk, IfErr, IfSome, MatchOption, Some};
 ghost use Rattle.xs_base.specs.Sets.{has};
-ghost use Rattle.xs_base.specs.Layout.{IsLayout, IsSound, IsRowOf, amx_rows, avx_rows, has_row, features, default_features};
+ghost use Rattle.xs_base.specs.Layout.{IsLayout, IsSound, IsRowOf, most_rows, amx_rows, avx_rows, has_row, features, default_features};
 ghost use Rattle.xs_base.specs.Layout as table;
 ghost use Rattle.xs_layout.specs.Rows.{padded};
 
@@ -28,7 +28,7 @@ macro_rules! row {
 /// Fills the rows past a layout's last.
 const NO_ROW: Row = row!(0, 0, 0, 0);
 
-const AMX: [Row; MOST_ROWS] = [
+const AMX: [Row; 9] = [
     row!(0, 160, 0, 0),
     row!(1, 256, 160, 0),
     row!(2, 256, 576, 0),
@@ -40,21 +40,15 @@ const AMX: [Row; MOST_ROWS] = [
     row!(18, 8192, 2816, 6),
 ];
 
-const AVX: [Row; MOST_ROWS] = [
+const AVX: [Row; 3] = [
     row!(0, 160, 0, 0),
     row!(1, 256, 160, 0),
     row!(2, 256, 576, 0),
-    NO_ROW,
-    NO_ROW,
-    NO_ROW,
-    NO_ROW,
-    NO_ROW,
-    NO_ROW,
 ];
 
 /// A machine's table of components, in rising order of their numbers. Contracts see the list of its rows. A copy
 /// takes no memory.
-#[derive(Clone, Copy)]
+#[derive(Clone, Copy, PartialEq, Eq, Debug)]
 pub struct Layout {
     rows: [Row; MOST_ROWS],
     count: usize,
@@ -81,20 +75,14 @@ impl Layout {
     pub fn amx() -> Layout
         ensures { result ≡ amx_rows }
     {
-        Layout {
-            rows: AMX,
-            count: 9,
-        }
+        Layout::of_table(&AMX)
     }
 
     /// The machine with x87, SSE and AVX alone.
     pub fn avx() -> Layout
         ensures { result ≡ avx_rows }
     {
-        Layout {
-            rows: AVX,
-            count: 3,
-        }
+        Layout::of_table(&AVX)
     }
 
     /// The layout of exactly these rows, or the first test that they fail: of the first row that fails, or else of the
@@ -107,16 +95,13 @@ impl Layout {
         if let Some(fault) = layout_fault(rows) {
             return Err(fault);
         }
-        Ok(Layout {
-            rows: padded(rows),
-            count: rows.len(),
-        })
+        Ok(Layout::of_table(rows))
     }
 
     /// The number of rows, at most `MOST_ROWS`.
     pub fn len(&self) -> usize
         ensures len { result ≡ length self.now }
-        ensures few { result ≤ 9 }
+        ensures few { result ≤ most_rows }
         ensures layout { IsLayout self.now }
     {
         self.count
@@ -181,11 +166,23 @@ impl Layout {
     {
         Features(self.features().0 & !Features::TILEDATA.0)
     }
+
+    /// The layout of rows that pass every test.
+    fn of_table(rows: &[Row]) -> Layout
+        requires { IsLayout rows.now }
+        ensures { result ≡ rows.now }
+    {
+        let padded_rows = padded(rows);
+        Layout {
+            rows: padded_rows,
+            count: rows.len(),
+        }
+    }
 }
 
 /// The rows, and rows of nothing behind them.
 fn padded(rows: &[Row]) -> [Row; MOST_ROWS]
-    requires { length rows.now ≤ 9 }
+    requires { length rows.now ≤ most_rows }
     ensures { result ≡ padded rows.now }
 {
     let mut table = [NO_ROW; MOST_ROWS];

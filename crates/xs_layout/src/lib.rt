@@ -5,7 +5,9 @@
 mod checks;
 mod layout;
 mod places;
+#[cfg(test)]
+mod tests;
 
 pub use checks::{component_size, row_error, table_error};
-pub use layout::Layout;
+pub use layout::{Layout, MOST_ROWS};
 pub use xs_base::{LayoutError, LayoutFault, Row};

@@ -4,6 +4,7 @@ pub mod AreaLemmas
 pub mod Stepping
 pub mod HeldLemmas
 pub mod TaskLemmas
+pub mod BuiltRegisters
 pub mod TurnLemmas
 pub mod Opening
 pub mod EngineLoops
@@ -15,16 +16,9 @@ pub mod OneSpelling
 pub mod KnownBytes
 pub mod HistoryFront
 pub mod LegalTasks
-pub mod Numbers
-pub mod Lanes
-pub mod Registers
-pub mod Cuts
-pub mod Spellings
-pub mod Readings
-pub mod Bodies
-pub mod Blocks
-pub mod Heads
-pub mod Scripts
 -- Lemmas of the top call.
 pub mod AnswerLemmas
+pub mod Verdicts
+pub mod Numbering
+pub mod KnownInputs
 pub mod CommandWords

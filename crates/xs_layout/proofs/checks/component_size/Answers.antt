@@ -1,5 +1,5 @@
 -- The constant is the table of the definition.
-use Rattle.std.proofs.Common.{refl, arith}
+use Rattle.std.proofs.Common.{arith}
 use Rattle.std.proofs.lemmas.Grind.{common_steps}
 use Rattle.xs_base.specs.Component.{sizes, component_size}
 use Rattle.xs_layout.proofs.checks.component_size.Goals as goal

@@ -1,7 +1,6 @@
 -- The rows before this one have passed, and there are no more of them than components.
-use Rattle.std.proofs.Common.{◌≡◌, ◌≤◌, None, Some, sym, ◌∙◌, arith}
+use Rattle.std.proofs.Common.{sym, ◌∙◌, arith}
 use Rattle.std.proofs.lemmas.List.{get_or_default}
-use Rattle.xs_base.specs.Layout.{row_error, row, most_rows}
 use Rattle.xs_base.proofs.FaultLemmas.{checked_found, checked_more, checked_all, checked_few}
 use Rattle.xs_layout.proofs.checks.first_row_fault.Goals as goal
 

@@ -1,5 +1,5 @@
 -- Rows of nothing stand behind the rows.
-use Rattle.std.proofs.Common.{◌≡◌, List, ◌++◌, drop, length, ap, ◌∙◌, arith}
+use Rattle.std.proofs.Common.{List, ◌++◌, length, ap}
 use Rattle.std.proofs.lemmas.List.{drop-replicate}
 use Rattle.xs_base.specs.declared.component.Row.{Row}
 use Rattle.xs_base.specs.Layout.{most_rows}

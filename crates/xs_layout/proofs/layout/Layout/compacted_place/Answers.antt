@@ -1,5 +1,5 @@
 -- The end so far, one row on.
-use Rattle.std.proofs.Common.{◌≡◌, ℕ, ◌+◌, ◌<◌, ◌≤◌, length, subst, sym, ◌∙◌, arith}
+use Rattle.std.proofs.Common.{ℕ, ◌+◌, ◌<◌, ◌≤◌, length, subst, sym, ◌∙◌, arith}
 use Rattle.xs_base.proofs.CompactLemmas.{IsSought, sought_more, sought_here, sought_all}
 use Rattle.xs_layout.proofs.layout.Layout.compacted_place.Goals as goal
 

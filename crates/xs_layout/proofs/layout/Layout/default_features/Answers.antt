@@ -1,5 +1,5 @@
 -- The features without the bit of TILEDATA.
-use Rattle.std.proofs.Common.{◌≡◌, ℕ, ◌<◌, ◌^◌, ◌&&◌, ◌==◌, not, ap, ◌∙◌, arith}
+use Rattle.std.proofs.Common.{ℕ, ◌<◌, ◌^◌, ◌&&◌, ◌==◌, not, ap, ◌∙◌, arith}
 use Rattle.xs_base.specs.Sets.{has}
 use Rattle.xs_base.proofs.SetLemmas.{has_without}
 use Rattle.xs_base.proofs.FeatureLemmas.{default_features_are}

@@ -1,6 +1,5 @@
 -- The set gathers the rows one by one.
 use Rattle.std.proofs.Common.{◌<◌, ◌≤◌, length, arith}
-use Rattle.xs_base.specs.Component.{component_count}
 use Rattle.xs_base.proofs.FeatureLemmas.{gathered_more, gathered_all, features_are}
 use Rattle.xs_layout.proofs.layout.Layout.features.Goals as goal
 

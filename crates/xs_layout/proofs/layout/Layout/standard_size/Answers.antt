@@ -1,5 +1,5 @@
 -- The end so far, one row on.
-use Rattle.std.proofs.Common.{◌≡◌, ℕ, ◌+◌, ◌<◌, ◌≤◌, true, false, length, max, subst, sym, ◌∙◌, arith}
+use Rattle.std.proofs.Common.{ℕ, ◌+◌, ◌<◌, ◌≤◌, length, subst, sym, ◌∙◌, arith}
 use Rattle.xs_base.specs.Sets.{has}
 use Rattle.xs_base.specs.Layout.{most_bytes, end_of}
 use Rattle.xs_base.proofs.SizeLemmas.{IsSized, sized_none, sized_take, sized_skip, sized_all, end_most}

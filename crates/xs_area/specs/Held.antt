@@ -1,0 +1,19 @@
+-- What an area holds of a component.
+use Rattle.std.specs.Prelude.{ℕ, ◌+◌, ◌==◌, List, ◌++◌, slice_index, if◌then◌else◌}
+use Rattle.std.specs.Int.{to_le_bytes, w32}
+use Rattle.xs_base.specs.Sets.{has}
+use Rattle.xs_base.specs.Bytes.{zeros}
+use Rattle.xs_base.specs.Component.{initial_part}
+use Rattle.xs_base.specs.File.{is_own}
+
+-- the bytes of component 9
+unfoldable pub pkru_bytes : ℕ → List ℕ
+pkru_bytes pkru = to_le_bytes w32 pkru ++ zeros 4
+
+-- Byte k of component c, which stands from `at` on where its bit of XSTATE_BV is 1, and is initial where it is 0. PKRU
+-- is kept beside the area.
+abbrev pub held_byte : List ℕ → ℕ → ℕ → ℕ → ℕ → ℕ → ℕ
+held_byte area bits pkru at c k =
+    if c == 9 then slice_index (pkru_bytes pkru) k
+    else if has bits c then (if is_own c k then slice_index area (at + k) else 0)
+    else slice_index (initial_part c) k

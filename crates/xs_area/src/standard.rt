@@ -1,0 +1,100 @@
+//! The standard bytes of what an area stands for.
+
+ghost use Rattle.std.specs.Prelude.{◌≡◌, ℕ, ◌+◌, ◌≤◌, true, length, slice_index};
+ghost use Rattle.xs_base.specs.Area.{StandsFor, HoldsPlaces, control_in};
+ghost use Rattle.xs_base.specs.File.{File, IsFile, with_pkru};
+ghost use Rattle.xs_base.specs.Header as header;
+ghost use Rattle.xs_base.specs.Layout.{standard_size, IsSound};
+ghost use Rattle.xs_base.specs.Standard as standard;
+ghost use Rattle.xs_base.specs.Standard.{IsStandard, IsWritten, component_byte, saved_byte};
+ghost use Rattle.xs_base.specs.Sets.{has};
+ghost use Rattle.xs_area.specs.Held as held;
+
+use crate::area::{Area, mxcsr, xcomp_bv, xstate_bv};
+use crate::check::INITIAL_MXCSR;
+use crate::cursor::Cursor;
+use xs_base::{Comp, Features, Row, put_component, put_control, put_initial_component};
+use xs_layout::Layout;
+
+/// Writes the standard bytes of what the area stands for, with this PKRU, for the components of `mask`, over `out`
+/// (SDM volume 1, 13.7). The area has at least 576 bytes and the place of each component whose bit in XSTATE_BV is 1;
+/// `out` has at least `standard_size(mask)` bytes.
+pub fn standard_of(layout: &Layout, area: &Area, pkru: u32, mask: Features, out: &mut [u8])
+    requires header { 576 ≤ length area.now.bytes.items }
+    requires places { HoldsPlaces layout.now area.now.bytes.items (header.xstate_bv area.now.bytes.items) }
+    requires room { standard_size layout.now mask.0 ≤ length out.old }
+    ensures len { length out.new ≡ length out.old }
+    ensures standard { (file : File) → IsFile file → StandsFor layout.now area.now.bytes.items file → IsStandard (with_pkru file pkru) mask.0 out.old out.new }
+{
+    put_components(layout, &area.bytes, pkru, mask, out);
+    if has_control(mask) {
+        put_control(out, control_in(&area.bytes));
+    }
+}
+
+/// Whether MXCSR is saved with these components (SDM volume 1, 13.7).
+fn has_control(mask: Features) -> bool
+    ensures { result ≡ standard.has_control mask.0 }
+{
+    mask.has(Comp(1)) || mask.has(Comp(2))
+}
+
+/// Writes the components of `mask` to their standard places. Bytes 24 to 31 stay.
+fn put_components(layout: &Layout, area: &[u8], pkru: u32, mask: Features, out: &mut [u8])
+    requires header { 576 ≤ length area.now }
+    requires places { HoldsPlaces layout.now area.now (header.xstate_bv area.now) }
+    requires room { standard_size layout.now mask.0 ≤ length out.old }
+    ensures len { length out.new ≡ length out.old }
+    ensures each { (file : File) → IsFile file → StandsFor layout.now area.now file → (k : ℕ) → slice_index out.new k ≡ component_byte (saved_byte (with_pkru file pkru)) (λ r. r.offset) mask.0 k layout.now (slice_index out.old k) }
+{
+    let bits = Features(xstate_bv(area));
+    let mut cursor = Cursor::new(Features(xcomp_bv(area)));
+    'each: for i in 0..layout.len() {
+        let row = layout.row_at(i);
+        let at = cursor.pass(row);
+        if mask.has(row.comp) {
+            put_held(area, at, bits, pkru, row, out);
+        }
+    }
+}
+
+/// Writes a component to its standard place: PKRU, or what the area has from byte `at` on, or the initial
+/// configuration.
+fn put_held(area: &[u8], at: usize, bits: Features, pkru: u32, row: Row, out: &mut [u8])
+    requires sound { IsSound row }
+    requires held { has bits.0 row.comp.0 ≡ true → at + row.size ≤ length area.now }
+    requires room { row.offset + row.size ≤ length out.old }
+    requires legacy { 32 ≤ length out.old }
+    ensures { IsWritten row.offset row.size (held.held_byte area.now bits.0 pkru at row.comp.0) out.old out.new }
+{
+    let to = row.offset as usize;
+    let size = row.size as usize;
+    if row.comp.0 == 9 {
+        put_component(out, to, row.comp, &pkru_bytes(pkru));
+    } else if bits.has(row.comp) {
+        put_component(out, to, row.comp, &area[at..at + size]);
+    } else {
+        put_initial_component(out, to, row.comp, size);
+    }
+}
+
+/// The bytes of component 9.
+#[tactic(auto, unfolding(crate::specs::Held::pkru_bytes, xs_base::specs::Bytes::zeros))]
+fn pkru_bytes(pkru: u32) -> [u8; 8]
+    ensures { result ≡ held.pkru_bytes pkru }
+{
+    let [a, b, c, d] = pkru.to_le_bytes();
+    [a, b, c, d, 0, 0, 0, 0]
+}
+
+/// The area's MXCSR: in the compacted format it is initial where SSE is (SDM volume 1, 13.8.2).
+pub fn control_in(area: &[u8]) -> u32
+    requires { 576 ≤ length area.now }
+    ensures { result ≡ control_in area.now }
+{
+    if Features(xcomp_bv(area)).has(Comp(63)) && !Features(xstate_bv(area)).has(Comp(1)) {
+        INITIAL_MXCSR
+    } else {
+        mxcsr(area)
+    }
+}
