@@ -5,6 +5,8 @@ mod file;
 mod number;
 mod register;
 mod tables;
+#[cfg(test)]
+mod tests;
 
 pub use file::File;
 pub use register::{one_place, place_of, place_of_bytes};
