@@ -4,10 +4,12 @@
 
 mod area;
 mod check;
+mod copies;
 mod cursor;
 mod standard;
 
 pub use area::{Area, mxcsr, xcomp_bv, xstate_bv};
 pub use check::read_standard;
+pub use copies::{compact_of, copy_area};
 pub use standard::standard_of;
 pub use xs_base::{HeaderError, Origin, Parts};
