@@ -2,7 +2,9 @@
 #![tactic(auto)]
 
 mod line;
+mod line_reader;
 mod refusal;
+mod words;
 
 pub use line::Line;
 pub use refusal::{Kind, LimitName, ScriptError};
