@@ -1,7 +1,10 @@
 -- What the tests of a machine's table tell of its rows.
-use Rattle.std.proofs.Common.{◌≡◌, ℕ, zero, suc, ◌+◌, ◌<◌, ◌≤◌, Bool, true, false, not, ◌&&◌, ◌||◌, ◌==◌, nat_le, nat_lt, List, [], ◌∷◌, length, get_or, Option, Some, None, if◌then◌else◌, refl, sym, ap, subst, ◌∙◌, arith}
+use Rattle.std.proofs.Common.{◌≡◌, ◌≢◌, ◌⊎◌, inl, inr, ℕ, zero, suc, ◌+◌, ◌<◌, ◌≤◌, Bool, true, false, not, ◌&&◌, ◌||◌, ◌==◌, nat_le, nat_lt, List, [], ◌∷◌, length, get_or, Option, Some, None, if◌then◌else◌, refl, sym, ap, subst, ◌∙◌, arith}
+use Rattle.std.proofs.lemmas.Bool.{cases_order, cases_lt, eq-eqb, eqb-true}
 use Rattle.std.proofs.lemmas.Bool.Decides.{nat_tests}
+use Rattle.std.proofs.lemmas.List.Folds.{list_any_at}
 use Rattle.std.specs.List.{list_any}
+use Rattle.xs_base.proofs.SetLemmas.{has_set_of}
 use Rattle.xs_base.specs.declared.component.Row.{Row}
 use Rattle.xs_base.specs.declared.layout_error.LayoutError.{LayoutError}
 use Rattle.xs_base.specs.declared.layout_error.LayoutError.TheVariants as errors
@@ -9,7 +12,11 @@ use Rattle.xs_base.specs.declared.layout_error.LayoutFault.{LayoutFault}
 use Rattle.xs_base.specs.First.{first_of}
 use Rattle.xs_base.specs.Sets.{has}
 use Rattle.xs_base.specs.Component.{component_numbers, component_count, component_size, sizes}
-use Rattle.xs_base.specs.Layout.{is_known, is_unknown, is_repeated, has_wrong_size, has_wrong_flags, is_too_large, overlaps, row_error, first_row_fault, fault_or, fault_else, layout_fault, table_error, IsLayout, IsSound, amx_rows, avx_rows, has_row}
+use Rattle.xs_base.specs.Layout.{is_known, is_unknown, is_repeated, has_wrong_size, has_wrong_flags, is_too_large, overlaps, row_error, first_row_fault, fault_or, fault_else, layout_fault, table_error, IsLayout, IsSound, IsRowOf, most_rows, amx_rows, avx_rows, has_row, features, default_features}
+
+-- two runs of bytes have no byte in common
+abbrev pub AreApart : ℕ → ℕ → ℕ → ℕ → Type 0
+AreApart at m at' m' = (at + m ≤ at') ⊎ (at' + m' ≤ at)
 
 -- the rows of `amx` are a machine's table
 pub amx_is_layout : IsLayout amx_rows
@@ -109,3 +116,169 @@ sound_from before at (r0 ∷ rows) h (suc i) r lt is = sound_from (Some r0) (at 
 -- each row of a machine's table is sound
 pub sound_at : (rows : List Row) → IsLayout rows → (i : ℕ) (r : Row) → i < length rows → r ≡ get_or rows i r → IsSound r
 sound_at rows h = sound_from None 0 rows (layout_parts rows h).0
+
+-- ---- the numbers rise
+
+-- a row that passes has a greater number than the row before
+pub number_after : (b r : Row) → Passes (Some b) r → b.comp.0 < r.comp.0
+number_after b r p = let h = p.repeated in grind (arith, nat_tests)
+
+-- every row has a greater number than the row before them all
+pub rise_from : (b : Row) (at : ℕ) (rows : List Row) → first_row_fault (Some b) at rows ≡ None → (i : ℕ) (r : Row) → i < length rows → r ≡ get_or rows i r → b.comp.0 < r.comp.0
+rise_from b at [] h i r lt is = absurd (omega arith)
+rise_from b at (r0 ∷ rows) h zero r lt is =
+    let P : Row → Type 0 = λ x. b.comp.0 < x.comp.0 in
+    subst P (sym is) (number_after b r0 (passes (Some b) r0 (row_fault_none (Some b) at r0 rows h).0))
+rise_from b at (r0 ∷ rows) h (suc i) r lt is =
+    let first = number_after b r0 (passes (Some b) r0 (row_fault_none (Some b) at r0 rows h).0) in
+    let later = rise_from r0 (at + 1) rows (row_fault_none (Some b) at r0 rows h).1 i r (omega arith) is in
+    omega arith
+
+rise_between : (before : Option Row) (at : ℕ) (rows : List Row) → first_row_fault before at rows ≡ None → (i j : ℕ) (r s : Row) → i < j → j < length rows → r ≡ get_or rows i r → s ≡ get_or rows j s → r.comp.0 < s.comp.0
+rise_between before at [] h i j r s lt within is it = absurd (omega arith)
+rise_between before at (r0 ∷ rows) h i zero r s lt within is it = absurd (omega arith)
+rise_between before at (r0 ∷ rows) h zero (suc j) r s lt within is it =
+    let P : Row → Type 0 = λ x. x.comp.0 < s.comp.0 in
+    subst P (sym is) (rise_from r0 (at + 1) rows (row_fault_none before at r0 rows h).1 j s (omega arith) it)
+rise_between before at (r0 ∷ rows) h (suc i) (suc j) r s lt within is it =
+    rise_between (Some r0) (at + 1) rows (row_fault_none before at r0 rows h).1 i j r s (omega arith) (omega arith) is it
+
+-- numbers rise with the index
+pub rise_at : (rows : List Row) → IsLayout rows → (i j : ℕ) (r s : Row) → i < j → j < length rows → r ≡ get_or rows i r → s ≡ get_or rows j s → r.comp.0 < s.comp.0
+rise_at rows h = rise_between None 0 rows (layout_parts rows h).0
+
+-- rows of one number are one row
+pub same_index : (rows : List Row) → IsLayout rows → (i j : ℕ) (r s : Row) → i < length rows → j < length rows → r ≡ get_or rows i r → s ≡ get_or rows j s → r.comp.0 ≡ s.comp.0 → i ≡ j
+same_index rows h i j r s lt within is it same = here (cases_order i j)
+  where
+    here : (i ≡ j) ⊎ ((i < j) ⊎ (j < i)) → i ≡ j
+    here (inl e) = e
+    here (inr (inl less)) = let rise = rise_at rows h i j r s less within is it in absurd (omega arith)
+    here (inr (inr more)) = let rise = rise_at rows h j i s r more lt it is in absurd (omega arith)
+
+-- a row is among the rows by its number
+pub has_row_at : (rows : List Row) (i : ℕ) (r : Row) → i < length rows → r ≡ get_or rows i r → has_row rows r.comp.0 ≡ true
+unfolding has_row
+has_row_at rows i r lt is = list_any_at (λ (x : Row). x.comp.0 == r.comp.0) rows i r lt (eq-eqb (get_or rows i r).comp.0 r.comp.0 (ap (λ (x : Row). x.comp.0) (sym is)))
+
+-- ---- how many rows there are
+
+-- how many numbers of the list are below n
+unfoldable below : ℕ → List ℕ → ℕ
+below n [] = 0
+below n (c ∷ cs) = (if nat_lt c n then 1 else 0) + below n cs
+
+below_length : (n : ℕ) (cs : List ℕ) → below n cs ≤ length cs
+unfolding below
+below_length n [] = omega arith
+below_length n (c ∷ cs) = one (nat_lt c n) (below_length n cs)
+  where
+    one : (b : Bool) → below n cs ≤ length cs → (if b then 1 else 0) + below n cs ≤ suc (length cs)
+    one true rest = omega arith
+    one false rest = omega arith
+
+-- a greater number has at least as many below it
+below_grows : (m n : ℕ) (cs : List ℕ) → m ≤ n → below m cs ≤ below n cs
+unfolding below
+below_grows m n [] le = omega arith
+below_grows m n (c ∷ cs) le = one (nat_lt c m) refl (nat_lt c n) refl (below_grows m n cs le)
+  where
+    one : (a : Bool) → nat_lt c m ≡ a → (b : Bool) → nat_lt c n ≡ b → below m cs ≤ below n cs → (if a then 1 else 0) + below m cs ≤ (if b then 1 else 0) + below n cs
+    one true is true it rest = omega arith
+    one true is false it rest = absurd (grind (arith, nat_tests))
+    one false is true it rest = omega arith
+    one false is false it rest = omega arith
+
+-- a greater number has one more below it, where the smaller one is of the list
+below_rises : (m n : ℕ) (cs : List ℕ) → m < n → list_any (λ c. c == m) cs ≡ true → below m cs + 1 ≤ below n cs
+unfolding below
+below_rises m n [] lt h = cc
+below_rises m n (c ∷ cs) lt h = one (c == m) refl (nat_lt c m) refl (nat_lt c n) refl h (below_grows m n cs (omega arith)) (below_rises m n cs lt)
+  where
+    one : (e : Bool) → (c == m) ≡ e → (a : Bool) → nat_lt c m ≡ a → (b : Bool) → nat_lt c n ≡ b → (e || list_any (λ k. k == m) cs) ≡ true → below m cs ≤ below n cs → (list_any (λ k. k == m) cs ≡ true → below m cs + 1 ≤ below n cs) → (if a then 1 else 0) + below m cs + 1 ≤ (if b then 1 else 0) + below n cs
+    one true at true is true it any grows rises = absurd (grind (arith, nat_tests))
+    one false at true is true it any grows rises = let r = rises any in omega arith
+    one e at true is false it any grows rises = absurd (grind (arith, nat_tests))
+    one true at false is true it any grows rises = omega arith
+    one true at false is false it any grows rises = absurd (grind (arith, nat_tests))
+    one false at false is true it any grows rises = let r = rises any in omega arith
+    one false at false is false it any grows rises = let r = rises any in omega arith
+
+-- how many components there are up to the row before, that one too
+pub rank_after : Option Row → ℕ
+rank_after None = 0
+rank_after (Some b) = below b.comp.0 component_numbers + 1
+
+-- the row before, where there is one, is sound
+abbrev pub IsSoundBefore : Option Row → Type 0
+IsSoundBefore None = Unit {0}
+IsSoundBefore (Some b) = IsSound b
+
+pub rank_none : rank_after None ≡ 0
+unfolding rank_after
+rank_none = refl
+
+pub rank_most : (before : Option Row) → IsSoundBefore before → rank_after before ≤ most_rows
+unfolding rank_after
+rank_most None h = omega arith
+rank_most (Some b) h =
+    let rise = below_rises b.comp.0 (suc b.comp.0) component_numbers (omega arith) h.known in
+    let most : below (suc b.comp.0) component_numbers ≤ most_rows = below_length (suc b.comp.0) component_numbers in
+    omega arith
+
+pub rank_more : (before : Option Row) (r : Row) → IsSoundBefore before → row_error before r ≡ None → rank_after before + 1 ≤ rank_after (Some r)
+unfolding rank_after
+rank_more None r h e = omega arith
+rank_more (Some b) r h e =
+    let rise = below_rises b.comp.0 r.comp.0 component_numbers (number_after b r (passes (Some b) r e)) h.known in
+    omega arith
+
+few_from : (before : Option Row) (at : ℕ) (rows : List Row) → IsSoundBefore before → first_row_fault before at rows ≡ None → rank_after before + length rows ≤ most_rows
+few_from before at [] s h = let most = rank_most before s in omega arith
+few_from before at (r ∷ rows) s h =
+    let parts = row_fault_none before at r rows h in
+    let step = rank_more before r s parts.0 in
+    let rest = few_from (Some r) (at + 1) rows (passes_sound before r (passes before r parts.0)) parts.1 in
+    omega arith
+
+-- a machine's table has a row for each component at most
+pub few_rows : (rows : List Row) → IsLayout rows → length rows ≤ most_rows
+few_rows rows h = let few = few_from None 0 rows tt (layout_parts rows h).0 in omega arith
+
+-- ---- features
+
+-- a component that the rows have has a row
+pub row_of : (rows : List Row) (c : ℕ) → has_row rows c ≡ true → (r : Row) × IsRowOf rows c r
+unfolding has_row
+row_of [] c h = cc
+row_of (r ∷ rows) c h = one (r.comp.0 == c) refl h (row_of rows c)
+  where
+    one : (b : Bool) → (r.comp.0 == c) ≡ b → (b || list_any (λ (x : Row). x.comp.0 == c) rows) ≡ true → (list_any (λ (x : Row). x.comp.0 == c) rows ≡ true → (x : Row) × IsRowOf rows c x) → (x : Row) × IsRowOf (r ∷ rows) c x
+    one true is any rest = (r, record { index = 0; within = omega arith; at = refl; number = eqb-true r.comp.0 c is })
+    one false is any rest =
+        let found = rest any in
+        let within : found.1.index < length rows = found.1.within in
+        (found.0, record { index = suc found.1.index; within = omega arith; at = found.1.at; number = found.1.number })
+
+-- what the rows have is a component
+pub has_row_known : (rows : List Row) → IsLayout rows → (c : ℕ) → has_row rows c ≡ true → is_known c ≡ true
+has_row_known rows h c on =
+    let found = row_of rows c on in
+    subst (λ (n : ℕ). is_known n ≡ true) found.1.number (sound_at rows h found.1.index found.0 found.1.within found.1.at).known
+
+set_known : (b k : Bool) → (b ≡ true → k ≡ true) → (b && k) ≡ b
+set_known true k h = h refl
+set_known false k h = refl
+
+-- the features are the components of the rows
+pub has_features : (rows : List Row) → IsLayout rows → (c : ℕ) → has (features rows) c ≡ has_row rows c
+has_features rows h c = has_set_of (has_row rows) component_numbers refl c ∙ set_known (has_row rows c) (is_known c) (has_row_known rows h c)
+
+pub has_default_features : (rows : List Row) → IsLayout rows → (c : ℕ) → has (default_features rows) c ≡ (has_row rows c && not (c == 18))
+has_default_features rows h c =
+    has_set_of (λ k. has_row rows k && not (k == 18)) component_numbers refl c
+    ∙ set_known (has_row rows c && not (c == 18)) (is_known c) (λ on. has_row_known rows h c (first (has_row rows c) (not (c == 18)) on))
+  where
+    first : (a b : Bool) → (a && b) ≡ true → a ≡ true
+    first true b h = refl
+    first false b h = h

@@ -1,6 +1,6 @@
 -- A machine's table of components: a row each, as CPUID leaf 0DH gives them (SDM volume 1, 13.2). That rows 0 and 1
 -- stand in the table too, that rows rise in number and in place, and every test of a table is this project's own.
-use Rattle.std.specs.Prelude.{◌≡◌, ℕ, ◌+◌, ◌^◌, ◌<◌, ◌≤◌, Bool, true, false, not, ◌&&◌, ◌||◌, ◌==◌, nat_le, nat_lt, List, [], ◌∷◌, length, max, Option, Some, None, if◌then◌else◌}
+use Rattle.std.specs.Prelude.{◌≡◌, ℕ, ◌+◌, ◌^◌, ◌<◌, ◌≤◌, Bool, true, false, not, ◌&&◌, ◌||◌, ◌==◌, nat_le, nat_lt, List, [], ◌∷◌, length, max, slice_index_or, Option, Some, None, if◌then◌else◌}
 use Rattle.std.specs.List.{list_any}
 use Rattle.xs_base.specs.declared.component.Row.{Row}
 use Rattle.xs_base.specs.declared.layout_error.LayoutError.{LayoutError}
@@ -134,6 +134,13 @@ pub record IsSound (r : Row) : Type 0 where
   pub x87 : r.comp.0 ≡ 0 → (r.offset ≡ 0) × (r.size ≡ 160)
   pub sse : r.comp.0 ≡ 1 → (r.offset ≡ 160) × (r.size ≡ 256)
   pub extended : 2 ≤ r.comp.0 → 576 ≤ r.offset
+
+-- The row is that of component c, at a place of the list.
+pub record IsRowOf (rows : List Row) (c : ℕ) (r : Row) : Type 0 where
+  pub index : ℕ
+  pub within : index < length rows
+  pub at : r ≡ slice_index_or rows index r
+  pub number : r.comp.0 ≡ c
 
 -- A machine has each component once at most.
 abbrev pub most_rows : ℕ

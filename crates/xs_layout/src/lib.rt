@@ -2,7 +2,9 @@
 //! standard and in the compacted format of an area. A layout is a list of rows that passes every test of a table.
 #![tactic(auto)]
 
+mod checks;
 mod layout;
 
+pub use checks::{row_error, table_error};
 pub use layout::Layout;
 pub use xs_base::{LayoutError, LayoutFault, Row};

@@ -1,0 +1,175 @@
+-- Places in the compacted format.
+use Rattle.std.proofs.Common.{◌≡◌, ◌≢◌, ◌⊎◌, inl, inr, ℕ, zero, suc, ◌+◌, ◌*◌, ◌/◌, ◌<◌, ◌≤◌, Bool, true, false, ◌&&◌, ◌==◌, nat_le, List, [], ◌∷◌, length, get_or, drop, Option, Some, None, if◌then◌else◌, refl, sym, ap, subst, ◌∙◌, arith}
+use Rattle.std.proofs.lemmas.Bool.{cases_order, cases_lt, cases_Bool, eq-eqb, ne_eqb, eqb-true}
+use Rattle.std.proofs.lemmas.Bool.Decides.{nat_tests}
+use Rattle.std.proofs.lemmas.List.{at_drop_more, at_drop_all}
+use Rattle.xs_base.specs.declared.component.Row.{Row}
+use Rattle.xs_base.specs.Sets.{has}
+use Rattle.xs_base.specs.Layout.{IsLayout, IsSound, first_row_fault}
+use Rattle.xs_base.specs.Compact.{aligned, is_extended, compact_after, compact_end, compact_from, compact_size, compact_offset}
+use Rattle.xs_base.proofs.LayoutLemmas.{AreApart, sound_at, rise_at, rise_from, row_fault_none, layout_parts}
+
+-- ---- one row on, from row i
+
+pub compact_end_more : (mask n : ℕ) (rows : List Row) (i : ℕ) (r : Row) → i < length rows → r ≡ get_or rows i r → compact_end mask n (drop i rows) ≡ compact_end mask (compact_after mask n r) (drop (i + 1) rows)
+unfolding compact_end
+compact_end_more mask n rows i r lt is = at_drop_more (compact_end mask n) rows i r lt ∙ ap (λ (x : Row). compact_end mask n (x ∷ drop (i + 1) rows)) (sym is)
+
+pub compact_end_all : (mask n : ℕ) (rows : List Row) (i : ℕ) → length rows ≤ i → compact_end mask n (drop i rows) ≡ n
+unfolding compact_end
+compact_end_all mask n rows i le = at_drop_all (compact_end mask n) rows i le
+
+from_step : (mask c n : ℕ) (rows : List Row) (i : ℕ) (r : Row) → i < length rows → r ≡ get_or rows i r → compact_from mask c n (drop i rows) ≡ (if r.comp.0 == c then aligned r n else compact_from mask c (compact_after mask n r) (drop (i + 1) rows))
+unfolding compact_from
+from_step mask c n rows i r lt is = at_drop_more (compact_from mask c n) rows i r lt ∙ ap (λ (x : Row). compact_from mask c n (x ∷ drop (i + 1) rows)) (sym is)
+
+pub compact_from_more : (mask c n : ℕ) (rows : List Row) (i : ℕ) (r : Row) → i < length rows → r ≡ get_or rows i r → r.comp.0 ≢ c → compact_from mask c n (drop i rows) ≡ compact_from mask c (compact_after mask n r) (drop (i + 1) rows)
+compact_from_more mask c n rows i r lt is other =
+    let step = from_step mask c n rows i r lt is in
+    let no = ne_eqb r.comp.0 c other in
+    step ∙ ap (λ b. if b then aligned r n else compact_from mask c (compact_after mask n r) (drop (i + 1) rows)) no
+
+pub compact_from_here : (mask c n : ℕ) (rows : List Row) (i : ℕ) (r : Row) → i < length rows → r ≡ get_or rows i r → r.comp.0 ≡ c → compact_from mask c n (drop i rows) ≡ aligned r n
+compact_from_here mask c n rows i r lt is same =
+    from_step mask c n rows i r lt is ∙ ap (λ b. if b then aligned r n else compact_from mask c (compact_after mask n r) (drop (i + 1) rows)) (eq-eqb r.comp.0 c same)
+
+pub compact_from_all : (mask c n : ℕ) (rows : List Row) (i : ℕ) → length rows ≤ i → compact_from mask c n (drop i rows) ≡ n
+unfolding compact_from
+compact_from_all mask c n rows i le = at_drop_all (compact_from mask c n) rows i le
+
+-- ---- bounds
+
+pub aligned_low : (r : Row) (n : ℕ) → n ≤ aligned r n
+aligned_low r n = one (has r.flags 1)
+  where
+    one : (b : Bool) → n ≤ (if b then (n + 63) / 64 * 64 else n)
+    one true = omega arith
+    one false = omega arith
+
+pub aligned_high : (r : Row) (n : ℕ) → aligned r n ≤ n + 63
+aligned_high r n = one (has r.flags 1)
+  where
+    one : (b : Bool) → (if b then (n + 63) / 64 * 64 else n) ≤ n + 63
+    one true = omega arith
+    one false = omega arith
+
+pub after_low : (mask n : ℕ) (r : Row) → n ≤ compact_after mask n r
+after_low mask n r = one (is_extended mask r) (aligned_low r n)
+  where
+    one : (b : Bool) → n ≤ aligned r n → n ≤ (if b then aligned r n + r.size else n)
+    one true low = omega arith
+    one false low = omega arith
+
+pub after_high : (mask n : ℕ) (r : Row) → compact_after mask n r ≤ n + 63 + r.size
+after_high mask n r = one (is_extended mask r) (aligned_high r n)
+  where
+    one : (b : Bool) → aligned r n ≤ n + 63 → (if b then aligned r n + r.size else n) ≤ n + 63 + r.size
+    one true high = omega arith
+    one false high = omega arith
+
+pub compact_end_low : (mask n : ℕ) (rows : List Row) → n ≤ compact_end mask n rows
+unfolding compact_end
+compact_end_low mask n [] = omega arith
+compact_end_low mask n (r ∷ rows) = let rest = compact_end_low mask (compact_after mask n r) rows in let here = after_low mask n r in omega arith
+
+pub compact_from_low : (mask c n : ℕ) (rows : List Row) → n ≤ compact_from mask c n rows
+unfolding compact_from
+compact_from_low mask c n [] = omega arith
+compact_from_low mask c n (r ∷ rows) = one (r.comp.0 == c) (compact_from_low mask c (compact_after mask n r) rows) (after_low mask n r) (aligned_low r n)
+  where
+    one : (b : Bool) → compact_after mask n r ≤ compact_from mask c (compact_after mask n r) rows → n ≤ compact_after mask n r → n ≤ aligned r n → n ≤ (if b then aligned r n else compact_from mask c (compact_after mask n r) rows)
+    one true rest after here = here
+    one false rest after here = omega arith
+
+-- ---- components of the mask, one behind the other
+
+first_here : (mask n : ℕ) (r : Row) (rows : List Row) → compact_from mask r.comp.0 n (r ∷ rows) ≡ aligned r n
+unfolding compact_from
+first_here mask n r rows = ap (λ b. if b then aligned r n else compact_from mask r.comp.0 (compact_after mask n r) rows) (eq-eqb r.comp.0 r.comp.0 refl)
+
+first_other : (mask c n : ℕ) (r : Row) (rows : List Row) → r.comp.0 < c → compact_from mask c n (r ∷ rows) ≡ compact_from mask c (compact_after mask n r) rows
+unfolding compact_from
+first_other mask c n r rows lt = ap (λ b. if b then aligned r n else compact_from mask c (compact_after mask n r) rows) (ne_eqb r.comp.0 c (λ e. omega arith))
+
+end_none : (mask n : ℕ) → compact_end mask n [] ≡ n
+unfolding compact_end
+end_none mask n = refl
+
+end_step : (mask n : ℕ) (r : Row) (rows : List Row) → compact_end mask n (r ∷ rows) ≡ compact_end mask (compact_after mask n r) rows
+unfolding compact_end
+end_step mask n r rows = refl
+
+-- the place behind a component of the mask
+pub after_extended : (mask n : ℕ) (r : Row) → is_extended mask r ≡ true → compact_after mask n r ≡ aligned r n + r.size
+after_extended mask n r on = ap (λ b. if b then aligned r n + r.size else n) on
+
+-- a component of the mask ends by the end of them all
+pub compact_fits : (mask n : ℕ) (before : Option Row) (at : ℕ) (rows : List Row) → first_row_fault before at rows ≡ None → (i : ℕ) (r : Row) → i < length rows → r ≡ get_or rows i r → is_extended mask r ≡ true → compact_from mask r.comp.0 n rows + r.size ≤ compact_end mask n rows
+compact_fits mask n before at [] h i r lt is on = absurd (omega arith)
+compact_fits mask n before at (r0 ∷ rows) h zero r lt is on =
+    let P : Row → Type 0 = λ x. is_extended mask x ≡ true → compact_from mask x.comp.0 n (r0 ∷ rows) + x.size ≤ compact_end mask n (r0 ∷ rows) in
+    subst P (sym is) (λ here.
+    let here_is = first_here mask n r0 rows in
+    let step = end_step mask n r0 rows in
+    let after = after_extended mask n r0 here in
+    let low = compact_end_low mask (compact_after mask n r0) rows in
+    omega arith) on
+compact_fits mask n before at (r0 ∷ rows) h (suc i) r lt is on =
+    let f = row_fault_none before at r0 rows h in
+    let rise = rise_from r0 (at + 1) rows f.1 i r (omega arith) is in
+    let skip = first_other mask r.comp.0 n r0 rows rise in
+    let step = end_step mask n r0 rows in
+    let rest = compact_fits mask (compact_after mask n r0) (Some r0) (at + 1) rows f.1 i r (omega arith) is on in
+    omega arith
+
+-- a component of the mask ends by the place of each later one
+pub compact_order : (mask n : ℕ) (before : Option Row) (at : ℕ) (rows : List Row) → first_row_fault before at rows ≡ None → (i j : ℕ) (r s : Row) → i < j → j < length rows → r ≡ get_or rows i r → s ≡ get_or rows j s → is_extended mask r ≡ true → compact_from mask r.comp.0 n rows + r.size ≤ compact_from mask s.comp.0 n rows
+compact_order mask n before at [] h i j r s lt within is it on = absurd (omega arith)
+compact_order mask n before at (r0 ∷ rows) h i zero r s lt within is it on = absurd (omega arith)
+compact_order mask n before at (r0 ∷ rows) h zero (suc j) r s lt within is it on =
+    let f = row_fault_none before at r0 rows h in
+    let rise = rise_from r0 (at + 1) rows f.1 j s (omega arith) it in
+    let skip = first_other mask s.comp.0 n r0 rows rise in
+    let low = compact_from_low mask s.comp.0 (compact_after mask n r0) rows in
+    let P : Row → Type 0 = λ x. is_extended mask x ≡ true → compact_from mask x.comp.0 n (r0 ∷ rows) + x.size ≤ compact_from mask s.comp.0 n (r0 ∷ rows) in
+    subst P (sym is) (λ here.
+    let here_is = first_here mask n r0 rows in
+    let after = after_extended mask n r0 here in
+    omega arith) on
+compact_order mask n before at (r0 ∷ rows) h (suc i) (suc j) r s lt within is it on =
+    let f = row_fault_none before at r0 rows h in
+    let first = first_other mask r.comp.0 n r0 rows (rise_from r0 (at + 1) rows f.1 i r (omega arith) is) in
+    let second = first_other mask s.comp.0 n r0 rows (rise_from r0 (at + 1) rows f.1 j s (omega arith) it) in
+    let rest = compact_order mask (compact_after mask n r0) (Some r0) (at + 1) rows f.1 i j r s (omega arith) (omega arith) is it on in
+    omega arith
+
+-- ---- a machine's table
+
+-- no place is before the end of the header
+pub compact_offset_low : (rows : List Row) (mask c : ℕ) → 576 ≤ compact_offset rows mask c
+compact_offset_low rows mask c = compact_from_low mask c 576 rows
+
+-- no size is below it
+pub compact_size_low : (rows : List Row) (mask : ℕ) → 576 ≤ compact_size rows mask
+compact_size_low rows mask = compact_end_low mask 576 rows
+
+-- each component of the mask ends by the size
+pub compact_size_covers : (rows : List Row) → IsLayout rows → (mask i : ℕ) (r : Row) → i < length rows → r ≡ get_or rows i r → is_extended mask r ≡ true → compact_offset rows mask r.comp.0 + r.size ≤ compact_size rows mask
+compact_size_covers rows h mask = compact_fits mask 576 None 0 rows (layout_parts rows h).0
+
+-- components of the mask are apart
+pub compact_apart : (rows : List Row) → IsLayout rows → (mask i j : ℕ) (r s : Row) → i < length rows → j < length rows → r ≡ get_or rows i r → s ≡ get_or rows j s → is_extended mask r ≡ true → is_extended mask s ≡ true → i ≢ j → AreApart (compact_offset rows mask r.comp.0) r.size (compact_offset rows mask s.comp.0) s.size
+compact_apart rows h mask i j r s lt within is it on and_on other = here (cases_order i j)
+  where
+    here : (i ≡ j) ⊎ ((i < j) ⊎ (j < i)) → AreApart (compact_offset rows mask r.comp.0) r.size (compact_offset rows mask s.comp.0) s.size
+    here (inl e) = absurd (other e)
+    here (inr (inl less)) = inl (compact_order mask 576 None 0 rows (layout_parts rows h).0 i j r s less within is it on)
+    here (inr (inr more)) = inr (compact_order mask 576 None 0 rows (layout_parts rows h).0 j i s r more lt it is and_on)
+
+-- sets that name the same rows place them alike, and make one size
+pub compact_end_same : (mask other n : ℕ) (rows : List Row) → ((i : ℕ) (r : Row) → i < length rows → r ≡ get_or rows i r → has mask r.comp.0 ≡ has other r.comp.0) → compact_end mask n rows ≡ compact_end other n rows
+compact_end_same mask other n [] each = end_none mask n ∙ sym (end_none other n)
+compact_end_same mask other n (r ∷ rows) each =
+    let same : compact_after mask n r ≡ compact_after other n r = ap (λ b. if nat_le 2 r.comp.0 && b then aligned r n + r.size else n) (each 0 r (omega arith) refl) in
+    let rest = compact_end_same mask other (compact_after mask n r) rows (λ i s lt is. each (suc i) s (omega arith) is) in
+    ((end_step mask n r rows ∙ rest) ∙ ap (λ k. compact_end other k rows) same) ∙ sym (end_step other n r rows)

@@ -1,0 +1,134 @@
+-- Where the components of a machine stand, in the standard format and by XCOMP_BV in either.
+use Rattle.std.proofs.Common.{◌≡◌, ◌≢◌, ◌⊎◌, inl, inr, ℕ, zero, suc, ◌+◌, ◌<◌, ◌≤◌, Bool, true, false, not, ◌&&◌, ◌||◌, ◌==◌, nat_le, nat_lt, List, [], ◌∷◌, length, get_or, Option, Some, None, if◌then◌else◌, refl, sym, ap, subst, ◌∙◌, arith}
+use Rattle.std.proofs.lemmas.Bool.{cases_order, cases_lt, cases_Bool, eq-eqb, eqb-true, le-leb}
+use Rattle.std.proofs.lemmas.Bool.Decides.{nat_tests}
+use Rattle.xs_base.specs.declared.component.Row.{Row}
+use Rattle.xs_base.specs.Sets.{has}
+use Rattle.xs_base.specs.Layout.{first_row_fault, IsLayout, IsSound, has_row, standard_size}
+use Rattle.xs_base.specs.Compact.{is_extended, is_compacted, compact_from, compact_end, compact_offset, compact_size, place, has_place}
+use Rattle.std.specs.Cmp.Derive.{both_true}
+use Rattle.xs_base.proofs.CompactLemmas.{compact_offset_low, compact_size_low, compact_size_covers, compact_apart}
+use Rattle.xs_base.proofs.SizeLemmas.{end_covers}
+use Rattle.xs_base.proofs.LayoutLemmas.{AreApart, Passes, passes, passes_sound, number_after, row_fault_none, layout_parts, sound_at, rise_at}
+
+-- ---- places in the standard format
+
+-- x87 and SSE end by byte 416
+pub legacy_end : (r : Row) → IsSound r → r.comp.0 < 2 → r.offset + r.size ≤ 416
+legacy_end r s lt = here (cases_lt r.comp.0 1)
+  where
+    here : (r.comp.0 < 1) ⊎ (1 ≤ r.comp.0) → r.offset + r.size ≤ 416
+    here (inl none) = let f = s.x87 (omega arith) in omega (arith, f.0, f.1)
+    here (inr one) = let f = s.sse (omega arith) in omega (arith, f.0, f.1)
+
+-- a row that passes behind another begins at its end or later
+begins_after : (b r : Row) → IsSound b → Passes (Some b) r → b.offset + b.size ≤ r.offset
+begins_after b r s p = here (cases_lt b.comp.0 1) (cases_lt r.comp.0 2)
+  where
+    here : (b.comp.0 < 1) ⊎ (1 ≤ b.comp.0) → (r.comp.0 < 2) ⊎ (2 ≤ r.comp.0) → b.offset + b.size ≤ r.offset
+    here before (inr two) = let o = p.overlap in grind (arith, nat_tests)
+    here (inl none) (inl legacy) = let f = s.x87 (omega arith) in let g = (passes_sound (Some b) r p).sse (omega (arith, number_after b r p)) in omega (arith, f.0, f.1, g.0)
+    here (inr one) (inl legacy) = absurd (omega (arith, number_after b r p))
+
+begins_from : (b : Row) (at : ℕ) (rows : List Row) → IsSound b → first_row_fault (Some b) at rows ≡ None → (i : ℕ) (r : Row) → i < length rows → r ≡ get_or rows i r → b.offset + b.size ≤ r.offset
+begins_from b at [] s h i r lt is = absurd (omega arith)
+begins_from b at (r0 ∷ rows) s h zero r lt is =
+    let P : Row → Type 0 = λ x. b.offset + b.size ≤ x.offset in
+    subst P (sym is) (begins_after b r0 s (passes (Some b) r0 (row_fault_none (Some b) at r0 rows h).0))
+begins_from b at (r0 ∷ rows) s h (suc i) r lt is =
+    let p = passes (Some b) r0 (row_fault_none (Some b) at r0 rows h).0 in
+    let first = begins_after b r0 s p in
+    let later = begins_from r0 (at + 1) rows (passes_sound (Some b) r0 p) (row_fault_none (Some b) at r0 rows h).1 i r (omega arith) is in
+    omega arith
+
+begins_between : (before : Option Row) (at : ℕ) (rows : List Row) → first_row_fault before at rows ≡ None → (i j : ℕ) (r s : Row) → i < j → j < length rows → r ≡ get_or rows i r → s ≡ get_or rows j s → r.offset + r.size ≤ s.offset
+begins_between before at [] h i j r s lt within is it = absurd (omega arith)
+begins_between before at (r0 ∷ rows) h i zero r s lt within is it = absurd (omega arith)
+begins_between before at (r0 ∷ rows) h zero (suc j) r s lt within is it =
+    let P : Row → Type 0 = λ x. x.offset + x.size ≤ s.offset in
+    let f = row_fault_none before at r0 rows h in
+    subst P (sym is) (begins_from r0 (at + 1) rows (passes_sound before r0 (passes before r0 f.0)) f.1 j s (omega arith) it)
+begins_between before at (r0 ∷ rows) h (suc i) (suc j) r s lt within is it =
+    begins_between (Some r0) (at + 1) rows (row_fault_none before at r0 rows h).1 i j r s (omega arith) (omega arith) is it
+
+-- two rows have no byte of the standard format in common
+pub standard_apart : (rows : List Row) → IsLayout rows → (i j : ℕ) (r s : Row) → i < length rows → j < length rows → r ≡ get_or rows i r → s ≡ get_or rows j s → i ≢ j → AreApart r.offset r.size s.offset s.size
+standard_apart rows h i j r s lt within is it other = here (cases_order i j)
+  where
+    here : (i ≡ j) ⊎ ((i < j) ⊎ (j < i)) → AreApart r.offset r.size s.offset s.size
+    here (inl e) = absurd (other e)
+    here (inr (inl less)) = inl (begins_between None 0 rows (layout_parts rows h).0 i j r s less within is it)
+    here (inr (inr more)) = inr (begins_between None 0 rows (layout_parts rows h).0 j i s r more lt it is)
+
+-- ---- by XCOMP_BV
+
+-- in the standard format a row stands at its offset
+pub place_standard : (rows : List Row) (xcomp : ℕ) (r : Row) → is_compacted xcomp ≡ false → place rows xcomp r ≡ r.offset
+place_standard rows xcomp r off = ap (λ b. if b && nat_le 2 r.comp.0 then compact_offset rows xcomp r.comp.0 else r.offset) off
+
+-- x87 and SSE stand at their offsets in both formats
+pub place_legacy : (rows : List Row) (xcomp : ℕ) (r : Row) → r.comp.0 < 2 → place rows xcomp r ≡ r.offset
+place_legacy rows xcomp r lt = here (is_compacted xcomp) (nat_le 2 r.comp.0) (grind (arith, nat_tests))
+  where
+    here : (b two : Bool) → two ≡ false → (if b && two then compact_offset rows xcomp r.comp.0 else r.offset) ≡ r.offset
+    here true two off = ap (λ b. if b then compact_offset rows xcomp r.comp.0 else r.offset) off
+    here false two off = refl
+
+-- the others stand at their compacted places in the compacted format
+pub place_compacted : (rows : List Row) (xcomp : ℕ) (r : Row) → is_compacted xcomp ≡ true → 2 ≤ r.comp.0 → place rows xcomp r ≡ compact_offset rows xcomp r.comp.0
+place_compacted rows xcomp r on le = ap (λ b. if b && nat_le 2 r.comp.0 then compact_offset rows xcomp r.comp.0 else r.offset) on ∙ ap (λ b. if b then compact_offset rows xcomp r.comp.0 else r.offset) (le-leb 2 r.comp.0 le)
+
+-- they stand behind the header in both formats
+pub place_extended : (rows : List Row) (xcomp : ℕ) (r : Row) → IsSound r → 2 ≤ r.comp.0 → 576 ≤ place rows xcomp r
+place_extended rows xcomp r s le = here (cases_Bool (is_compacted xcomp))
+  where
+    here : (is_compacted xcomp ≡ true) ⊎ (is_compacted xcomp ≡ false) → 576 ≤ place rows xcomp r
+    here (inl on) = rw (place_compacted rows xcomp r on le) (compact_offset_low rows xcomp r.comp.0)
+    here (inr off) = rw (place_standard rows xcomp r off) (s.extended le)
+
+-- in the compacted format what has a place is of the set
+pub named_of : (rows : List Row) (xcomp c : ℕ) → is_compacted xcomp ≡ true → has_place rows xcomp c ≡ true → has xcomp c ≡ true
+named_of rows xcomp c on h = here (has_row rows c) (has xcomp c) (subst (λ (b : Bool). (has_row rows c && (not b || has xcomp c)) ≡ true) on h)
+  where
+    here : (a b : Bool) → (a && (not true || b)) ≡ true → b ≡ true
+    here true true h = refl
+    here true false h = h
+    here false b h = cc
+
+extended_of : (rows : List Row) (xcomp : ℕ) (r : Row) → is_compacted xcomp ≡ true → has_place rows xcomp r.comp.0 ≡ true → 2 ≤ r.comp.0 → is_extended xcomp r ≡ true
+extended_of rows xcomp r on h le = both_true (le-leb 2 r.comp.0 le) (named_of rows xcomp r.comp.0 on h)
+
+-- two rows that have places have no byte in common
+pub places_apart : (rows : List Row) → IsLayout rows → (xcomp i j : ℕ) (r s : Row) → i < length rows → j < length rows → r ≡ get_or rows i r → s ≡ get_or rows j s → i ≢ j → has_place rows xcomp r.comp.0 ≡ true → has_place rows xcomp s.comp.0 ≡ true → AreApart (place rows xcomp r) r.size (place rows xcomp s) s.size
+places_apart rows h xcomp i j r s lt within is it other placed and_placed =
+    here (cases_Bool (is_compacted xcomp)) (cases_lt r.comp.0 2) (cases_lt s.comp.0 2)
+  where
+    here : (is_compacted xcomp ≡ true) ⊎ (is_compacted xcomp ≡ false) → (r.comp.0 < 2) ⊎ (2 ≤ r.comp.0) → (s.comp.0 < 2) ⊎ (2 ≤ s.comp.0) → AreApart (place rows xcomp r) r.size (place rows xcomp s) s.size
+    here (inr off) two twice = rw (place_standard rows xcomp r off, place_standard rows xcomp s off) (standard_apart rows h i j r s lt within is it other)
+    here (inl on) (inl legacy) (inl and_legacy) = rw (place_legacy rows xcomp r legacy, place_legacy rows xcomp s and_legacy) (standard_apart rows h i j r s lt within is it other)
+    here (inl on) (inl legacy) (inr two) =
+        let end = legacy_end r (sound_at rows h i r lt is) legacy in
+        let low = place_extended rows xcomp s (sound_at rows h j s within it) two in
+        rw (place_legacy rows xcomp r legacy) (inl (omega arith))
+    here (inl on) (inr two) (inl legacy) =
+        let end = legacy_end s (sound_at rows h j s within it) legacy in
+        let low = place_extended rows xcomp r (sound_at rows h i r lt is) two in
+        rw (place_legacy rows xcomp s legacy) (inr (omega arith))
+    here (inl on) (inr two) (inr twice) =
+        rw (place_compacted rows xcomp r on two, place_compacted rows xcomp s on twice)
+        (compact_apart rows h xcomp i j r s lt within is it (extended_of rows xcomp r on placed two) (extended_of rows xcomp s on and_placed twice) other)
+
+-- a component that has a place ends by the compact size in the compacted format
+pub compacted_within : (rows : List Row) → IsLayout rows → (xcomp i : ℕ) (r : Row) → i < length rows → r ≡ get_or rows i r → is_compacted xcomp ≡ true → has_place rows xcomp r.comp.0 ≡ true → place rows xcomp r + r.size ≤ compact_size rows xcomp
+compacted_within rows h xcomp i r lt is on placed = here (cases_lt r.comp.0 2)
+  where
+    here : (r.comp.0 < 2) ⊎ (2 ≤ r.comp.0) → place rows xcomp r + r.size ≤ compact_size rows xcomp
+    here (inl legacy) =
+        let end = legacy_end r (sound_at rows h i r lt is) legacy in
+        let low = compact_size_low rows xcomp in
+        rw (place_legacy rows xcomp r legacy) (omega arith)
+    here (inr two) = rw (place_compacted rows xcomp r on two) (compact_size_covers rows h xcomp i r lt is (extended_of rows xcomp r on placed two))
+
+-- and a component of a mask by the mask's standard size in the standard format
+pub standard_within : (rows : List Row) (xcomp mask i : ℕ) (r : Row) → i < length rows → r ≡ get_or rows i r → is_compacted xcomp ≡ false → has mask r.comp.0 ≡ true → place rows xcomp r + r.size ≤ standard_size rows mask
+standard_within rows xcomp mask i r lt is off on = rw (place_standard rows xcomp r off) (end_covers (has mask) rows i r lt is on)

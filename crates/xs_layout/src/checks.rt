@@ -1,0 +1,171 @@
+//! The tests of a machine's table: of a row behind the row before, and of the whole.
+
+ghost use Rattle.std.specs.Prelude.{◌≡◌, None};
+ghost use Rattle.xs_base.specs.Layout as table;
+ghost use Rattle.xs_base.specs.Component as component;
+
+use xs_base::{Comp, Features, LayoutError, LayoutFault, Row};
+
+/// The greatest end of a component, in bytes.
+const MOST_BYTES: u64 = 16384;
+
+/// The size of each component in bytes, by its number; 0 where there is none (SDM volume 1, 13.5).
+const SIZES: [u32; 19] = [
+    160, 256, 256, 0, 0, 64, 512, 1024, 0, 8, 0, 0, 0, 0, 0, 0, 0, 64, 8192,
+];
+
+/// The first test that a row fails behind the row before it, None where it passes them all. The tests of one row come
+/// in the order of `LayoutError`, from `UnknownComponent` to `Overlap`.
+#[tactic(auto, unfolding(xs_base::specs::Layout::row_error))]
+pub fn row_error(before: Option<Row>, row: Row) -> Option<LayoutError>
+    ensures { result ≡ table.row_error before row }
+{
+    if !is_known(row.comp) {
+        return Some(LayoutError::UnknownComponent);
+    }
+    if is_repeated(before, row) {
+        return Some(LayoutError::Repeated);
+    }
+    if row.size == 0 {
+        return Some(LayoutError::SizeZero);
+    }
+    if has_wrong_size(row) {
+        return Some(LayoutError::SizeWrong);
+    }
+    if has_wrong_flags(row) {
+        return Some(LayoutError::FlagsWrong);
+    }
+    if end_of_row(row) > MOST_BYTES {
+        return Some(LayoutError::TooLarge);
+    }
+    if overlaps(before, row) {
+        return Some(LayoutError::Overlap);
+    }
+    None
+}
+
+/// The first test that a table fails as a whole, None where it passes both: `LegacyMissing`, then `TileAlone`.
+#[tactic(auto, unfolding(xs_base::specs::Layout::table_error))]
+pub fn table_error(rows: &[Row]) -> Option<LayoutError>
+    ensures { result ≡ table.table_error rows.now }
+{
+    if !(has_row(rows, Comp(0)) && has_row(rows, Comp(1))) {
+        return Some(LayoutError::LegacyMissing);
+    }
+    if has_row(rows, Comp(17)) != has_row(rows, Comp(18)) {
+        return Some(LayoutError::TileAlone);
+    }
+    None
+}
+
+/// Whether one of the rows is the component's.
+pub fn has_row(rows: &[Row], c: Comp) -> bool
+    ensures { result ≡ table.has_row rows.now c.0 }
+{
+    rows.iter().any(|row| row.comp == c)
+}
+
+/// Where the row ends in the standard format.
+fn end_of_row(row: Row) -> u64
+    ensures { result ≡ table.row_end row }
+{
+    row.offset as u64 + row.size as u64
+}
+
+/// Whether the number is that of a component.
+fn is_known(c: Comp) -> bool
+    ensures { result ≡ table.is_known c.0 }
+{
+    matches!(c.0, 0 | 1 | 2 | 5 | 6 | 7 | 9 | 17 | 18)
+}
+
+/// The bytes of the component, 0 where it is none.
+fn component_size(c: Comp) -> u32
+    ensures { result ≡ component.component_size c.0 }
+{
+    match SIZES.get(c.0 as usize) {
+        Some(size) => *size,
+        None => 0,
+    }
+}
+
+fn is_repeated(before: Option<Row>, row: Row) -> bool
+    ensures { result ≡ table.is_repeated before row }
+{
+    match before {
+        Some(before) => row.comp.0 <= before.comp.0,
+        None => false,
+    }
+}
+
+/// Whether the size isn't the component's, or the row is one of the legacy region and stands elsewhere.
+fn has_wrong_size(row: Row) -> bool
+    ensures { result ≡ table.has_wrong_size row }
+{
+    row.size != component_size(row.comp)
+        || (row.comp.0 == 0 && row.offset != 0)
+        || (row.comp.0 == 1 && row.offset != 160)
+}
+
+/// Whether the component may not have these flags. Of the flags bit 0 is a supervisor component and bit 2 is XFD, which
+/// TILEDATA alone has.
+fn has_wrong_flags(row: Row) -> bool
+    ensures { result ≡ table.has_wrong_flags row }
+{
+    let flags = Features(row.flags as u64);
+    row.flags > 7
+        || flags.has(Comp(0))
+        || (flags.has(Comp(2)) && row.comp.0 != 18)
+        || (!flags.has(Comp(2)) && row.comp.0 == 18)
+        || (row.comp.0 <= 1 && row.flags != 0)
+}
+
+fn overlaps(before: Option<Row>, row: Row) -> bool
+    ensures { result ≡ table.overlaps before row }
+{
+    row.comp.0 >= 2 && begins_before(before, row)
+}
+
+/// Whether the row begins before the end of the header, or of the row before.
+fn begins_before(before: Option<Row>, row: Row) -> bool
+    ensures { result ≡ table.begins_before before row }
+{
+    match before {
+        Some(before) => row.offset < 576 || (row.offset as u64) < end_of_row(before),
+        None => row.offset < 576,
+    }
+}
+
+/// The first row that fails, by its place in the list, and its error.
+pub fn first_row_fault(rows: &[Row]) -> Option<LayoutFault>
+    ensures { result ≡ table.first_row_fault None 0 rows.now }
+{
+    let mut before = None;
+    'each: for (i, row) in rows.iter().enumerate() {
+        if let Some(error) = row_error(before, *row) {
+            return Some(LayoutFault {
+                row: Some(i as u32),
+                error,
+            });
+        }
+        before = Some(*row);
+    }
+    None
+}
+
+/// The first test that a list of rows fails, each row in turn and then the table. None where it is a machine's table.
+#[tactic(auto, unfolding(xs_base::specs::Layout::layout_fault))]
+pub fn layout_fault(rows: &[Row]) -> Option<LayoutFault>
+    ensures { result ≡ table.layout_fault rows.now }
+{
+    if let Some(fault) = first_row_fault(rows) {
+        return Some(fault);
+    }
+    match table_error(rows) {
+        Some(error) => Some(LayoutFault {
+            row: None,
+            error,
+        }),
+        None => None,
+    }
+}
