@@ -5,3 +5,7 @@ pub mod HexText
 pub mod Spellings
 pub mod FirstLines
 pub mod Kept
+pub mod HeadRows
+pub mod Fronts
+pub mod KeptOrder
+pub mod HeadSteps

@@ -5,3 +5,5 @@ pub mod Parts
 pub mod Grammar
 pub mod LineOrder
 pub mod Refusal
+pub mod Front
+pub mod Head

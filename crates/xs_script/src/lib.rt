@@ -1,9 +1,13 @@
 //! The script reader: the one script that a text spells, or its first refusal.
 #![tactic(auto)]
 
+mod front;
+mod head;
 mod line;
 mod line_reader;
+mod reader;
 mod refusal;
+mod rows;
 mod words;
 
 pub use line::Line;
