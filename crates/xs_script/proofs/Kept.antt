@@ -1,5 +1,5 @@
 -- What a reader keeps of a line: mostly the line, and of a row what its test answers.
-use Rattle.std.proofs.Common.{◌≡◌, ℕ, ◌<◌, ◌≤◌, ◌&&◌, ◌||◌, ◌==◌, not, nat_le, Bool, true, false, cond, min, List, length, Option, Some, None, inl, inr, refl, ap, sym, ◌∙◌, arith}
+use Rattle.std.proofs.Common.{◌≡◌, ℕ, ◌<◌, ◌≤◌, ◌&&◌, ◌||◌, ◌==◌, not, nat_le, Bool, true, false, cond, min, List, [], length, Option, Some, None, inl, inr, refl, ap, sym, ◌∙◌, arith}
 use Rattle.std.specs.Prelude.{if◌then◌else◌}
 use Rattle.std.proofs.lemmas.Bool.{cases_lt}
 use Rattle.std.proofs.lemmas.Bool.Decides.{nat_tests}
@@ -38,9 +38,9 @@ kept_same_row r h = same_row (kept_row r) r (omega arith) refl refl refl
 pub kept_same_bytes : (bytes : List ℕ) → length bytes ≤ 64 → kept_bytes bytes ≡ bytes
 kept_same_bytes bytes h = grind (arith, nat_tests)
 
--- and of more none
-pub kept_none : (bytes : List ℕ) → 64 < length bytes → length (kept_bytes bytes) ≡ 0
-kept_none bytes h = grind (arith, nat_tests)
+-- and of more none are
+pub kept_long : (bytes : List ℕ) → 64 < length bytes → kept_bytes bytes ≡ []
+kept_long bytes h = grind (arith, nat_tests)
 
 pub kept_same_command : (command : Command) → IsKeptCommand command → kept_command command ≡ command
 kept_same_command (commands.Set reg bytes) h = ap (λ (bs : List ℕ). commands.Set reg bs) (kept_same_bytes bytes h)

@@ -9,3 +9,5 @@ pub mod HeadRows
 pub mod Fronts
 pub mod KeptOrder
 pub mod HeadSteps
+pub mod Readings
+pub mod Unbuilt

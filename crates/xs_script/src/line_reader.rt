@@ -69,7 +69,14 @@ pub fn begins_row(text: &[u8]) -> bool
 fn is_unbuilt_word(word: &[u8]) -> bool
     ensures { result ≡ list_any (λ other. bytes_eq other word.now) unbuilt_words }
 {
-    UNBUILT_WORDS.iter().any(|other| *other == word)
+    is_among(word, &UNBUILT_WORDS)
+}
+
+/// Whether the word is one of the words.
+fn is_among(word: &[u8], words: &[&[u8]]) -> bool
+    ensures { result ≡ list_any (λ other. bytes_eq other.now word.now) words.now }
+{
+    words.iter().any(|other| *other == word)
 }
 
 /// Whether the line sets a number of processors that this version doesn't have.
@@ -149,12 +156,9 @@ fn read_row(line: &[u8]) -> Option<Row>
     ensures { ReadsAs row_line_text IsRow kept_row result line.now }
 {
     let words = after(b"row ", line)?;
-    let (number, words) = cut_at(b' ', words)?;
-    let number = read_number(number)?;
-    let (size, words) = cut_at(b' ', words)?;
-    let size = read_number(size)?;
-    let (offset, flags) = cut_at(b' ', words)?;
-    let offset = read_number(offset)?;
+    let (number, words) = read_number_of(words)?;
+    let (size, words) = read_number_of(words)?;
+    let (offset, flags) = read_number_of(words)?;
     let flags = read_number(flags)?;
     Some(Row {
         comp: Comp(number.min(255) as u8),
@@ -162,6 +166,15 @@ fn read_row(line: &[u8]) -> Option<Row>
         offset,
         flags,
     })
+}
+
+/// The number before the first space of some words, and the words after it.
+fn read_number_of(words: &[u8]) -> Option<(u32, &[u8])>
+    ensures { MatchOption result ((n : ℕ) (rest : List ℕ) → IsNumber n → words.now ≡ decimal n ++ 32 ∷ rest → ⊥) (λ x. IsNumber x.0 × (words.now ≡ decimal x.0 ++ 32 ∷ x.1.now)) }
+{
+    let (number, rest) = cut_at(b' ', words)?;
+    let number = read_number(number)?;
+    Some((number, rest))
 }
 
 fn read_command(line: &[u8]) -> Option<Command>
