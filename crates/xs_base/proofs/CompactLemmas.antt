@@ -1,11 +1,11 @@
 -- Places in the compacted format.
-use Rattle.std.proofs.Common.{◌≡◌, ◌≢◌, ◌⊎◌, inl, inr, ℕ, zero, suc, ◌+◌, ◌*◌, ◌/◌, ◌<◌, ◌≤◌, Bool, true, false, ◌&&◌, ◌==◌, nat_le, List, [], ◌∷◌, length, get_or, drop, Option, Some, None, if◌then◌else◌, refl, sym, ap, subst, ◌∙◌, arith}
+use Rattle.std.proofs.Common.{◌≡◌, ◌≢◌, ◌⊎◌, inl, inr, ℕ, zero, suc, ◌+◌, ◌*◌, ◌/◌, ◌^◌, ◌<◌, ◌≤◌, Bool, true, false, ◌&&◌, ◌==◌, nat_le, List, [], ◌∷◌, length, get_or, drop, Option, Some, None, if◌then◌else◌, refl, sym, ap, subst, ◌∙◌, arith}
 use Rattle.std.proofs.lemmas.Bool.{cases_order, cases_lt, cases_Bool, eq-eqb, ne_eqb, eqb-true}
 use Rattle.std.proofs.lemmas.Bool.Decides.{nat_tests}
 use Rattle.std.proofs.lemmas.List.{at_drop_more, at_drop_all}
 use Rattle.xs_base.specs.declared.component.Row.{Row}
 use Rattle.xs_base.specs.Sets.{has}
-use Rattle.xs_base.specs.Layout.{IsLayout, IsSound, first_row_fault}
+use Rattle.xs_base.specs.Layout.{IsLayout, IsSound, most_rows, first_row_fault}
 use Rattle.xs_base.specs.Compact.{aligned, is_extended, compact_after, compact_end, compact_from, compact_size, compact_offset}
 use Rattle.xs_base.proofs.LayoutLemmas.{AreApart, sound_at, rise_at, rise_from, row_fault_none, layout_parts}
 
@@ -173,3 +173,59 @@ compact_end_same mask other n (r ∷ rows) each =
     let same : compact_after mask n r ≡ compact_after other n r = ap (λ b. if nat_le 2 r.comp.0 && b then aligned r n + r.size else n) (each 0 r (omega arith) refl) in
     let rest = compact_end_same mask other (compact_after mask n r) rows (λ i s lt is. each (suc i) s (omega arith) is) in
     ((end_step mask n r rows ∙ rest) ∙ ap (λ k. compact_end other k rows) same) ∙ sym (end_step other n r rows)
+
+-- ---- row after row
+
+-- The components before place i end at `end`, which few rows can't make large.
+pub record IsAlong (i end : ℕ) : Type 0 where
+  pub low : 576 ≤ end
+  pub few : end ≤ 576 + 16447 * i
+
+pub along_none : IsAlong 0 576
+along_none = record { low = omega arith; few = omega arith }
+
+pub along_more : (mask i end : ℕ) (r : Row) → IsSound r → IsAlong i end → IsAlong (i + 1) (compact_after mask end r)
+along_more mask i end r s h =
+    let low = after_low mask end r in
+    let high = after_high mask end r in
+    let first = h.low in
+    let few = h.few in
+    let size : r.size ≤ 16384 = omega (arith, s.ends) in
+    record { low = omega arith; few = omega arith }
+
+pub along_fits : (i end : ℕ) (r : Row) → i ≤ most_rows → IsSound r → IsAlong i end → end + 63 + r.size < 2 ^ 32
+along_fits i end r le s h =
+    let few = h.few in
+    let size : r.size ≤ 16384 = omega (arith, s.ends) in
+    omega arith
+
+-- The components of the mask before place i end at `end`.
+pub record IsEnded (mask : ℕ) (rows : List Row) (i end : ℕ) : Type 0 where
+  pub rest : compact_end mask 576 rows ≡ compact_end mask end (drop i rows)
+  pub along : IsAlong i end
+
+pub ended_none : (mask : ℕ) (rows : List Row) → IsEnded mask rows 0 576
+ended_none mask rows = record { rest = refl; along = along_none }
+
+pub ended_more : (mask : ℕ) (rows : List Row) (i end : ℕ) (r : Row) → i < length rows → r ≡ get_or rows i r → IsSound r → IsEnded mask rows i end → IsEnded mask rows (i + 1) (compact_after mask end r)
+ended_more mask rows i end r lt is s h = record { rest = h.rest ∙ compact_end_more mask end rows i r lt is; along = along_more mask i end r s h.along }
+
+pub ended_all : (mask : ℕ) (rows : List Row) (i end : ℕ) → length rows ≤ i → IsEnded mask rows i end → end ≡ compact_size rows mask
+ended_all mask rows i end le h = sym (h.rest ∙ compact_end_all mask end rows i le)
+
+-- Component c isn't before place i, and those of the mask there end at `end`.
+pub record IsSought (mask c : ℕ) (rows : List Row) (i end : ℕ) : Type 0 where
+  pub rest : compact_from mask c 576 rows ≡ compact_from mask c end (drop i rows)
+  pub along : IsAlong i end
+
+pub sought_none : (mask c : ℕ) (rows : List Row) → IsSought mask c rows 0 576
+sought_none mask c rows = record { rest = refl; along = along_none }
+
+pub sought_more : (mask c : ℕ) (rows : List Row) (i end : ℕ) (r : Row) → i < length rows → r ≡ get_or rows i r → IsSound r → r.comp.0 ≢ c → IsSought mask c rows i end → IsSought mask c rows (i + 1) (compact_after mask end r)
+sought_more mask c rows i end r lt is s other h = record { rest = h.rest ∙ compact_from_more mask c end rows i r lt is other; along = along_more mask i end r s h.along }
+
+pub sought_here : (mask c : ℕ) (rows : List Row) (i end : ℕ) (r : Row) → i < length rows → r ≡ get_or rows i r → r.comp.0 ≡ c → IsSought mask c rows i end → aligned r end ≡ compact_offset rows mask c
+sought_here mask c rows i end r lt is same h = sym (h.rest ∙ compact_from_here mask c end rows i r lt is same)
+
+pub sought_all : (mask c : ℕ) (rows : List Row) (i end : ℕ) → length rows ≤ i → IsSought mask c rows i end → end ≡ compact_offset rows mask c
+sought_all mask c rows i end le h = sym (h.rest ∙ compact_from_all mask c end rows i le)

@@ -33,7 +33,7 @@ checked_more rows before i r lt is h ok =
     record {
       rest = (h.rest ∙ fault_more rows before i r lt is) ∙ ap (λ (f : Option LayoutError). fault_or (Some i) f (first_row_fault (Some r) (i + 1) (drop (i + 1) rows))) ok;
       sound = passes_sound before r (passes before r ok);
-      few = omega arith
+      few = omega arith;
     }
 
 -- every row has passed

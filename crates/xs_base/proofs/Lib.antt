@@ -1,6 +1,7 @@
 pub mod SetLemmas
 pub mod LayoutLemmas
 pub mod FaultLemmas
+pub mod FeatureLemmas
 pub mod SizeLemmas
 pub mod CompactLemmas
 pub mod PlaceLemmas

@@ -1,5 +1,5 @@
 -- Sets of components: a set one component larger, and what is in a set that a test makes.
-use Rattle.std.proofs.Common.{◌≡◌, ◌≢◌, ◌⊎◌, inl, inr, ℕ, zero, suc, ◌+◌, ◌*◌, ◌/◌, ◌%◌, ◌^◌, ◌-◌, ◌<◌, ◌≤◌, Bool, true, false, not, ◌&&◌, ◌||◌, ◌==◌, List, [], ◌∷◌, if◌then◌else◌, w64, refl, sym, ap, ◌∙◌, subst, add-one, zero-add, arith}
+use Rattle.std.proofs.Common.{◌≡◌, ◌≢◌, ◌⊎◌, inl, inr, ℕ, zero, suc, ◌+◌, ◌*◌, ◌/◌, ◌%◌, ◌^◌, ◌-◌, ◌<◌, ◌≤◌, Bool, true, false, not, ◌&&◌, ◌||◌, ◌==◌, List, [], ◌∷◌, if◌then◌else◌, bit_and, bit_or, w64, refl, sym, ap, ◌∙◌, subst, add-one, zero-add, arith}
 use Rattle.std.specs.Int.{bit_at, bit_not}
 use Rattle.std.specs.List.{list_any}
 use Rattle.std.proofs.lemmas.Nat.{shr_split}
@@ -8,7 +8,7 @@ use Rattle.std.proofs.Math.Nat.{mod-lt}
 use Rattle.std.proofs.lemmas.Nat.{pow_pos}
 use Rattle.std.proofs.lemmas.Bool.{cases_Bool, cases_eq, cases_lt, cases_order, eq-eqb, ne_eqb, eqb-true}
 use Rattle.std.proofs.lemmas.Bool.Decides.{nat_tests}
-use Rattle.std.proofs.lemmas.Nat.Bits.{bit_at_above, bit_at-zero, bit_at-lt, bit_at-suc, bit_at_cat_low, bit_at_cat_high, bit_at_set_same, bit_at_set_other, bit_at_clear_same, bit_at_clear_other}
+use Rattle.std.proofs.lemmas.Nat.Bits.{bit_at_above, bit_at_and, bit_at-zero, bit_at-lt, same_from_bits, bit_at-suc, bit_at_cat_low, bit_at_cat_high, bit_at_set_same, bit_at_set_other, bit_at_clear_same, bit_at_clear_other}
 use Rattle.xs_base.specs.Sets.{has}
 use Rattle.xs_base.specs.Layout.{set_of}
 
@@ -98,3 +98,27 @@ has_set_of test [] d i = has_none i ∙ sym (or_false (test i))
 has_set_of test (c ∷ cs) d i =
     let parts = distinct_parts (list_any (λ k. k == c) cs) (are_distinct cs) d in
     set_more test (λ k. list_any (λ n. n == k) cs) (set_of test cs) c i parts.0 (has_set_of test cs parts.1)
+
+-- sets of the same components are the same
+pub same_set : (a b : ℕ) → ((c : ℕ) → has a c ≡ has b c) → a ≡ b
+same_set a b same = same_from_bits a b (λ i. bit (bit_at-lt a i) (bit_at-lt b i) (same i))
+  where
+    bit : {x y : ℕ} → x < 2 → y < 2 → (x == 1) ≡ (y == 1) → x ≡ y
+    bit {x} {y} a b e = grind (arith, nat_tests)
+
+-- a component more, as `set | 1 << k` makes it
+pub has_or : (set k c : ℕ) → k < 64 → has (bit_or set (1 * 2 ^ k % 2 ^ 64)) c ≡ (has set c || (c == k))
+has_or set k c lt = here (cases_eq c k)
+  where
+    here : (c ≡ k) ⊎ (c ≡ k → ⊥) → has (bit_or set (1 * 2 ^ k % 2 ^ 64)) c ≡ (has set c || (c == k))
+    here (inl e) = rw (e, bit_at_set_same w64 set k lt) (grind (arith, nat_tests))
+    here (inr ne) = rw (bit_at_set_other w64 set k lt c ne) (grind (arith, nat_tests))
+
+-- a component less, as `set & !(1 << k)` makes it
+pub has_without : (set k c : ℕ) → k < 64 → set < 2 ^ 64 → has (bit_and set (bit_not w64 (1 * 2 ^ k % 2 ^ 64))) c ≡ (has set c && not (c == k))
+has_without set k c lt fits = here (cases_eq c k) (cases_lt c 64)
+  where
+    here : (c ≡ k) ⊎ (c ≡ k → ⊥) → (c < 64) ⊎ (64 ≤ c) → has (bit_and set (bit_not w64 (1 * 2 ^ k % 2 ^ 64))) c ≡ (has set c && not (c == k))
+    here (inl e) within = rw (e, bit_at_clear_same w64 set k lt) (grind (arith, nat_tests))
+    here (inr ne) (inl within) = rw (bit_at_clear_other w64 set k lt c within ne) (grind (arith, nat_tests))
+    here (inr ne) (inr above) = rw (bit_at_and set (bit_not w64 (1 * 2 ^ k % 2 ^ 64)) c, bit_at_above set 64 c fits above) (grind (arith, nat_tests))

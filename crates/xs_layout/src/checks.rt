@@ -59,7 +59,7 @@ pub fn table_error(rows: &[Row]) -> Option<LayoutError>
 }
 
 /// Whether one of the rows is the component's.
-pub fn has_row(rows: &[Row], c: Comp) -> bool
+pub(crate) fn has_row(rows: &[Row], c: Comp) -> bool
     ensures { result ≡ table.has_row rows.now c.0 }
 {
     rows.iter().any(|row| row.comp == c)
@@ -137,7 +137,7 @@ fn begins_before(before: Option<Row>, row: Row) -> bool
 }
 
 /// The first row that fails, by its place in the list, and its error.
-pub fn first_row_fault(rows: &[Row]) -> Option<LayoutFault>
+pub(crate) fn first_row_fault(rows: &[Row]) -> Option<LayoutFault>
     ensures { result ≡ table.first_row_fault None 0 rows.now }
 {
     let mut before = None;
@@ -155,17 +155,14 @@ pub fn first_row_fault(rows: &[Row]) -> Option<LayoutFault>
 
 /// The first test that a list of rows fails, each row in turn and then the table. None where it is a machine's table.
 #[tactic(auto, unfolding(xs_base::specs::Layout::layout_fault))]
-pub fn layout_fault(rows: &[Row]) -> Option<LayoutFault>
+pub(crate) fn layout_fault(rows: &[Row]) -> Option<LayoutFault>
     ensures { result ≡ table.layout_fault rows.now }
 {
     if let Some(fault) = first_row_fault(rows) {
         return Some(fault);
     }
     match table_error(rows) {
-        Some(error) => Some(LayoutFault {
-            row: None,
-            error,
-        }),
+        Some(error) => Some(LayoutFault { row: None, error }),
         None => None,
     }
 }

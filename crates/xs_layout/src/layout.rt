@@ -1,10 +1,14 @@
 //! The table of a machine.
 
-ghost use Rattle.std.specs.Prelude.{◌≡◌, ℕ, ◌<◌, length, slice_index_or};
-ghost use Rattle.xs_base.specs.Layout.{IsLayout, IsSound, amx_rows, avx_rows};
+ghost use Rattle.std.specs.Prelude.{◌≡◌, ℕ, ◌<◌, ◌≤◌, Bool, true, false, not, ◌&&◌, ◌==◌, length, slice_index_or, IfOk, IfErr, IfSome, MatchOption, Some};
+ghost use Rattle.xs_base.specs.Sets.{has};
+ghost use Rattle.xs_base.specs.Layout.{IsLayout, IsSound, IsRowOf, most_rows, amx_rows, avx_rows, has_row, features, default_features};
+ghost use Rattle.xs_base.specs.Layout as table;
+ghost use Rattle.xs_layout.specs.Rows.{padded};
 
+use crate::checks::{has_row, layout_fault};
 use std::marker::Model;
-use xs_base::{Comp, Row};
+use xs_base::{Comp, Features, LayoutFault, Row};
 
 /// The greatest number of rows: one for each component.
 pub const MOST_ROWS: usize = 9;
@@ -24,7 +28,7 @@ macro_rules! row {
 /// Fills the rows past a layout's last.
 const NO_ROW: Row = row!(0, 0, 0, 0);
 
-const AMX: [Row; MOST_ROWS] = [
+const AMX: [Row; 9] = [
     row!(0, 160, 0, 0),
     row!(1, 256, 160, 0),
     row!(2, 256, 576, 0),
@@ -36,21 +40,15 @@ const AMX: [Row; MOST_ROWS] = [
     row!(18, 8192, 2816, 6),
 ];
 
-const AVX: [Row; MOST_ROWS] = [
+const AVX: [Row; 3] = [
     row!(0, 160, 0, 0),
     row!(1, 256, 160, 0),
     row!(2, 256, 576, 0),
-    NO_ROW,
-    NO_ROW,
-    NO_ROW,
-    NO_ROW,
-    NO_ROW,
-    NO_ROW,
 ];
 
 /// A machine's table of components, in rising order of their numbers. Contracts see the list of its rows. A copy
 /// takes no memory.
-#[derive(Clone, Copy)]
+#[derive(Clone, Copy, PartialEq, Eq, Debug)]
 pub struct Layout {
     rows: [Row; MOST_ROWS],
     count: usize,
@@ -77,28 +75,44 @@ impl Layout {
     pub fn amx() -> Layout
         ensures { result ≡ amx_rows }
     {
-        Layout {
-            rows: AMX,
-            count: 9,
-        }
+        Layout::of_table(&AMX)
     }
 
     /// The machine with x87, SSE and AVX alone.
     pub fn avx() -> Layout
         ensures { result ≡ avx_rows }
     {
-        Layout {
-            rows: AVX,
-            count: 3,
+        Layout::of_table(&AVX)
+    }
+
+    /// The layout of exactly these rows, or the first test that they fail: of the first row that fails, or else of the
+    /// whole table.
+    pub fn from_rows(rows: &[Row]) -> Result<Layout, LayoutFault>
+        ensures rows { IfOk result (λ layout. layout ≡ rows.now) }
+        ensures accepted { IfOk result (λ layout. IsLayout rows.now) }
+        ensures refused { IfErr result (λ fault. table.layout_fault rows.now ≡ Some fault) }
+    {
+        if let Some(fault) = layout_fault(rows) {
+            return Err(fault);
         }
+        Ok(Layout::of_table(rows))
     }
 
     /// The number of rows, at most `MOST_ROWS`.
     pub fn len(&self) -> usize
         ensures len { result ≡ length self.now }
+        ensures few { result ≤ most_rows }
         ensures layout { IsLayout self.now }
     {
         self.count
+    }
+
+    /// The rows in order.
+    pub fn as_slice(&self) -> &[Row]
+        ensures rows { result.now ≡ self.now }
+        ensures layout { IsLayout self.now }
+    {
+        &self.rows[..self.count]
     }
 
     /// Row `i`, from 0.
@@ -110,4 +124,68 @@ impl Layout {
         let rows = &self.rows;
         rows[i]
     }
+
+    /// The row of the component, None exactly where the machine lacks it.
+    pub fn row(&self, c: Comp) -> Option<Row>
+        ensures row { MatchOption result (has_row self.now c.0 ≡ false) (IsRowOf self.now c.0) }
+        ensures there { IfSome result (λ row. has_row self.now c.0 ≡ true) }
+        ensures sound { IfSome result IsSound }
+    {
+        'each: for i in 0..self.len() {
+            let row = self.row_at(i);
+            if row.comp.0 == c.0 {
+                return Some(row);
+            }
+        }
+        None
+    }
+
+    /// The machine has the component.
+    pub fn has_row(&self, c: Comp) -> bool
+        ensures { result ≡ has_row self.now c.0 }
+    {
+        has_row(self.as_slice(), c)
+    }
+
+    /// The components of the machine, its XCR0.
+    pub fn features(&self) -> Features
+        ensures bits { result.0 ≡ features self.now }
+        ensures has { (c : ℕ) → has result.0 c ≡ has_row self.now c }
+    {
+        let mut bits: u64 = 0;
+        'each: for i in 0..self.len() {
+            bits |= 1 << self.row_at(i).comp.0;
+        }
+        Features(bits)
+    }
+
+    /// The components of the machine without TILEDATA.
+    pub fn default_features(&self) -> Features
+        ensures bits { result.0 ≡ default_features self.now }
+        ensures has { (c : ℕ) → has result.0 c ≡ (has_row self.now c && not (c == 18)) }
+    {
+        Features(self.features().0 & !Features::TILEDATA.0)
+    }
+
+    /// The layout of rows that pass every test.
+    fn of_table(rows: &[Row]) -> Layout
+        requires { IsLayout rows.now }
+        ensures { result ≡ rows.now }
+    {
+        let padded_rows = padded(rows);
+        Layout {
+            rows: padded_rows,
+            count: rows.len(),
+        }
+    }
+}
+
+/// The rows, and rows of nothing behind them.
+fn padded(rows: &[Row]) -> [Row; MOST_ROWS]
+    requires { length rows.now ≤ most_rows }
+    ensures { result ≡ padded rows.now }
+{
+    let mut table = [NO_ROW; MOST_ROWS];
+    table[..rows.len()].copy_from_slice(rows);
+    table
 }

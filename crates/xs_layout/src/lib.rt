@@ -4,6 +4,7 @@
 
 mod checks;
 mod layout;
+mod places;
 
 pub use checks::{row_error, table_error};
 pub use layout::Layout;
