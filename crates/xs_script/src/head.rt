@@ -11,7 +11,6 @@ use crate::front::first_line;
 use crate::line::Line;
 use crate::line_reader::begins_row;
 use crate::refusal::{Kind, LimitName, ScriptError};
-use crate::rows::from_rows;
 use arrayvec::ArrayVec;
 use xs_base::{LayoutError, Row};
 use xs_layout::{Layout, row_error, table_error};
@@ -173,7 +172,7 @@ impl Head {
         ensures taken { OnOk result (Takes self.old (Line.Cpus n) self.new) }
         ensures refused { IfErr result (λ kind. next (head_stand self.old) (Line.Cpus n) ≡ Err kind) }
     {
-        let layout = match from_rows(self.rows.as_slice()) {
+        let layout = match Layout::from_rows(self.rows.as_slice()) {
             Ok(layout) => layout,
             Err(fault) => return Err(Kind::Layout(fault.error)),
         };

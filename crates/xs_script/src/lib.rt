@@ -7,7 +7,6 @@ mod line;
 mod line_reader;
 mod reader;
 mod refusal;
-mod rows;
 mod words;
 
 pub use line::Line;
