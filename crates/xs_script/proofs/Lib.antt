@@ -11,3 +11,4 @@ pub mod KeptOrder
 pub mod HeadSteps
 pub mod Readings
 pub mod Unbuilt
+pub mod BodyLines

@@ -1,5 +1,5 @@
 -- What a reader has read of a text so far, and what it keeps of it.
-use Rattle.std.specs.Prelude.{◌≡◌, ℕ, ◌+◌, false, List, ◌∷◌, ◌++◌, length, map}
+use Rattle.std.specs.Prelude.{◌≡◌, ℕ, ◌+◌, false, List, ◌∷◌, ◌++◌, length, map, Result, Err}
 use Rattle.xs_script.specs.declared.line.Line.{Line}
 use Rattle.xs_script.specs.declared.refusal.Kind.{Kind}
 use Rattle.xs_script.specs.declared.refusal.ScriptError.{ScriptError}
@@ -45,3 +45,8 @@ pub record IsNext (text : List ℕ) (kept : Line) (rest : List ℕ) : Type 0 whe
 abbrev pub ExplainsLine : Stand → ℕ → List ℕ → ScriptError → Type 0
 ExplainsLine stand number text (errors.Refused line kind) = Fails stand number text line kind
 ExplainsLine stand number text errors.Memory = Unit {0}
+
+-- what line `number` is refused with, where a line leads to this
+abbrev pub ExplainsNext : Result Stand Kind → ℕ → ScriptError → Type 0
+ExplainsNext to number (errors.Refused line kind) = (line ≡ number) × (to ≡ Err kind)
+ExplainsNext to number errors.Memory = Unit {0}

@@ -7,3 +7,4 @@ pub mod LineOrder
 pub mod Refusal
 pub mod Front
 pub mod Head
+pub mod Body

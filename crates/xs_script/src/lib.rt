@@ -1,6 +1,7 @@
 //! The script reader: the one script that a text spells, or its first refusal.
 #![tactic(auto)]
 
+mod body;
 mod front;
 mod head;
 mod line;
