@@ -22,8 +22,11 @@ use Rattle.xs_script.specs.declared.refusal.ScriptError.TheVariants as errors
 use Rattle.xs_script.specs.Grammar.{order_lines, block_lines}
 use Rattle.xs_script.specs.LineOrder.{Stand, AtBlock, InBlock, next, may_end, after_task}
 use Rattle.xs_script.specs.Refusal.{LineFails, Early, table_fault, Fails, Here}
-use Rattle.xs_script.specs.Front.{IsNext, ExplainsLine, ExplainsNext}
-use Rattle.xs_script.specs.Body.{names_of, with_begun, blocks_of, begun_stand, body_stand, begun_lines, lines_of_body, AreBlocks, TakesLine}
+use Rattle.xs_script.specs.ScriptLine.{kept_line}
+use Rattle.xs_script.specs.Front.{IsFront, IsKeptFront, IsNext, ExplainsLine, ExplainsNext}
+use Rattle.xs_script.specs.Body.{names_of, with_begun, blocks_of, begun_stand, body_stand, begun_lines, lines_of_body, AreBlocks, TakesLine, ReadsLine, AreBlocksOf}
+use Rattle.xs_script.proofs.Fronts.{front_push}
+use Rattle.xs_script.proofs.KeptOrder.{kept_next}
 use Rattle.xs_script.proofs.HeadSteps.{next_fails}
 
 -- ---- lists
@@ -174,3 +177,32 @@ pub next_explains : (body : Body) (number : ℕ) (text : List ℕ) (kept : Line)
 next_explains body number text kept rest (errors.Refused line kind) first h =
     subst (λ (n : ℕ). Fails (body_stand body) number text n kind) (sym h.0) (next_fails (body_stand body) number text kept rest kind (no_table body.blocks body.begun text) first h.1)
 next_explains body number text kept rest errors.Memory first h = tt
+
+-- ---- the lines so far
+
+-- no block yet
+pub no_blocks : (first : ℕ) → AreBlocks first []
+no_blocks first = record { few = omega arith; distinct = tt; numbered = tt; tasks = tt }
+
+-- and one line more
+pub body_goes_on : (number : ℕ) (text left rest : List ℕ) (body after : Body) → IsKeptFront (AtBlock []) text (lines_of_body body) (body_stand body) left → ReadsLine number body left after rest → IsKeptFront (AtBlock []) text (lines_of_body after) (body_stand after) rest
+body_goes_on number text left rest body after h step = record {
+  lines = h.lines ++ step.line ∷ [];
+  front = front_push (AtBlock []) (body_stand body) (body_stand after) text left rest h.lines step.line h.front step.fits step.spelled (sym (kept_next (body_stand body) step.line) ∙ step.taken.leads);
+  kept_is = step.taken.came ∙ ap (λ (ls : List Line). ls ++ kept_line step.line ∷ []) h.kept_is ∙ sym (map-append kept_line h.lines (step.line ∷ []));
+}
+
+pub body_counts : (first number : ℕ) (left rest : List ℕ) (body after : Body) → number ≡ first + length (lines_of_body body) → ReadsLine number body left after rest → number + 1 ≡ first + length (lines_of_body after)
+body_counts first number left rest body after at step = rw step.taken.came (rw length-append (omega arith))
+
+-- where no block has begun and the text may end
+pub whole_blocks : (first : ℕ) (text : List ℕ) (body : Body) → body.begun ≡ None → AreBlocks first (blocks_of body) → IsKeptFront (AtBlock []) text (lines_of_body body) (body_stand body) [] → may_end (body_stand body) ≡ true → AreBlocksOf first text body.blocks
+whole_blocks first text body none fits front end = record {
+  fits = rw none at fits;
+  some = some_block body.blocks (rw none at end);
+  front = rw append-nil at (rw none at front);
+}
+  where
+    some_block : (blocks : List Block) → may_end (AtBlock (names_of blocks)) ≡ true → 0 < length blocks
+    some_block [] h = cc h
+    some_block (b ∷ blocks) h = omega arith

@@ -1,12 +1,16 @@
 //! The script reader: the one script that a text spells, or its first refusal.
 
-ghost use Rattle.std.specs.Prelude.{◌≡◌, ◌+◌, ◌≤◌, length, IfOk, IfErr};
-ghost use Rattle.xs_script.specs.LineOrder.{AtVersion};
+ghost use Rattle.std.specs.Prelude.{◌≡◌, ◌+◌, ◌^◌, ◌<◌, ◌≤◌, [], length, IfOk, IfErr};
+ghost use Rattle.xs_script.specs.LineOrder.{AtVersion, AtBlock};
 ghost use Rattle.xs_script.specs.Front.{ExplainsFrom};
 ghost use Rattle.xs_script.specs.Head.{IsHeadOf};
+ghost use Rattle.xs_script.specs.Body.{AreBlocksOf};
 
+use crate::body::Body;
 use crate::head::{Head, Stage};
 use crate::refusal::ScriptError;
+use std::alloc::Global;
+use xs_model::{Block, Items};
 
 /// The lines before the blocks, the number of the line after them, and the text from there on.
 fn read_head(text: &[u8]) -> Result<(Head, u32, &[u8]), ScriptError>
@@ -26,4 +30,26 @@ fn read_head(text: &[u8]) -> Result<(Head, u32, &[u8]), ScriptError>
         number += 1;
     }
     Ok((head, number, left))
+}
+
+/// The blocks that the text is, to its end, where its first line is line `first`.
+fn read_blocks(alloc: Global, first: u32, text: &[u8]) -> Result<Items<Block>, ScriptError>
+    requires { first + length text.now < 2 ^ 32 }
+    ensures blocks { IfOk result (AreBlocksOf first text.now) }
+    ensures refused { IfErr result (ExplainsFrom (AtBlock []) first text.now) }
+{
+    let mut body = Body::new(alloc);
+    let mut number = first;
+    let mut left = text;
+    'lines: while !left.is_empty() {
+        match body.read_line(alloc, number, left) {
+            Ok(rest) => left = rest,
+            Err(e) => return Err(e),
+        }
+        number += 1;
+    }
+    match body.finish(number) {
+        Ok(blocks) => Ok(blocks),
+        Err(e) => Err(e),
+    }
 }
