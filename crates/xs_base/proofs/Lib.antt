@@ -5,5 +5,9 @@ pub mod FeatureLemmas
 pub mod SizeLemmas
 pub mod CompactLemmas
 pub mod PlaceLemmas
+pub mod ByteLemmas
+pub mod ComponentLemmas
+pub mod StandardLemmas
 pub mod WorkedValues
 pub mod Registers
+pub mod FileLemmas

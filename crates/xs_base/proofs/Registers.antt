@@ -18,14 +18,17 @@ use Rattle.xs_base.specs.Register.{Single, Family, families, singles, place_at, 
 abbrev pub index_text : ℕ → List ℕ
 index_text n = if nat_lt n 10 then (48 + n) ∷ [] else (48 + n / 10) ∷ (48 + n % 10) ∷ []
 
+-- a number of two digits
+pub decimal_two : (n : ℕ) → 10 ≤ n → n < 100 → decimal n ≡ (48 + n / 10) ∷ (48 + n % 10) ∷ []
+decimal_two n ge small =
+    let front : n / 10 < 10 = omega arith in
+    decimal_step n ge (omega arith) ∙ ap (λ ds. ds ++ (48 + n % 10) ∷ []) (decimal_digit (n / 10) front)
+
 pub decimal_index : (n : ℕ) → n < 100 → decimal n ≡ index_text n
 decimal_index n small =
     elim (cases_lt n 10) [
       | inl lt ↦ decimal_digit n lt ∙ sym (cond-true (nat_lt n 10) _ _ (lt-ltb n 10 lt))
-      | inr ge ↦
-          let front : n / 10 < 10 = omega arith in
-          decimal_step n ge (omega arith) ∙ ap (λ ds. ds ++ (48 + n % 10) ∷ []) (decimal_digit (n / 10) front)
-          ∙ sym (cond-false (nat_lt n 10) _ _ (le-ltb n 10 ge))
+      | inr ge ↦ decimal_two n ge small ∙ sym (cond-false (nat_lt n 10) _ _ (le-ltb n 10 ge))
     ]
 
 -- ---- the list of them

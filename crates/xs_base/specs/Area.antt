@@ -1,6 +1,6 @@
 -- What a save area stands for, in either format (SDM volume 1, 13.4, 13.8 and 13.12). An area says nothing of PKRU: the
 -- kernel keeps it beside (Linux 6.6, arch/x86/include/asm/thread_info.h and arch/x86/kernel/process_64.c).
-use Rattle.std.specs.Prelude.{◌≡◌, ℕ, ◌+◌, ◌<◌, ◌≤◌, Bool, true, false, not, ◌&&◌, ◌||◌, ◌==◌, nat_le, List, [], length, slice_index, slice_get, slice_range, Option, Some, None, if◌then◌else◌}
+use Rattle.std.specs.Prelude.{◌≡◌, ℕ, ◌+◌, ◌<◌, ◌≤◌, Bool, true, false, not, ◌&&◌, ◌||◌, ◌==◌, nat_le, List, length, slice_index, slice_get, slice_range, Option, Some, None, if◌then◌else◌}
 use Rattle.xs_base.specs.declared.component.Row.{Row}
 use Rattle.xs_base.specs.declared.header.Parts.{Parts}
 use Rattle.xs_base.specs.Sets.{has}

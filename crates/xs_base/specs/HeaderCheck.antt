@@ -1,7 +1,7 @@
 -- Which images of the standard format are refused, and what an accepted one has. The tests and their order follow
 -- Linux 6.6 in outline (arch/x86/kernel/fpu/signal.c, restore_fpregs_from_user; regset.c, xstateregs_set; xstate.c,
 -- validate_user_xstate_header); that one check serves both origins, and its rules for MXCSR, are this project's own.
-use Rattle.std.specs.Prelude.{ℕ, ◌+◌, Bool, true, false, not, ◌&&◌, ◌||◌, ◌==◌, nat_lt, List, [], ◌∷◌, slice_range, Option, Some, None, if◌then◌else◌, bit_and}
+use Rattle.std.specs.Prelude.{ℕ, ◌+◌, Bool, not, ◌&&◌, ◌||◌, ◌==◌, nat_lt, List, [], ◌∷◌, slice_range, Option, Some, None, if◌then◌else◌, bit_and}
 use Rattle.std.specs.List.{list_any}
 use Rattle.std.specs.Int.{from_le_bytes, w32}
 use Rattle.xs_base.specs.declared.component.Row.{Row}

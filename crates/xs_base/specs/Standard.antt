@@ -1,11 +1,12 @@
 -- The bytes of the standard format, byte by byte (SDM volume 1, 10.5.1 and 13.4). XSAVE writes them over what the memory
 -- had before, its base.
-use Rattle.std.specs.Prelude.{◌≡◌, ℕ, ◌+◌, ◌-◌, ◌<◌, ◌%◌, Bool, true, not, ◌&&◌, ◌||◌, ◌==◌, nat_le, nat_lt, List, [], ◌∷◌, ◌++◌, length, slice_index, if◌then◌else◌}
+use Rattle.std.specs.Prelude.{◌≡◌, ℕ, ◌-◌, ◌<◌, Bool, not, ◌&&◌, ◌||◌, List, [], ◌∷◌, ◌++◌, length, slice_index, if◌then◌else◌}
 use Rattle.std.specs.Int.{to_le_bytes, w32}
 use Rattle.xs_base.specs.declared.component.Row.{Row}
 use Rattle.xs_base.specs.Sets.{has}
 use Rattle.xs_base.specs.File.{File, part, is_own}
 use Rattle.xs_base.specs.Bytes.{is_within}
+use Rattle.xs_base.specs.Component.{component_size}
 
 -- Byte i is one of the row's component, which begins at `at`. Bytes 24 to 31 are no component's: MXCSR and its mask
 -- stand there.
@@ -40,3 +41,15 @@ standard_byte file mask base i =
 pub record IsStandard (file : File) (mask : ℕ) (base out : List ℕ) : Type 0 where
   pub len : length out ≡ length base
   pub each : (i : ℕ) → i < length base → slice_index out i ≡ standard_byte file mask base i
+
+-- ---- one component written into an area, or into bytes of its own
+
+-- The n bytes from `at` on are `byte 0` and so on, and every other byte is as before. Bytes 24 to 31 are as before too.
+pub record IsWritten (at n : ℕ) (byte : ℕ → ℕ) (old new : List ℕ) : Type 0 where
+  pub len : length new ≡ length old
+  pub each : (i : ℕ) → slice_index new i ≡ (if is_within at n i && not (is_within 24 8 i) then byte (i - at) else slice_index old i)
+
+-- Where component c stands from `at` on, what belongs to none of its registers is zero, and every other byte is as before.
+pub record IsCleaned (at c : ℕ) (old new : List ℕ) : Type 0 where
+  pub len : length new ≡ length old
+  pub each : (i : ℕ) → slice_index new i ≡ (if is_within at (component_size c) i && not (is_own c (i - at)) then 0 else slice_index old i)

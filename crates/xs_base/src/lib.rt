@@ -3,6 +3,7 @@
 //! over plain lists and numbers. The crate's contract is that a lane is a list of bytes.
 #![tactic(auto)]
 
+mod bytes;
 mod component;
 mod header;
 mod lane;
@@ -11,6 +12,7 @@ mod layout_error;
 mod tests;
 mod words;
 
+pub use bytes::{clean, clear, put, put_component, put_initial, put_initial_component};
 pub use component::{Comp, Features, Place, Row};
 pub use header::{HeaderError, Origin, Parts};
 pub use lane::Lane;

@@ -80,7 +80,7 @@ fn is_known(c: Comp) -> bool
 }
 
 /// The bytes of the component, 0 where it is none.
-fn component_size(c: Comp) -> u32
+pub fn component_size(c: Comp) -> u32
     ensures { result ≡ component.component_size c.0 }
 {
     match SIZES.get(c.0 as usize) {

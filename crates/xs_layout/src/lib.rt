@@ -6,6 +6,6 @@ mod checks;
 mod layout;
 mod places;
 
-pub use checks::{row_error, table_error};
+pub use checks::{component_size, row_error, table_error};
 pub use layout::Layout;
 pub use xs_base::{LayoutError, LayoutFault, Row};

@@ -1,0 +1,98 @@
+//! Writing over a part of some bytes: plain bytes, zeros, and components of the register state.
+
+ghost use Rattle.std.specs.Prelude.{◌≡◌, ◌+◌, ◌≤◌, length, slice_index, if◌then◌else◌};
+ghost use Rattle.xs_base.specs.Bytes.{splice, zeros};
+ghost use Rattle.xs_base.specs.Component.{component_size, initial_part};
+ghost use Rattle.xs_base.specs.File.{is_own};
+ghost use Rattle.xs_base.specs.Standard.{IsWritten, IsCleaned};
+
+use crate::component::Comp;
+
+/// Writes bytes over a part of others, from byte `at` on.
+#[tactic(auto, unfolding(crate::specs::Bytes::splice))]
+pub fn put(out: &mut [u8], at: usize, bytes: &[u8])
+    requires { at + length bytes.now ≤ length out.old }
+    ensures written { out.new ≡ splice at bytes.now out.old }
+    ensures len { length out.new ≡ length out.old }
+{
+    out[at..at + bytes.len()].copy_from_slice(bytes);
+}
+
+/// Makes `len` bytes zero, from byte `at` on.
+#[tactic(auto, unfolding(crate::specs::Bytes::splice, crate::specs::Bytes::zeros))]
+pub fn clear(out: &mut [u8], at: usize, len: usize)
+    requires { at + len ≤ length out.old }
+    ensures written { out.new ≡ splice at (zeros len) out.old }
+    ensures len { length out.new ≡ length out.old }
+{
+    out[at..at + len].fill(0);
+}
+
+/// Makes zero what belongs to no register of the component that stands from byte `at` on: byte 5, bytes 24 to 31 and the
+/// upper six bytes of each ST slot of component 0, and the upper four bytes of component 9 (SDM volume 1, 13.5).
+pub fn clean(out: &mut [u8], at: usize, comp: Comp)
+    requires { at + component_size comp.0 ≤ length out.old }
+    ensures { IsCleaned at comp.0 out.old out.new }
+{
+    if comp.0 == 0 {
+        clean_x87(out, at);
+    } else if comp.0 == 9 {
+        clear(out, at + 4, 4);
+    }
+}
+
+/// `clean` of component 0.
+#[tactic(auto, using(crate::proofs::ComponentLemmas::cleaned_all))]
+fn clean_x87(out: &mut [u8], at: usize)
+    requires { at + 160 ≤ length out.old }
+    ensures { IsCleaned at 0 out.old out.new }
+{
+    clear(out, at + 5, 1);
+    clear(out, at + 24, 8);
+    'slots: for slot in 2..10 {
+        clear(out, at + 16 * slot + 10, 6);
+    }
+}
+
+/// Writes a component into an area, from byte `at` on: what belongs to no register becomes zero. Bytes 24 to 31 of the
+/// area stay, where MXCSR and its mask stand (SDM volume 1, 10.5.1).
+pub fn put_component(out: &mut [u8], at: usize, comp: Comp, bytes: &[u8])
+    requires size { length bytes.now ≡ component_size comp.0 }
+    requires within { at + length bytes.now ≤ length out.old }
+    requires legacy { 32 ≤ length out.old }
+    ensures { IsWritten at (length bytes.now) (λ k. if is_own comp.0 k then slice_index bytes.now k else 0) out.old out.new }
+{
+    let mut control = [0; 8];
+    control.copy_from_slice(&out[24..32]);
+    put(out, at, bytes);
+    clean(out, at, comp);
+    put(out, 24, &control);
+}
+
+/// Writes the initial configuration of a component, from byte `at` on (SDM volume 1, 13.6).
+pub fn put_initial(out: &mut [u8], at: usize, comp: Comp, size: usize)
+    requires size { size ≡ component_size comp.0 }
+    requires within { at + size ≤ length out.old }
+    ensures written { out.new ≡ splice at (initial_part comp.0) out.old }
+    ensures len { length out.new ≡ length out.old }
+{
+    if comp.0 == 0 {
+        put(out, at, &[0x7f, 0x03]);
+        clear(out, at + 2, size - 2);
+    } else {
+        clear(out, at, size);
+    }
+}
+
+/// Writes the initial configuration of a component into an area, from byte `at` on. Bytes 24 to 31 of the area stay.
+pub fn put_initial_component(out: &mut [u8], at: usize, comp: Comp, size: usize)
+    requires size { size ≡ component_size comp.0 }
+    requires within { at + size ≤ length out.old }
+    requires legacy { 32 ≤ length out.old }
+    ensures { IsWritten at size (λ k. slice_index (initial_part comp.0) k) out.old out.new }
+{
+    let mut control = [0; 8];
+    control.copy_from_slice(&out[24..32]);
+    put_initial(out, at, comp, size);
+    put(out, 24, &control);
+}

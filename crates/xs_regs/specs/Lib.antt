@@ -1,0 +1,3 @@
+-- What the readers of names find.
+pub mod Finds
+pub mod Names

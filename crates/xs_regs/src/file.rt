@@ -1,0 +1,211 @@
+//! Register files.
+
+ghost use Rattle.std.specs.Prelude.{◌≡◌, ℕ, ◌<◌, ◌≤◌, ◌==◌, List, length, slice_index, IfOk};
+ghost use Rattle.std.specs.List.{list_all};
+ghost use Rattle.std.specs.Str.{bytes_eq};
+ghost use Rattle.xs_base.specs.Component.{component_count, component_size, initial_part};
+ghost use Rattle.xs_base.specs.File.{part, initial_file, is_mxcsr, read_place, write_place, in_use};
+ghost use Rattle.xs_base.specs.Layout.{standard_size};
+ghost use Rattle.xs_base.specs.Register.{IsRegister};
+ghost use Rattle.xs_base.specs.Sets.{has};
+ghost use Rattle.xs_base.specs.Standard.{IsStandard, component_byte, saved_byte, has_control, control_bytes};
+
+use std::alloc::{AllocError, Global};
+use std::marker::Model;
+use xs_base::{Comp, Features, Lane, Place, put, put_component, put_initial};
+use xs_layout::{Layout, component_size};
+
+/// How many numbers of components there are, those that no machine here has included.
+const COMPONENTS: u8 = 19;
+
+/// MXCSR after initialisation (SDM volume 1, 10.2.3).
+const INITIAL_MXCSR: u32 = 0x1F80;
+
+/// The registers of one processor or one task: the bytes of every component, by its number, and MXCSR beside them.
+/// Contracts see the record `File`. What belongs to no register is zero, and what the machine lacks is initial.
+#[derive(Drop)]
+pub struct File {
+    layout: Layout,
+    parts: Vec<Vec<u8>>,
+    mxcsr: u32,
+}
+
+impl Model for File {
+    ghost use Rattle.std.specs.Prelude.{map};
+    ghost use Rattle.xs_base.specs.File as files;
+
+    ghost Value = { files.File };
+
+    ghost view = { λ f. record { rows = f.layout; parts = map (λ p. p.items) f.parts.items; mxcsr = f.mxcsr } };
+
+    ghost invariant = { λ f. files.IsFile (record { rows = f.layout; parts = map (λ p. p.items) f.parts.items; mxcsr = f.mxcsr }) };
+}
+
+impl File {
+    /// The file whose every component is in its initial configuration (SDM volume 1, 13.6).
+    pub fn initial(alloc: Global, layout: &Layout) -> Result<File, AllocError>
+        ensures { IfOk result (λ file. file ≡ initial_file layout.now) }
+    {
+        // The rows pass every test of a table.
+        let _ = layout.len();
+        let mut parts = Vec::new(alloc);
+        'parts: for c in 0..COMPONENTS {
+            parts.push(make_part(alloc, Comp(c))?)?;
+        }
+        Ok(File {
+            layout: *layout,
+            parts,
+            mxcsr: INITIAL_MXCSR,
+        })
+    }
+
+    /// The machine whose file this is.
+    pub fn layout(&self) -> &Layout
+        ensures { result.now ≡ self.now.rows }
+    {
+        &self.layout
+    }
+
+    /// MXCSR.
+    pub fn mxcsr(&self) -> u32
+        ensures { result ≡ self.now.mxcsr }
+    {
+        self.mxcsr
+    }
+
+    /// The bytes of the component.
+    pub fn part(&self, c: Comp) -> &[u8]
+        requires { c.0 < component_count }
+        ensures bytes { result.now ≡ part self.now c.0 }
+        ensures len { length result.now ≡ component_size c.0 }
+    {
+        &self.parts[c.0 as usize]
+    }
+
+    /// The bytes of a register.
+    pub fn read(&self, place: Place) -> Lane
+        requires { (name : List ℕ) × IsRegister self.now.rows name place }
+        ensures { result ≡ read_place self.now place }
+    {
+        if is_mxcsr(place) {
+            return Lane::from_slice(&self.mxcsr.to_le_bytes());
+        }
+        let (_, from) = self.part(place.comp).split_at(place.offset as usize);
+        let (register, _) = from.split_at(place.len as usize);
+        Lane::from_slice(register)
+    }
+
+    /// Writes a register.
+    pub fn write(&mut self, place: Place, lane: &Lane)
+        requires register { (name : List ℕ) × IsRegister self.old.rows name place }
+        requires len { length lane.now ≡ place.len }
+        ensures { self.new ≡ write_place self.old place lane.now }
+    {
+        let bytes = lane.as_slice();
+        if is_mxcsr(place) {
+            self.mxcsr = u32::from_le_bytes([bytes[0], bytes[1], bytes[2], bytes[3]]);
+        } else {
+            put(
+                &mut self.parts[place.comp.0 as usize],
+                place.offset as usize,
+                bytes,
+            );
+        }
+    }
+
+    /// The components that aren't in their initial configuration. MXCSR doesn't count.
+    pub fn in_use(&self) -> Features
+        ensures { (c : ℕ) → has result.0 c ≡ in_use self.now c }
+    {
+        let layout = self.layout();
+        let mut bits = 0;
+        'rows: for i in 0..layout.len() {
+            let comp = layout.row_at(i).comp;
+            if !self.is_initial(comp) {
+                bits |= 1u64 << comp.0;
+            }
+        }
+        Features(bits)
+    }
+
+    fn is_initial(&self, c: Comp) -> bool
+        requires { c.0 < component_count }
+        ensures { result ≡ bytes_eq (part self.now c.0) (initial_part c.0) }
+    {
+        let bytes = self.part(c);
+        if c.0 == 0 {
+            let (control, others) = bytes.split_at(2);
+            control == [0x7f, 0x03].as_slice() && are_zero(others)
+        } else {
+            are_zero(bytes)
+        }
+    }
+
+    /// Writes the file's components of the mask in the standard format, each at its place, and MXCSR with its mask where
+    /// SSE or AVX is in the mask (SDM volume 1, 13.4 and 13.7). Every other byte stays.
+    pub fn standard_into(&self, mask: Features, out: &mut [u8])
+        requires { standard_size self.now.rows mask.0 ≤ length out.old }
+        ensures { IsStandard self.now mask.0 out.old out.new }
+    {
+        self.components_into(mask, out);
+        if has_control(mask) {
+            put(out, 24, &control_bytes(self.mxcsr));
+        }
+    }
+
+    /// Writes the components of the mask, each at its place in the standard format. Bytes 24 to 31 stay.
+    fn components_into(&self, mask: Features, out: &mut [u8])
+        requires { standard_size self.now.rows mask.0 ≤ length out.old }
+        ensures len { length out.new ≡ length out.old }
+        ensures each { (k : ℕ) → slice_index out.new k ≡ component_byte (saved_byte self.now) (λ r. r.offset) mask.0 k self.now.rows (slice_index out.old k) }
+    {
+        let layout = self.layout();
+        'rows: for i in 0..layout.len() {
+            let row = layout.row_at(i);
+            if mask.has(row.comp) {
+                put_component(out, row.offset as usize, row.comp, self.part(row.comp));
+            }
+        }
+    }
+}
+
+/// MXCSR is saved with SSE and with AVX (SDM volume 1, 13.7).
+fn has_control(mask: Features) -> bool
+    ensures { result ≡ has_control mask.0 }
+{
+    mask.has(Comp(1)) || mask.has(Comp(2))
+}
+
+/// Whether the place is that of MXCSR.
+fn is_mxcsr(place: Place) -> bool
+    ensures { result ≡ is_mxcsr place }
+{
+    place.comp.0 == 1 && place.offset == 256
+}
+
+fn are_zero(bytes: &[u8]) -> bool
+    ensures { result ≡ list_all (λ b. b == 0) bytes.now }
+{
+    bytes.iter().all(|b| *b == 0)
+}
+
+/// MXCSR and its mask: every bit up to 15 may be set.
+#[tactic(auto, unfolding(xs_base::specs::Standard::control_bytes))]
+fn control_bytes(mxcsr: u32) -> [u8; 8]
+    ensures { result ≡ control_bytes mxcsr }
+{
+    let [a, b, c, d] = mxcsr.to_le_bytes();
+    [a, b, c, d, 0xff, 0xff, 0, 0]
+}
+
+/// The initial bytes of the component.
+fn make_part(alloc: Global, c: Comp) -> Result<Vec<u8>, AllocError>
+    requires { c.0 < component_count }
+    ensures { IfOk result (λ bytes. bytes.items ≡ initial_part c.0) }
+{
+    let size = component_size(c) as usize;
+    let mut bytes = Vec::new(alloc);
+    bytes.resize(size, 0)?;
+    put_initial(&mut bytes, 0, c, size);
+    Ok(bytes)
+}
