@@ -12,3 +12,4 @@ pub mod HeadSteps
 pub mod Readings
 pub mod Unbuilt
 pub mod BodyLines
+pub mod CommandFaults

@@ -8,3 +8,4 @@ pub mod Refusal
 pub mod Front
 pub mod Head
 pub mod Body
+pub mod Commands

@@ -2,6 +2,7 @@
 #![tactic(auto)]
 
 mod body;
+mod commands;
 mod front;
 mod head;
 mod line;
@@ -11,4 +12,5 @@ mod refusal;
 mod words;
 
 pub use line::Line;
+pub use reader::read_script;
 pub use refusal::{Kind, LimitName, ScriptError};
