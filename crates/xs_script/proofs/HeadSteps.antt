@@ -47,7 +47,7 @@ next_steps head text kept after rest first taken =
 pub head_goes_on : (text left rest : List ℕ) (head after : Head) → IsFront AtVersion text (lines_of_head head) (head_stand head) left → Steps head left after rest → IsFront AtVersion text (lines_of_head after) (head_stand after) rest
 head_goes_on text left rest head after front step =
     subst (λ (ls : List Line). IsFront AtVersion text ls (head_stand after) rest) (sym step.taken.came)
-        (front_push AtVersion (head_stand head) (head_stand after) text left rest (lines_of_head head) step.line front step.fits step.spelled step.taken.leads)
+    (front_push AtVersion (head_stand head) (head_stand after) text left rest (lines_of_head head) step.line front step.fits step.spelled step.taken.leads)
 
 pub head_counts : (number : ℕ) (left rest : List ℕ) (head after : Head) → number ≡ length (lines_of_head head) + 1 → Steps head left after rest → number + 1 ≡ length (lines_of_head after) + 1
 head_counts number left rest head after at step = rw step.taken.came (rw length-append (omega arith))

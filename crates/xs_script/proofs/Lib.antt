@@ -13,3 +13,5 @@ pub mod Readings
 pub mod Unbuilt
 pub mod BodyLines
 pub mod CommandFaults
+pub mod KnownLines
+pub mod WholeScripts

@@ -38,7 +38,12 @@ impl Body {
 
     /// Takes the first line of the text, which is line `number` and isn't the text's end, and answers the text after
     /// it.
-    pub(crate) fn read_line<'a>(&mut self, alloc: Global, number: u32, text: &'a [u8]) -> Result<&'a [u8], ScriptError>
+    pub(crate) fn read_line<'a>(
+        &mut self,
+        alloc: Global,
+        number: u32,
+        text: &'a [u8],
+    ) -> Result<&'a [u8], ScriptError>
         requires some { text.now ≡ [] → ⊥ }
         ensures taken { IfOk result (λ rest. ReadsLine number self.old text.now self.new rest.now) }
         ensures shorter { IfOk result (λ rest. length rest.now < length text.now) }

@@ -66,7 +66,11 @@ impl Head {
     }
 
     /// Takes the first line of the text, which is line `number`, and answers the text after it.
-    pub(crate) fn read_line<'a>(&mut self, number: u32, text: &'a [u8]) -> Result<&'a [u8], ScriptError>
+    pub(crate) fn read_line<'a>(
+        &mut self,
+        number: u32,
+        text: &'a [u8],
+    ) -> Result<&'a [u8], ScriptError>
         requires head { IsHead self.old }
         requires part { self.old.stage ≡ Stage.Block → ⊥ }
         ensures taken { IfOk result (λ rest. Steps self.old text.now self.new rest.now) }
