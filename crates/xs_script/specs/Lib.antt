@@ -5,3 +5,7 @@ pub mod Parts
 pub mod Grammar
 pub mod LineOrder
 pub mod Refusal
+pub mod Front
+pub mod Head
+pub mod Body
+pub mod Commands

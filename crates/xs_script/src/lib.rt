@@ -1,10 +1,16 @@
 //! The script reader: the one script that a text spells, or its first refusal.
 #![tactic(auto)]
 
+mod body;
+mod commands;
+mod front;
+mod head;
 mod line;
 mod line_reader;
+mod reader;
 mod refusal;
 mod words;
 
 pub use line::Line;
+pub use reader::read_script;
 pub use refusal::{Kind, LimitName, ScriptError};
