@@ -14,4 +14,5 @@ pub mod Unbuilt
 pub mod BodyLines
 pub mod CommandFaults
 pub mod KnownLines
+pub mod Numbering
 pub mod WholeScripts

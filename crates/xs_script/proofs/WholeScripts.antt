@@ -29,6 +29,7 @@ use Rattle.xs_script.specs.Front.{IsFront, IsKeptFront, RefusesFrom, ExplainsFro
 use Rattle.xs_script.specs.Head.{IsHead, IsHeadOf, lines_of_head, machine_lines}
 use Rattle.xs_script.specs.Body.{names_of, AreBlocks, AreBlocksOf}
 use Rattle.xs_script.specs.Commands.{PassesOrders, FirstOrder, FirstBlock}
+use Rattle.xs_script.proofs.Numbering.{blocks_rise}
 use Rattle.xs_script.proofs.Fronts.{all_join, front_join, rest_explains}
 use Rattle.xs_script.proofs.KnownLines.{all_parts, IsCut, map_cut, PassesLine, known_lines, kept_fails, orders_pass, blocks_pass, names_fit, blocks_known, number_at}
 
@@ -149,6 +150,7 @@ read_spells text rest head number sched blocks none h b passed =
         few = b.fits.few;
         names = names_fit blocks (subst AreLines (sym same) r.later_fits);
         distinct = b.fits.distinct;
+        rising = blocks_rise 0 number blocks (omega arith) b.fits.numbered;
         commands = commands.0;
       };
       built = record { one = refl; unscheduled = none; tasks = b.fits.tasks; registers = commands.1 };
