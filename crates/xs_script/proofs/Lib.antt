@@ -15,3 +15,4 @@ pub mod BodyLines
 pub mod CommandFaults
 pub mod KnownLines
 pub mod WholeScripts
+pub mod OneRefusal
