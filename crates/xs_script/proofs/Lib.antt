@@ -16,3 +16,4 @@ pub mod CommandFaults
 pub mod KnownLines
 pub mod WholeScripts
 pub mod OneRefusal
+pub mod SpelledLines
