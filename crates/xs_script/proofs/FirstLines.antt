@@ -1,12 +1,11 @@
 -- The first line of a text and its first word, where it is a line.
-use Rattle.std.proofs.Common.{◌≡◌, ℕ, Bool, true, false, List, ◌∷◌, ◌++◌, Option, Some, None, Ok, Err, ◌&&◌, ◌||◌, nat_le, inl, inr, codes, refl, sym, ◌∙◌, ap}
+use Rattle.std.proofs.Common.{◌≡◌, ℕ, Bool, true, false, List, ◌∷◌, ◌++◌, Option, Some, None, Ok, Err, ◌&&◌, ◌||◌, nat_le, inl, inr, codes, refl, ◌∙◌, ap}
 use Rattle.std.specs.Prelude.{bytes_eq, if◌then◌else◌}
 use Rattle.std.specs.List.{list_any}
 use Rattle.std.proofs.lemmas.Bool.Decides.{eqb_tells}
 use Rattle.xs_base.specs.declared.layout_error.LayoutError.{LayoutError}
 use Rattle.xs_base.specs.Layout.{table_error}
 use Rattle.xs_model.specs.declared.script.Command.TheVariants as commands
-use Rattle.xs_model.specs.declared.script.Named.TheVariants as machines
 use Rattle.xs_script.specs.declared.line.Line.{Line}
 use Rattle.xs_script.specs.declared.line.Line.TheVariants as lines
 use Rattle.xs_script.specs.ScriptLine.{line_text, IsLine}

@@ -1,12 +1,10 @@
 -- What a reader keeps of a line: mostly the line, and of a row what its test answers.
-use Rattle.std.proofs.Common.{◌≡◌, ℕ, ◌<◌, ◌≤◌, ◌&&◌, ◌||◌, ◌==◌, not, nat_le, Bool, true, false, cond, min, List, [], length, Option, Some, None, inl, inr, refl, ap, sym, ◌∙◌, arith}
-use Rattle.std.specs.Prelude.{if◌then◌else◌}
+use Rattle.std.proofs.Common.{◌≡◌, ℕ, ◌<◌, ◌≤◌, false, min, List, [], length, Option, Some, None, inl, inr, refl, ap, sym, ◌∙◌, arith}
 use Rattle.std.proofs.lemmas.Bool.{cases_lt}
 use Rattle.std.proofs.lemmas.Bool.Decides.{nat_tests}
-use Rattle.std.proofs.lemmas.Grind.{common_steps}
 use Rattle.xs_base.specs.declared.component.Row.{Row}
 use Rattle.xs_base.specs.declared.layout_error.LayoutError.TheVariants as errors
-use Rattle.xs_base.specs.Layout.{row_error, row, is_known}
+use Rattle.xs_base.specs.Layout.{row_error, is_known}
 use Rattle.xs_base.proofs.LayoutLemmas.{passes, passes_sound}
 use Rattle.xs_model.specs.declared.script.Command.{Command}
 use Rattle.xs_model.specs.declared.script.Command.TheVariants as commands

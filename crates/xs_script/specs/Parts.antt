@@ -1,14 +1,11 @@
 -- The parts of a line that a reader meets one by one, each with its text and with what fits it.
-use Rattle.std.specs.Prelude.{◌≡◌, ℕ, ◌<◌, ◌%◌, Bool, true, ◌&&◌, ◌||◌, ◌==◌, nat_le, List, ◌∷◌, ◌++◌, length, codes}
+use Rattle.std.specs.Prelude.{◌≡◌, ℕ, ◌<◌, ◌%◌, Bool, true, ◌&&◌, ◌||◌, ◌==◌, nat_le, List, ◌++◌, length, codes}
 use Rattle.std.specs.List.{list_all, AllByRecursion}
-use Rattle.hex.specs.Hex.{encode_lower}
 use Rattle.xs_base.specs.declared.component.Row.{Row}
 use Rattle.xs_model.specs.declared.script.Named.{Named}
-use Rattle.xs_model.specs.declared.script.Command.{Command}
 use Rattle.xs_model.specs.declared.script.Command.TheVariants.{Set}
-use Rattle.xs_script.specs.declared.line.Line.{Line}
 use Rattle.xs_script.specs.declared.line.Line.TheVariants as lines
-use Rattle.xs_script.specs.ScriptLine.{IsNumber, IsLine, IsCommandLine, line_text, command_text, kept_bytes, is_register_word}
+use Rattle.xs_script.specs.ScriptLine.{IsLine, IsCommandLine, line_text, command_text, kept_bytes, is_register_word}
 
 -- bytes of a byte's size, at least one
 abbrev pub IsValue : List ℕ → Type 0

@@ -3,10 +3,10 @@
 ghost use Rattle.std.specs.Prelude.{◌≡◌, ◌<◌, List, ℕ, ◌∷◌, ◌++◌, length, codes, decimal, bytes_eq, MatchOption, IfSome};
 ghost use Rattle.std.specs.List.{list_any};
 ghost use Rattle.xs_script.specs.declared.line.Line.{Line};
-ghost use Rattle.xs_script.specs.ScriptLine.{line_text, IsLine, IsNumber, kept_line, kept_row, kept_command, command_text, IsCommandLine, row_text};
+ghost use Rattle.xs_script.specs.ScriptLine.{line_text, IsLine, IsNumber, kept_line, kept_row, kept_command, command_text, IsCommandLine};
 ghost use Rattle.xs_script.specs.Reads.{Reads, ReadsAs};
 ghost use Rattle.xs_script.specs.Parts.{machine_text, row_line_text, IsRow, task_text, IsTask, set_text, IsSet, kept_set, get_text, IsGet};
-ghost use Rattle.xs_script.specs.Refusal.{NoLine, is_unbuilt, first_line, first_word, unbuilt_words, unbuilt_cpus};
+ghost use Rattle.xs_script.specs.Refusal.{NoLine, is_unbuilt, first_word, unbuilt_words, unbuilt_cpus};
 
 use crate::line::Line;
 use crate::words::{after, before, cut_at, read_bytes, read_name, read_number, read_register};
@@ -156,9 +156,9 @@ fn read_row(line: &[u8]) -> Option<Row>
     ensures { ReadsAs row_line_text IsRow kept_row result line.now }
 {
     let words = after(b"row ", line)?;
-    let (number, words) = read_number_of(words)?;
-    let (size, words) = read_number_of(words)?;
-    let (offset, flags) = read_number_of(words)?;
+    let (number, words) = read_first_number(words)?;
+    let (size, words) = read_first_number(words)?;
+    let (offset, flags) = read_first_number(words)?;
     let flags = read_number(flags)?;
     Some(Row {
         comp: Comp(number.min(255) as u8),
@@ -169,7 +169,7 @@ fn read_row(line: &[u8]) -> Option<Row>
 }
 
 /// The number before the first space of some words, and the words after it.
-fn read_number_of(words: &[u8]) -> Option<(u32, &[u8])>
+fn read_first_number(words: &[u8]) -> Option<(u32, &[u8])>
     ensures { MatchOption result ((n : ℕ) (rest : List ℕ) → IsNumber n → words.now ≡ decimal n ++ 32 ∷ rest → ⊥) (λ x. IsNumber x.0 × (words.now ≡ decimal x.0 ++ 32 ∷ x.1.now)) }
 {
     let (number, rest) = cut_at(b' ', words)?;
@@ -202,3 +202,6 @@ fn read_get(line: &[u8]) -> Option<Name>
 {
     read_register(after(b"get ", line)?)
 }
+
+#[cfg(test)]
+mod tests;

@@ -1,6 +1,6 @@
 //! The words of a line, read: cuts, numbers, names, words of registers and hex.
 
-ghost use Rattle.std.specs.Prelude.{◌≡◌, ℕ, ◌^◌, ◌<◌, ◌≤◌, true, List, ◌∷◌, ◌++◌, decimal, MatchOption};
+ghost use Rattle.std.specs.Prelude.{◌≡◌, ℕ, ◌^◌, ◌<◌, ◌≤◌, true, List, ◌∷◌, ◌++◌, length, decimal, MatchOption};
 ghost use Rattle.std.specs.List.{list_all};
 ghost use Rattle.std.specs.Str.{bytes_eq};
 ghost use Rattle.hex.specs.Hex.{encode_lower};
@@ -75,7 +75,7 @@ fn parse_number(bytes: &[u8]) -> Option<u32>
 pub fn read_name(bytes: &[u8]) -> Option<Name>
     ensures { Reads (λ (name : List ℕ). name) (λ name. is_name name ≡ true) result bytes.now }
 {
-    if is_name(bytes) && bytes.len() <= 16 {
+    if is_name(bytes) {
         Some(Name::from_slice(bytes))
     } else {
         None
@@ -86,7 +86,7 @@ pub fn read_name(bytes: &[u8]) -> Option<Name>
 pub fn read_register(bytes: &[u8]) -> Option<Name>
     ensures { Reads (λ (reg : List ℕ). reg) (λ reg. is_register_word reg ≡ true) result bytes.now }
 {
-    if is_register_word(bytes) && bytes.len() <= 16 {
+    if is_register_word(bytes) {
         Some(Name::from_slice(bytes))
     } else {
         None
@@ -106,7 +106,8 @@ fn is_letter_or_digit(byte: u8) -> bool
 }
 
 fn is_name(bytes: &[u8]) -> bool
-    ensures { result ≡ is_name bytes.now }
+    ensures name { result ≡ is_name bytes.now }
+    ensures short { result ≡ true → length bytes.now ≤ 16 }
 {
     match bytes.split_first() {
         None => false,
@@ -133,7 +134,8 @@ fn are_register_bytes(bytes: &[u8]) -> bool
 }
 
 fn is_register_word(bytes: &[u8]) -> bool
-    ensures { result ≡ is_register_word bytes.now }
+    ensures word { result ≡ is_register_word bytes.now }
+    ensures short { result ≡ true → length bytes.now ≤ 16 }
 {
     are_register_bytes(bytes) && 0 < bytes.len() && bytes.len() <= 16
 }

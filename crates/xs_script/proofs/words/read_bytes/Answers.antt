@@ -1,4 +1,4 @@
-use Rattle.std.proofs.Common.{◌≡◌, ◌<◌, length, sym, ◌∙◌, eqb-true, arith}
+use Rattle.std.proofs.Common.{length, sym, ◌∙◌, eqb-true, arith}
 use Rattle.std.proofs.lemmas.Bool.{eqb-false}
 use Rattle.xs_script.proofs.Readings.{no_bytes, reads_short, reads_long, reads_other}
 use Rattle.xs_script.proofs.words.read_bytes.Goals as goal
