@@ -13,4 +13,4 @@ mod words;
 
 pub use line::Line;
 pub use reader::{not_both, one_refusal, one_script, read_script};
-pub use refusal::{Kind, LimitName, ScriptError};
+pub use refusal::{Kind, LimitName, RefusalLine, ScriptError, write_refusal};
