@@ -16,3 +16,5 @@ pub mod CommandFaults
 pub mod KnownLines
 pub mod Numbering
 pub mod WholeScripts
+pub mod OneRefusal
+pub mod SpelledLines

@@ -76,7 +76,7 @@ orders_no_rows : (orders : List Order) (ls : List Line) → HasNoRows ls → Has
 orders_no_rows [] ls h = h
 orders_no_rows (o ∷ orders) ls h = (refl, orders_no_rows orders ls h)
 
-blocks_no_rows : (blocks : List Block) → HasNoRows (flat_map block_lines blocks)
+pub blocks_no_rows : (blocks : List Block) → HasNoRows (flat_map block_lines blocks)
 blocks_no_rows [] = tt
 blocks_no_rows (b ∷ blocks) =
     let rest = orders_no_rows b.body (lines.End ∷ flat_map block_lines blocks) (refl, blocks_no_rows blocks) in
@@ -95,11 +95,11 @@ pub record IsRead (text : List ℕ) (script : Script) : Type 0 where
   pub passes : Passes text (head_lines script ++ later)
   pub table : table_of (head_lines script ++ later) ≡ script.layout
 
-may_end_some : (blocks : List Block) → 0 < length blocks → may_end (AtBlock (names_of blocks)) ≡ true
+pub may_end_some : (blocks : List Block) → 0 < length blocks → may_end (AtBlock (names_of blocks)) ≡ true
 may_end_some [] h = absurd (omega arith)
 may_end_some (b ∷ blocks) h = refl
 
-table_of_lines : (script : Script) (later : List Line) → IsTableOf script.machine script.layout → table_of later ≡ [] → table_of (head_lines script ++ later) ≡ script.layout
+pub table_of_lines : (script : Script) (later : List Line) → IsTableOf script.machine script.layout → table_of later ≡ [] → table_of (head_lines script ++ later) ≡ script.layout
 table_of_lines script later is none =
     let numbers = lines.Cpus script.cpus ∷ lines.Quantum script.quantum ∷ lines.Large script.large ∷ [] in
     ap (λ (ls : List Line). table_of (lines.Version ∷ lines.Machine script.machine ∷ ls)) (append_assoc (row_lines script.machine script.layout) numbers later)
@@ -171,7 +171,7 @@ blocks_refuse text rest head number e h r = line_refuses text e (rest_explains A
 
 -- ---- a refusal of the second pass
 
-head_known : (rows : List Row) (script : Script) → AllByRecursion (IsKnown rows) (head_lines script)
+pub head_known : (rows : List Row) (script : Script) → AllByRecursion (IsKnown rows) (head_lines script)
 head_known rows script =
     (tt, (tt, all_join (IsKnown rows) (row_lines script.machine script.layout) (lines.Cpus script.cpus ∷ lines.Quantum script.quantum ∷ lines.Large script.large ∷ []) (rows_known script.machine script.layout) (tt, (tt, (tt, tt)))))
   where

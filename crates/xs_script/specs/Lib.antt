@@ -9,3 +9,4 @@ pub mod Front
 pub mod Head
 pub mod Body
 pub mod Commands
+pub mod RefusalText

@@ -12,5 +12,5 @@ mod refusal;
 mod words;
 
 pub use line::Line;
-pub use reader::read_script;
-pub use refusal::{Kind, LimitName, ScriptError};
+pub use reader::{not_both, one_refusal, one_script, read_script};
+pub use refusal::{Kind, LimitName, RefusalLine, ScriptError, write_refusal};

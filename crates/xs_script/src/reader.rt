@@ -1,8 +1,10 @@
 //! The script reader: the one script that a text spells, or its first refusal.
 
-ghost use Rattle.std.specs.Prelude.{◌≡◌, ◌+◌, ◌^◌, ◌<◌, ◌≤◌, [], length, IfOk, IfErr};
+ghost use Rattle.std.specs.Prelude.{◌≡◌, ℕ, ◌+◌, ◌^◌, ◌<◌, ◌≤◌, List, [], length, IfOk, IfErr};
+ghost use Rattle.xs_model.specs.declared.script.Script.{Script};
+ghost use Rattle.xs_script.specs.declared.refusal.Kind.{Kind};
 ghost use Rattle.xs_script.specs.Grammar.{Spells};
-ghost use Rattle.xs_script.specs.Refusal.{Explains};
+ghost use Rattle.xs_script.specs.Refusal.{Refuses, Explains};
 ghost use Rattle.xs_script.specs.LineOrder.{AtVersion, AtBlock};
 ghost use Rattle.xs_script.specs.Front.{ExplainsFrom};
 ghost use Rattle.xs_script.specs.Head.{IsHeadOf};
@@ -44,6 +46,21 @@ pub fn read_script(alloc: Global, text: &[u8]) -> Result<Script, ScriptError>
         None => Ok(script),
     }
 }
+
+/// A text spells at most one script. A call does nothing.
+pub fn one_script()
+    ensures { (text : List ℕ) (a b : Script) → Spells text a → Spells text b → a ≡ b }
+{}
+
+/// A text has at most one refusal: one line, and one kind. A call does nothing.
+pub fn one_refusal()
+    ensures { (text : List ℕ) (m n : ℕ) (k j : Kind) → Refuses text m k → Refuses text n j → (m ≡ n) × (k ≡ j) }
+{}
+
+/// A text that is refused spells no script. A call does nothing.
+pub fn not_both()
+    ensures { (text : List ℕ) (script : Script) (n : ℕ) (k : Kind) → Spells text script → Refuses text n k → ⊥ }
+{}
 
 /// The lines before the blocks, the number of the line after them, and the text from there on.
 fn read_head(text: &[u8]) -> Result<(Head, u32, &[u8]), ScriptError>
