@@ -18,7 +18,26 @@ pub mod HistoryFront
 pub mod LegalTasks
 -- Lemmas of the top call.
 pub mod AnswerLemmas
-pub mod Verdicts
-pub mod Numbering
 pub mod KnownInputs
 pub mod CommandWords
+-- Lemmas of the script reader, one file a noun.
+pub mod Numbers
+pub mod Cuts
+pub mod Lanes
+pub mod HexText
+pub mod Spellings
+pub mod FirstLines
+pub mod Kept
+pub mod HeadRows
+pub mod Fronts
+pub mod KeptOrder
+pub mod HeadSteps
+pub mod Readings
+pub mod Unbuilt
+pub mod BodyLines
+pub mod CommandFaults
+pub mod KnownLines
+pub mod Numbering
+pub mod WholeScripts
+pub mod OneRefusal
+pub mod SpelledLines

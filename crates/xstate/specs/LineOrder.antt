@@ -77,7 +77,7 @@ after_task names name =
     else if list_any (λ other. bytes_eq other name) names then Err Repeated
     else Ok (InBlock (names ++ name ∷ []))
 
--- What a line leads to. A line that doesn't stand where the grammar allows it is a bad line.
+-- What a line leads to. A line out of its order is a bad line.
 abbrev pub next : Stand → Line → Result Stand Kind
 next AtVersion lines.Version = Ok AtMachine
 next AtMachine (lines.Machine named) = Ok (after_machine named)

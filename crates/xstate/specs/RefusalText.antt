@@ -1,5 +1,4 @@
--- The line that says why a text is no script: the line that is refused first, and what is wrong with it. Its words are
--- this project's own.
+-- The line that tells a refusal. Its words are this project's own.
 use Rattle.std.specs.Prelude.{ℕ, List, [], ◌∷◌, ◌++◌, codes, decimal}
 use Rattle.xs_base.specs.declared.layout_error.LayoutError.{LayoutError}
 use Rattle.xs_base.specs.declared.layout_error.LayoutError.TheVariants as errors
@@ -25,13 +24,14 @@ layout_word errors.Overlap = codes "overlap"
 layout_word errors.LegacyMissing = codes "legacy-missing"
 layout_word errors.TileAlone = codes "tile-alone"
 
-abbrev pub kind_words : Kind → List ℕ
-kind_words kinds.NotBuilt = codes "not-built"
-kind_words kinds.BadLine = codes "bad-line"
-kind_words (kinds.Limit name) = codes "limit " ++ limit_word name
-kind_words (kinds.Layout error) = codes "layout " ++ layout_word error
-kind_words kinds.Repeated = codes "repeated"
-kind_words kinds.UnknownName = codes "unknown-name"
+abbrev pub kind_text : Kind → List ℕ
+kind_text kinds.NotBuilt = codes "not-built"
+kind_text kinds.BadLine = codes "bad-line"
+kind_text (kinds.Limit name) = codes "limit " ++ limit_word name
+kind_text (kinds.Layout error) = codes "layout " ++ layout_word error
+kind_text kinds.Repeated = codes "repeated"
+kind_text kinds.UnknownName = codes "unknown-name"
 
+-- `refused LINE KIND` and a line feed
 abbrev pub refusal_text : ℕ → Kind → List ℕ
-refusal_text number kind = codes "refused " ++ (decimal number ++ 32 ∷ (kind_words kind ++ 10 ∷ []))
+refusal_text line kind = ((codes "refused " ++ decimal line) ++ 32 ∷ kind_text kind) ++ 10 ∷ []

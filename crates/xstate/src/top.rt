@@ -16,11 +16,10 @@ mod tests;
 use crate::engine::run;
 use crate::reader::read_script;
 use crate::reading::{ReadError, read_up_to};
-use crate::refusal::{Kind, ScriptError, write_refusal};
+use crate::refusal::{Kind, RefusalLine, ScriptError, write_refusal};
 use crate::status::Status;
 use crate::text::write_history;
 use crate::writing::write_all;
-use arrayvec::ArrayVec;
 use std::alloc::Global;
 use xs_io::{Sink, Source};
 use xs_model::{Event, Script};
@@ -117,7 +116,7 @@ fn answer<K: Sink>(alloc: Global, input: &[u8], sink: &mut K) -> Status
 fn tell_refusal<K: Sink>(line: u32, kind: Kind, sink: &mut K) -> Status
     ensures { TellEnds Status.Refused (refusal_text line kind) (K.written sink.old) (K.written sink.new) (K.fault_count sink.old) (K.fault_count sink.new) result }
 {
-    let mut text = ArrayVec::new();
+    let mut text = RefusalLine::new();
     write_refusal(line, kind, &mut text);
     tell(sink, text.as_slice(), Status::Refused)
 }

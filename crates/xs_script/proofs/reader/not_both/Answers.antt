@@ -1,5 +1,0 @@
-use Rattle.xs_script.proofs.SpelledLines.{not_both}
-use Rattle.xs_script.proofs.reader.not_both.Goals as goal
-
-pub returns : goal.returns
-returns c = not_both

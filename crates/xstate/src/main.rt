@@ -1,0 +1,71 @@
+//! `xstate`: runs a script of tasks on processors and writes its history.
+#![tactic(auto)]
+
+mod bank;
+mod body;
+mod commands;
+mod engine;
+mod front;
+mod head;
+mod line;
+mod line_reader;
+mod parked;
+mod reader;
+mod reading;
+#[cfg(test)]
+mod reading_tests;
+mod refusal;
+mod status;
+mod text;
+mod top;
+mod words;
+mod writing;
+
+use crate::status::Status;
+use crate::top::top;
+use std::alloc::AllocError;
+use std::env;
+use std::io::{self, BufWriter, ErrorKind};
+use std::process::ExitCode;
+use xs_io::{StdSink, StdSource};
+
+/// Takes the command line, standard input and a buffer over standard output, and ends with the status of the top call.
+/// The last flush is made here, since a buffer that is dropped loses its error: where it fails the output was not all
+/// taken, and the status is that of a failed write.
+fn main(rt: HostRuntime) -> ExitCode {
+    ExitCode::from(answer(&rt).code())
+}
+
+/// Answers the command line, and flushes.
+fn answer(rt: &HostRuntime) -> Status {
+    let alloc = rt.alloc();
+    let Ok(words) = command_line(rt) else {
+        return Status::NoMemory;
+    };
+    let Ok(writer) = BufWriter::new(alloc, io::writer(rt)) else {
+        return Status::NoMemory;
+    };
+    let mut source = StdSource::new(rt.reader());
+    let mut sink = StdSink::new(writer);
+    let status = top(alloc, &words, &mut source, &mut sink);
+    match sink.flush() {
+        Ok(()) => status,
+        Err(_) => Status::WriteFault,
+    }
+}
+
+/// The words of the command line, without the program's name: none where one of them is no text, so that they are no
+/// command.
+fn command_line(rt: &HostRuntime) -> Result<Vec<String>, AllocError> {
+    let mut words = Vec::new(rt.alloc());
+    match env::args(rt) {
+        Ok(all) => {
+            for word in all.skip(1) {
+                words.push(word)?;
+            }
+            Ok(words)
+        }
+        Err(fault) if fault.kind() == ErrorKind::OutOfMemory => Err(AllocError),
+        Err(_) => Ok(words),
+    }
+}
