@@ -6,3 +6,4 @@ pub mod FinishLemmas
 pub mod CopyLemmas
 pub mod TakeLemmas
 pub mod StandLemmas
+pub mod FixtureLemmas

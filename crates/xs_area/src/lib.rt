@@ -6,9 +6,13 @@ mod area;
 mod check;
 mod copies;
 mod cursor;
+#[cfg(test)]
+mod fixtures;
 mod standard;
+#[cfg(test)]
+mod tests;
 
-pub use area::{Area, mxcsr, xcomp_bv, xstate_bv};
+pub use area::{Area, Class, Lease, mxcsr, xcomp_bv, xstate_bv};
 pub use check::read_standard;
 pub use copies::{compact_of, copy_area};
 pub use standard::standard_of;
