@@ -103,3 +103,6 @@ fn read_blocks(alloc: Global, first: u32, text: &[u8]) -> Result<Items<Block>, S
         Err(e) => Err(e),
     }
 }
+
+#[cfg(test)]
+mod tests;

@@ -127,3 +127,6 @@ fn put(out: &mut RefusalLine, bytes: &[u8])
 {
     let _ = out.try_extend_from_slice(bytes);
 }
+
+#[cfg(test)]
+mod tests;
