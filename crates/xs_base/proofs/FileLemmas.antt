@@ -1,12 +1,11 @@
 -- Register files: the initial one, and a file with another part or another MXCSR.
-use Rattle.std.proofs.Common.{◌≡◌, ℕ, zero, suc, ◌+◌, ◌<◌, ◌≤◌, ◌^◌, Bool, true, false, ◌==◌, List, [], ◌∷◌, ◌++◌, length, map, get_or, set, refl, sym, ap, ◌∙◌, inl, inr, arith, lit<}
+use Rattle.std.proofs.Common.{◌≡◌, ℕ, zero, suc, ◌+◌, ◌<◌, ◌≤◌, ◌^◌, true, false, List, [], ◌++◌, length, get_or, refl, sym, ap, ◌∙◌, inl, inr, arith, lit<}
 use Rattle.std.proofs.lemmas.Bool.{cases_lt, cases_eq, false≢true, true≢false}
 use Rattle.std.proofs.lemmas.List.{drop_all, append-nil, get_or_past, length-set, get_or-set_same, get_or-set_other}
 use Rattle.std.proofs.lemmas.List.FromFn.{length-map-range_with_len, get_or-map-range_with_len}
-use Rattle.std.specs.List.{range_with_len}
 use Rattle.xs_base.specs.declared.component.Row.{Row}
 use Rattle.xs_base.specs.declared.component.Place.{Place}
-use Rattle.xs_base.specs.Bytes.{zeros, splice}
+use Rattle.xs_base.specs.Bytes.{splice}
 use Rattle.xs_base.specs.Component.{component_count, component_size, initial_part}
 use Rattle.xs_base.specs.Layout.{IsLayout, has_row}
 use Rattle.xs_base.specs.File.{File, part, with_part, initial_file, is_own, is_mxcsr, IsFile}

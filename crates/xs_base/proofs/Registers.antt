@@ -7,10 +7,9 @@ use Rattle.std.proofs.lemmas.Fmt.{decimal_digit, decimal_step}
 use Rattle.std.specs.List.{list_all, range_with_len}
 use Rattle.std.specs.Str.{bytes_eq}
 use Rattle.xs_base.specs.declared.component.Place.{Place}
-use Rattle.xs_base.specs.Bytes.{is_within}
 use Rattle.xs_base.specs.Component.{component_count, component_size, sizes}
 use Rattle.xs_base.specs.File.{is_own, is_mxcsr}
-use Rattle.xs_base.specs.Register.{Single, Family, families, singles, place_at, IsNamed, IsMember, IsTileRow, Alone, Member, TileRow}
+use Rattle.xs_base.specs.Register.{Single, Family, families, singles, place_at, IsNamed, Alone, Member, TileRow}
 
 -- ---- the text of an index
 
