@@ -1,3 +1,4 @@
 pub mod LittleEndian
 pub mod CursorLemmas
 pub mod HeldLemmas
+pub mod StandsLemmas

@@ -6,8 +6,10 @@ mod area;
 mod check;
 mod cursor;
 mod standard;
+mod standing;
 
 pub use area::{Area, mxcsr, xcomp_bv, xstate_bv};
 pub use check::read_standard;
 pub use standard::standard_of;
+pub use standing::stands;
 pub use xs_base::{HeaderError, Origin, Parts};

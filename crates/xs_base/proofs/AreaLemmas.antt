@@ -1,18 +1,19 @@
 -- An area each of whose XSTATE_BV bits has a place stands for a file: what the bits name stands in its place, and the
 -- rest is initial.
-use Rattle.std.proofs.Common.{◌≡◌, ◌⊎◌, ℕ, ◌+◌, ◌^◌, ◌<◌, Bool, true, false, not, ◌&&◌, ◌||◌, ◌==◌, List, [], ◌∷◌, length, map, get_or, Option, Some, None, if◌then◌else◌, refl, sym, ap, ◌∙◌, inl, inr, arith}
+use Rattle.std.proofs.Common.{◌≡◌, ◌⊎◌, ℕ, ◌+◌, ◌^◌, ◌<◌, Bool, true, false, not, ◌&&◌, ◌||◌, ◌==◌, List, [], ◌∷◌, length, map, get_or, Option, Some, None, if◌then◌else◌, refl, sym, ap, ◌∙◌, inl, inr, arith, lit<}
 use Rattle.std.proofs.lemmas.Bool.{cases_lt, cases_Bool, false≢true, true≢false, ne_eqb}
 use Rattle.std.proofs.lemmas.List.{get_or_past, get_or_default}
 use Rattle.std.proofs.lemmas.List.FromFn.{length-map-range_with_len, get_or-map-range_with_len}
 use Rattle.std.proofs.lemmas.Option.{slice_get_within, get_or_from_slice_get}
 use Rattle.std.specs.List.{list_any, range_with_len}
-use Rattle.std.specs.Prelude.{slice_get}
+use Rattle.std.specs.Prelude.{slice_get, slice_range}
+use Rattle.std.proofs.lemmas.List.Edits.{get_or-between}
 use Rattle.xs_base.specs.declared.component.Row.{Row}
 use Rattle.xs_base.specs.Area.{StandsFor, control_in}
-use Rattle.xs_base.specs.Component.{component_count, component_size, initial_part}
-use Rattle.xs_base.specs.Compact.{place, has_place}
+use Rattle.xs_base.specs.Component.{component_count, component_size, initial_part, initial_mxcsr}
+use Rattle.xs_base.specs.Compact.{is_compacted, place, has_place}
 use Rattle.xs_base.specs.File.{File, IsFile, part, is_own}
-use Rattle.xs_base.specs.Header.{xstate_bv, xcomp_bv}
+use Rattle.xs_base.specs.Header.{xstate_bv, xcomp_bv, mxcsr}
 use Rattle.xs_base.specs.Layout.{IsLayout, has_row, row_of}
 use Rattle.xs_base.specs.Sets.{has}
 use Rattle.xs_base.proofs.ComponentLemmas.{length_initial}
@@ -109,7 +110,7 @@ part_at : (rows : List Row) (area : List ℕ) (c : ℕ) → c < component_count 
 part_at rows area c lt = get_or-map-range_with_len (part_of rows area) 0 component_count c c [] lt (omega arith)
 
 -- what has a place has a row
-row_of_place : (rows : List Row) (xcomp c : ℕ) → has_place rows xcomp c ≡ true → has_row rows c ≡ true
+pub row_of_place : (rows : List Row) (xcomp c : ℕ) → has_place rows xcomp c ≡ true → has_row rows c ≡ true
 row_of_place rows xcomp c h = first (has_row rows c) _ h
   where
     first : (a b : Bool) → (a && b) ≡ true → a ≡ true
@@ -154,6 +155,18 @@ module _ (rows : List Row) (area : List ℕ) (table : IsLayout rows) (placed : (
 
       number : (i : ℕ) (r : Row) → slice_get rows i ≡ Some r → r.comp.0 < component_count
       number i r row = (sound_at rows table i r (slice_get_within rows i r row) (sym (get_or_from_slice_get rows i r r row))).number
+
+-- the MXCSR of an area of bytes is a word
+pub control_small : (area : List ℕ) → ((i : ℕ) → get_or area i 0 < 256) → control_in area < 2 ^ 32
+unfolding mxcsr
+control_small area small = choose (is_compacted (xcomp_bv area) && not (has (xstate_bv area) 1))
+  where
+    byte : (k : ℕ) → 24 + k < 28 → get_or (slice_range area 24 28) k 0 < 256
+    byte k lt = rw (get_or-between area 24 28 k 0 lt) (small (24 + k))
+
+    choose : (b : Bool) → (if b then initial_mxcsr else mxcsr area) < 2 ^ 32
+    choose true = lit< tt
+    choose false = omega (arith, byte 0 (lit< tt), byte 1 (lit< tt), byte 2 (lit< tt), byte 3 (lit< tt))
 
 -- an area each of whose bits has a place stands for a file
 pub some_file : (rows : List Row) (area : List ℕ) → IsLayout rows → control_in area < 2 ^ 32 → ((c : ℕ) → has (xstate_bv area) c ≡ true → has_place rows (xcomp_bv area) c ≡ true) → (file : File) × IsFile file × StandsFor rows area file
