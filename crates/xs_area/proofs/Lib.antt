@@ -1,4 +1,9 @@
 pub mod LittleEndian
 pub mod CursorLemmas
 pub mod HeldLemmas
-pub mod StandsLemmas
+pub mod RoomLemmas
+pub mod FinishLemmas
+pub mod CopyLemmas
+pub mod TakeLemmas
+pub mod StandLemmas
+pub mod HoldingLemmas

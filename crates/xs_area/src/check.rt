@@ -7,7 +7,7 @@ ghost use Rattle.xs_base.specs.HeaderCheck as check;
 
 use crate::area::{mxcsr, xcomp_bv, xstate_bv};
 use byteorder::{ByteOrder, LittleEndian};
-use xs_base::{Comp, Features, HeaderError, Origin, Parts, Row};
+use xs_base::{Comp, Features, HeaderError, Origin, Parts};
 use xs_layout::Layout;
 
 /// MXCSR after initialisation (SDM volume 1, 10.2.3).
@@ -131,7 +131,7 @@ fn pkru_of(layout: &Layout, bytes: &[u8], bits: Features) -> u32
     if !bits.has(Comp(9)) {
         return 0;
     }
-    let Some(row) = row_of(layout, Comp(9)) else {
+    let Some(row) = layout.row(Comp(9)) else {
         return 0;
     };
     number_at(bytes, row.offset as usize)
@@ -144,19 +144,4 @@ fn number_at(bytes: &[u8], at: usize) -> u32
     ensures { result ≡ from_le_bytes w32 (slice_range bytes.now at (at + 4)) }
 {
     LittleEndian::read_u32(&bytes[at..at + 4])
-}
-
-/// The row of a component, where there is one.
-#[tactic(auto, using(xs_base::proofs::RowLemmas::row_of_more, xs_base::proofs::RowLemmas::row_of_here, xs_base::proofs::RowLemmas::row_of_all))]
-pub fn row_of(layout: &Layout, comp: Comp) -> Option<Row>
-    ensures row { result ≡ table.row_of layout.now comp.0 }
-    ensures layout { table.IsLayout layout.now }
-{
-    'each: for i in 0..layout.len() {
-        let row = layout.row_at(i);
-        if row.comp.0 == comp.0 {
-            return Some(row);
-        }
-    }
-    None
 }

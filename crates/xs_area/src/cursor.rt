@@ -28,6 +28,7 @@ impl Cursor {
     pub fn pass(&mut self, row: Row) -> usize
         requires { self.old.end < 2 ^ 32 }
         ensures place { result ≡ place_after self.old.names.0 self.old.end row }
+        ensures small { result < 2 ^ 33 }
         ensures end { self.new ≡ record { names = self.old.names; end = compact_after self.old.names.0 self.old.end row } }
     {
         let at = aligned(row, self.end);

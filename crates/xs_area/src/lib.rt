@@ -4,12 +4,16 @@
 
 mod area;
 mod check;
+mod copies;
 mod cursor;
+mod holding;
+#[cfg(test)]
+mod holding_tests;
 mod standard;
-mod standing;
 
 pub use area::{Area, mxcsr, xcomp_bv, xstate_bv};
 pub use check::read_standard;
+pub use copies::{compact_of, copy_area};
+pub use holding::stands;
 pub use standard::standard_of;
-pub use standing::stands;
 pub use xs_base::{HeaderError, Origin, Parts};

@@ -19,28 +19,7 @@ use Rattle.xs_base.specs.Sets.{has}
 use Rattle.xs_base.proofs.ComponentLemmas.{length_initial}
 use Rattle.xs_base.proofs.FileLemmas.{initial_clean}
 use Rattle.xs_base.proofs.LayoutLemmas.{sound_at, same_index, has_row_at}
-use Rattle.xs_base.proofs.RowLemmas.{row_of_tells}
-
--- the row of a component that the machine has
-row_found : (rows : List Row) (c : ℕ) → has_row rows c ≡ true → (r : Row) × (row_of rows c ≡ Some r)
-unfolding has_row row_of
-row_found [] c h = absurd (true≢false (sym h))
-row_found (s ∷ rows) c h = elim (cases_Bool (s.comp.0 == c)) [
-  | inl own ↦ (s, rw own refl)
-  | inr other ↦
-      let rest : (s.comp.0 == c || list_any (λ (r : Row). r.comp.0 == c) rows) ≡ list_any (λ (r : Row). r.comp.0 == c) rows = rw other refl in
-      let later = row_found rows c (sym rest ∙ h) in
-      (later.0, let skip : (if s.comp.0 == c then Some s else row_of rows c) ≡ row_of rows c = rw other refl in skip ∙ later.1)
-]
-
--- a row is found by its number
-row_of_at : (rows : List Row) → IsLayout rows → (i : ℕ) (r : Row) → i < length rows → r ≡ get_or rows i r → row_of rows r.comp.0 ≡ Some r
-row_of_at rows table i r lt is =
-    let found = row_found rows r.comp.0 (has_row_at rows i r lt is) in
-    let tells = row_of_tells rows r.comp.0 found.0 found.1 in
-    let one : tells.index ≡ i = same_index rows table tells.index i found.0 r tells.within lt tells.is is tells.number in
-    let same : found.0 ≡ r = tells.is ∙ ap (λ n. get_or rows n found.0) one ∙ get_or_default rows i found.0 r lt ∙ sym is in
-    found.1 ∙ ap (λ x. Some x) same
+use Rattle.xs_base.proofs.RowLemmas.{row_of_at}
 
 -- ---- the file of an area
 

@@ -247,23 +247,23 @@ few_rows rows h = let few = few_from None 0 rows tt (layout_parts rows h).0 in o
 -- ---- features
 
 -- a component that the rows have has a row
-pub row_of : (rows : List Row) (c : ℕ) → has_row rows c ≡ true → (r : Row) × IsRowOf rows c r
+pub row_found : (rows : List Row) (c : ℕ) → has_row rows c ≡ true → (r : Row) × IsRowOf rows c r
 unfolding has_row
-row_of [] c h = cc
-row_of (r ∷ rows) c h = one (r.comp.0 == c) refl h (row_of rows c)
+row_found [] c h = cc
+row_found (r ∷ rows) c h = one (r.comp.0 == c) refl h (row_found rows c)
   where
     one : (b : Bool) → (r.comp.0 == c) ≡ b → (b || list_any (λ (x : Row). x.comp.0 == c) rows) ≡ true → (list_any (λ (x : Row). x.comp.0 == c) rows ≡ true → (x : Row) × IsRowOf rows c x) → (x : Row) × IsRowOf (r ∷ rows) c x
-    one true is any rest = (r, record { index = 0; within = omega arith; at = refl; number = eqb-true r.comp.0 c is })
+    one true is any rest = (r, record { index = 0; within = omega arith; is = refl; number = eqb-true r.comp.0 c is })
     one false is any rest =
         let found = rest any in
         let within : found.1.index < length rows = found.1.within in
-        (found.0, record { index = suc found.1.index; within = omega arith; at = found.1.at; number = found.1.number })
+        (found.0, record { index = suc found.1.index; within = omega arith; is = found.1.is; number = found.1.number })
 
 -- what the rows have is a component
 pub has_row_known : (rows : List Row) → IsLayout rows → (c : ℕ) → has_row rows c ≡ true → is_known c ≡ true
 has_row_known rows h c on =
-    let found = row_of rows c on in
-    subst (λ (n : ℕ). is_known n ≡ true) found.1.number (sound_at rows h found.1.index found.0 found.1.within found.1.at).known
+    let found = row_found rows c on in
+    subst (λ (n : ℕ). is_known n ≡ true) found.1.number (sound_at rows h found.1.index found.0 found.1.within found.1.is).known
 
 set_known : (b k : Bool) → (b ≡ true → k ≡ true) → (b && k) ≡ b
 set_known true k h = h refl

@@ -1,10 +1,14 @@
 -- The row of a component among the rows of a machine.
-use Rattle.std.proofs.Common.{◌≡◌, ℕ, ◌+◌, ◌<◌, ◌≤◌, ◌==◌, List, [], ◌∷◌, length, get_or, drop, Some, None, if◌then◌else◌, refl, sym, ap, ◌∙◌, add-one, inl, inr, arith}
+use Rattle.std.proofs.Common.{◌≡◌, ℕ, zero, suc, ◌+◌, ◌<◌, ◌≤◌, ◌==◌, ◌&&◌, ◌||◌, Bool, true, false, true≢false, not, List, [], ◌∷◌, length, get_or, drop, Option, Some, None, if◌then◌else◌, refl, sym, ap, ◌∙◌, add-one, inl, inr, arith}
 use Rattle.std.proofs.lemmas.Bool.{cases_Bool, eqb-true, eq-eqb, ne_eqb}
 use Rattle.std.proofs.lemmas.Option.{same_Some}
 use Rattle.std.proofs.lemmas.List.{at_drop_all}
 use Rattle.xs_base.specs.declared.component.Row.{Row}
-use Rattle.xs_base.specs.Layout.{row_of}
+use Rattle.std.proofs.lemmas.List.{get_or_default}
+use Rattle.std.specs.List.{list_any}
+use Rattle.xs_base.specs.declared.layout_error.LayoutError.TheVariants as errors
+use Rattle.xs_base.specs.Layout.{IsLayout, IsRowOf, row_of, has_row, table_error}
+use Rattle.xs_base.proofs.LayoutLemmas.{has_row_at, same_index, else_none, layout_parts}
 use Rattle.xs_base.proofs.StandardLemmas.{one_row_more}
 
 -- another component's row
@@ -22,13 +26,6 @@ pub row_of_all : (rows : List Row) (c i : ℕ) → length rows ≤ i → row_of 
 unfolding row_of
 row_of_all rows c i past = at_drop_all (λ xs. row_of xs c) rows i past
 
--- The row stands among the rows, and is that of component c.
-pub record IsRowOf (rows : List Row) (c : ℕ) (r : Row) : Type 0 where
-  pub index : ℕ
-  pub within : index < length rows
-  pub is : r ≡ get_or rows index r
-  pub number : r.comp.0 ≡ c
-
 -- what a look-up that finds a row tells
 pub row_of_tells : (rows : List Row) (c : ℕ) (r : Row) → row_of rows c ≡ Some r → IsRowOf rows c r
 unfolding row_of
@@ -42,3 +39,36 @@ row_of_tells (s ∷ rows) c r found = elim (cases_Bool (s.comp.0 == c)) [
       let tells = row_of_tells rows c r (sym later ∙ found) in
       record { index = tells.index + 1; within = omega arith; is = rw add-one tells.is; number = tells.number }
 ]
+
+-- ---- what the machine has
+
+-- the row of a component that the machine has
+pub row_found : (rows : List Row) (c : ℕ) → has_row rows c ≡ true → (r : Row) × (row_of rows c ≡ Some r)
+unfolding has_row row_of
+row_found [] c h = absurd (true≢false (sym h))
+row_found (s ∷ rows) c h = elim (cases_Bool (s.comp.0 == c)) [
+  | inl own ↦ (s, rw own refl)
+  | inr other ↦
+      let rest : (s.comp.0 == c || list_any (λ (r : Row). r.comp.0 == c) rows) ≡ list_any (λ (r : Row). r.comp.0 == c) rows = rw other refl in
+      let later = row_found rows c (sym rest ∙ h) in
+      (later.0, let skip : (if s.comp.0 == c then Some s else row_of rows c) ≡ row_of rows c = rw other refl in skip ∙ later.1)
+]
+
+-- a row is found by its number
+pub row_of_at : (rows : List Row) → IsLayout rows → (i : ℕ) (r : Row) → i < length rows → r ≡ get_or rows i r → row_of rows r.comp.0 ≡ Some r
+row_of_at rows table i r lt is =
+    let found = row_found rows r.comp.0 (has_row_at rows i r lt is) in
+    let tells = row_of_tells rows r.comp.0 found.0 found.1 in
+    let one : tells.index ≡ i = same_index rows table tells.index i found.0 r tells.within lt tells.is is tells.number in
+    let same : found.0 ≡ r = tells.is ∙ ap (λ n. get_or rows n found.0) one ∙ get_or_default rows i found.0 r lt ∙ sym is in
+    found.1 ∙ ap (λ x. Some x) same
+
+-- A machine has x87 and SSE.
+pub has_sse : (rows : List Row) → IsLayout rows → has_row rows 1 ≡ true
+unfolding table_error
+has_sse rows table = both (has_row rows 0) (has_row rows 1) (else_none (not (has_row rows 0 && has_row rows 1)) errors.LegacyMissing _ (layout_parts rows table).1).0
+  where
+    both : (a b : Bool) → not (a && b) ≡ false → b ≡ true
+    both true true h = refl
+    both true false h = absurd (true≢false h)
+    both false b h = absurd (true≢false h)

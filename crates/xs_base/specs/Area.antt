@@ -59,11 +59,11 @@ has_room rows area c = has_place rows (xcomp_bv area) c && ends_inside rows area
 abbrev pub has_control_room : List Row → List ℕ → Bool
 has_control_room rows area = not (is_compacted (xcomp_bv area)) || has_room rows area 1
 
--- What of the file the area can stand for: what it has no room for is initial.
+-- What of the file the area can stand for, PKRU aside: what it has no room for is initial.
 pub record IsCut (rows : List Row) (area : List ℕ) (file cut : File) : Type 0 where
   pub rows_are : cut.rows ≡ file.rows
-  pub kept : (c : ℕ) → has_room rows area c ≡ true → part cut c ≡ part file c
-  pub left_out : (c : ℕ) → has_row rows c ≡ true → has_room rows area c ≡ false → part cut c ≡ initial_part c
+  pub kept : (c : ℕ) → (c ≡ 9 → ⊥) → has_room rows area c ≡ true → part cut c ≡ part file c
+  pub left_out : (c : ℕ) → (c ≡ 9 → ⊥) → has_row rows c ≡ true → has_room rows area c ≡ false → part cut c ≡ initial_part c
   pub control : cut.mxcsr ≡ (if has_control_room rows area then file.mxcsr else initial_mxcsr)
 
 -- Component c is named in XSTATE_BV by a kernel's copy of components `bits` and this MXCSR: PKRU never is, and SSE also

@@ -139,7 +139,7 @@ pub record IsSound (r : Row) : Type 0 where
 pub record IsRowOf (rows : List Row) (c : ℕ) (r : Row) : Type 0 where
   pub index : ℕ
   pub within : index < length rows
-  pub at : r ≡ slice_index_or rows index r
+  pub is : r ≡ slice_index_or rows index r
   pub number : r.comp.0 ≡ c
 
 -- A machine has each component once at most.

@@ -2,7 +2,7 @@
 
 ghost use Rattle.std.specs.Prelude.{◌≡◌, ℕ, ◌<◌, ◌≤◌, Bool, true, false, not, ◌&&◌, ◌==◌, length, slice_index_or, IfOk, IfErr, IfSome, MatchOption, Some};
 ghost use Rattle.xs_base.specs.Sets.{has};
-ghost use Rattle.xs_base.specs.Layout.{IsLayout, IsSound, IsRowOf, most_rows, amx_rows, avx_rows, has_row, features, default_features};
+ghost use Rattle.xs_base.specs.Layout.{IsLayout, IsSound, IsRowOf, most_rows, amx_rows, avx_rows, has_row, row_of, features, default_features};
 ghost use Rattle.xs_base.specs.Layout as table;
 ghost use Rattle.xs_layout.specs.Rows.{padded};
 
@@ -127,6 +127,7 @@ impl Layout {
 
     /// The row of the component, None exactly where the machine lacks it.
     pub fn row(&self, c: Comp) -> Option<Row>
+        ensures is { result ≡ row_of self.now c.0 }
         ensures row { MatchOption result (has_row self.now c.0 ≡ false) (IsRowOf self.now c.0) }
         ensures there { IfSome result (λ row. has_row self.now c.0 ≡ true) }
         ensures sound { IfSome result IsSound }

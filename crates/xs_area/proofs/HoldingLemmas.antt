@@ -11,11 +11,11 @@ use Rattle.xs_base.specs.Header.{xstate_bv, xcomp_bv}
 use Rattle.xs_base.specs.Layout.{IsLayout, has_row, features}
 use Rattle.xs_base.specs.Area.{control_in}
 use Rattle.xs_base.proofs.AreaLemmas.{row_of_place, some_file}
-use Rattle.xs_base.proofs.LayoutLemmas.{row_of, has_features}
+use Rattle.xs_base.proofs.LayoutLemmas.{row_found, has_features}
 use Rattle.xs_base.proofs.SetLemmas.{within_set, set_within}
 use Rattle.xs_area.specs.declared.cursor.Cursor.{Cursor}
 use Rattle.xs_area.specs.Cursor.{place_after}
-use Rattle.xs_area.specs.Stands.{HoldsFile, HoldsRows, holds_row}
+use Rattle.xs_area.specs.Holding.{HoldsFile, HoldsRows, holds_row}
 use Rattle.xs_area.proofs.CursorLemmas.{IsBefore, passed, before_first, before_place, before_next}
 
 -- The rows before i have their places where the bits name them, and the cursor stands before row i.
@@ -71,8 +71,8 @@ file_held rows area table long control known all = record {
     placed : (c : ℕ) → has (xstate_bv area) c ≡ true → has_place rows (xcomp_bv area) c ≡ true
     placed c named =
         let there : has_row rows c ≡ true = sym (has_features rows table c) ∙ within_set (xstate_bv area) (features rows) (eqb-true _ _ known) c named in
-        let found = row_of rows c there in
-        let row : slice_get rows found.1.index ≡ Some found.0 = slice_get_read rows (length rows) found.1.index found.0 refl found.1.within found.1.at in
+        let found = row_found rows c there in
+        let row : slice_get rows found.1.index ≡ Some found.0 = slice_get_read rows (length rows) found.1.index found.0 refl found.1.within found.1.is in
         let held = all found.1.index found.0 row (rw found.1.number named) in
         and_from (has_row rows c) (not (is_compacted (xcomp_bv area)) || has (xcomp_bv area) c) there (rw found.1.number at (row_parts area found.0 (place rows (xcomp_bv area) found.0) held).0)
 

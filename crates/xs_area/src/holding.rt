@@ -2,7 +2,7 @@
 
 ghost use Rattle.std.specs.Prelude.{◌≡◌, ◌≤◌, ◌<◌, ◌^◌, ◌↔◌, length, IsTrue, bit_and, ◌==◌};
 ghost use Rattle.xs_base.specs.Layout.{IsLayout, features};
-ghost use Rattle.xs_area.specs.Stands.{HoldsFile, HoldsRows, holds_row};
+ghost use Rattle.xs_area.specs.Holding.{HoldsFile, HoldsRows, holds_row};
 
 use crate::area::{Area, xcomp_bv, xstate_bv};
 use crate::cursor::Cursor;

@@ -1,0 +1,92 @@
+-- What is left of an area when its MXCSR and XSTATE_BV are written.
+use Rattle.std.proofs.Common.{◌≡◌, ℕ, ◌+◌, ◌-◌, ◌<◌, ◌≤◌, ◌^◌, ◌==◌, ◌&&◌, ◌||◌, Bool, true, false, true≢false, List, length, get_or, if◌then◌else◌, refl, sym, ap, ◌∙◌, arith, take, drop}
+use Rattle.std.proofs.lemmas.List.{take-take}
+use Rattle.std.proofs.lemmas.Bool.Decides.{nat_tests}
+use Rattle.std.proofs.lemmas.Nat.{from_le_bytes-to_le_bytes_4, from_le_bytes-to_le_bytes_8}
+use Rattle.std.specs.Int.{from_le_bytes, to_le_bytes, w32, w64}
+use Rattle.std.specs.Prelude.{slice_range}
+use Rattle.xs_base.specs.Bytes.{zeros, splice, is_within}
+use Rattle.xs_base.specs.Header.{xstate_bv, xcomp_bv, mxcsr}
+use Rattle.xs_base.specs.Sets.{has}
+use Rattle.xs_base.specs.Standard.{control_bytes}
+use Rattle.xs_base.proofs.ByteLemmas.{length_splice, splice_byte, range_splice, range_same, within_below, within_above, within_in}
+use Rattle.xs_base.proofs.ComponentLemmas.{cleared_byte, length_zeros}
+use Rattle.xs_area.specs.Copy.{IsFinished}
+use Rattle.xs_area.proofs.HeldLemmas.{control_eight}
+
+-- ---- the numbers of the header
+
+-- XSTATE_BV where its bytes were written
+pub xstate_bv_splice : (area : List ℕ) (bits : ℕ) → 520 ≤ length area → bits < 2 ^ 64 → xstate_bv (splice 512 (to_le_bytes w64 bits) area) ≡ bits
+unfolding xstate_bv
+xstate_bv_splice area bits long small =
+    ap (from_le_bytes w64) (range_splice 512 520 (to_le_bytes w64 bits) area long refl) ∙ from_le_bytes-to_le_bytes_8 bits small
+
+control_range : (area : List ℕ) (value : ℕ) → 32 ≤ length area → slice_range (splice 24 (control_bytes value) area) 24 28 ≡ to_le_bytes w32 value
+unfolding control_bytes
+control_range area value long =
+    let whole = range_splice 24 32 (control_bytes value) area (omega (arith, control_eight value)) (sym (ap (λ n. 24 + n) (control_eight value))) in
+    sym (take-take 4 8 (drop 24 (splice 24 (control_bytes value) area)) (omega arith)) ∙ ap (λ l. take 4 l) whole
+
+-- MXCSR where its bytes were written
+pub mxcsr_splice : (area : List ℕ) (value : ℕ) → 32 ≤ length area → value < 2 ^ 32 → mxcsr (splice 24 (control_bytes value) area) ≡ value
+unfolding mxcsr
+mxcsr_splice area value long small = ap (from_le_bytes w32) (control_range area value long) ∙ from_le_bytes-to_le_bytes_4 value small
+
+-- the same bytes are the same numbers
+pub mxcsr_same : (a b : List ℕ) → 28 ≤ length a → 28 ≤ length b → ((k : ℕ) → 24 ≤ k → k < 28 → get_or a k 0 ≡ get_or b k 0) → mxcsr a ≡ mxcsr b
+unfolding mxcsr
+mxcsr_same a b la lb same = ap (from_le_bytes w32) (range_same 24 28 a b la lb same)
+
+pub xcomp_bv_same : (a b : List ℕ) → 528 ≤ length a → 528 ≤ length b → ((k : ℕ) → 520 ≤ k → k < 528 → get_or a k 0 ≡ get_or b k 0) → xcomp_bv a ≡ xcomp_bv b
+unfolding xcomp_bv
+xcomp_bv_same a b la lb same = ap (from_le_bytes w64) (range_same 520 528 a b la lb same)
+
+-- ---- the three writes
+
+module _ (area : List ℕ) (copied control bits : ℕ) (alone : Bool) (long : 576 ≤ length area) where
+  cleared : List ℕ
+  cleared = if alone then splice 160 (zeros 256) area else area
+
+  cleared_length : length cleared ≡ length area
+  unfolding cleared
+  cleared_length = here alone
+    where
+      here : (b : Bool) → length (if b then splice 160 (zeros 256) area else area) ≡ length area
+      here true = length_splice 160 (zeros 256) area (omega (arith, length_zeros 256))
+      here false = refl
+
+  cleared_zero : alone ≡ true → (k : ℕ) → k < 256 → get_or cleared (160 + k) 0 ≡ 0
+  unfolding cleared
+  cleared_zero on k small =
+      ap (λ b. get_or (if b then splice 160 (zeros 256) area else area) (160 + k) 0) on
+      ∙ cleared_byte 160 256 area (160 + k) (omega arith)
+      ∙ ap (λ b. if b then 0 else get_or area (160 + k) 0) (within_in 160 256 (160 + k) (omega arith) (omega arith))
+
+  cleared_other : (k : ℕ) → (alone ≡ true → is_within 160 256 k ≡ false) → get_or cleared k 0 ≡ get_or area k 0
+  unfolding cleared
+  cleared_other k outside = here alone outside
+    where
+      here : (b : Bool) → (b ≡ true → is_within 160 256 k ≡ false) → get_or (if b then splice 160 (zeros 256) area else area) k 0 ≡ get_or area k 0
+      here true off = cleared_byte 160 256 area k (omega arith) ∙ ap (λ b. if b then 0 else get_or area k 0) (off refl)
+      here false off = refl
+
+  pub finished : bits < 2 ^ 64 → control < 2 ^ 32 → ((c : ℕ) → has bits c ≡ (has copied c || ((c == 1) && alone))) → IsFinished copied control alone area (splice 512 (to_le_bytes w64 bits) (splice 24 (control_bytes control) (if alone then splice 160 (zeros 256) area else area)))
+  unfolding cleared
+  finished bits_small small are =
+      let l1 = cleared_length in
+      let fits : 24 + length (control_bytes control) ≤ length cleared = omega (arith, control_eight control) in
+      let two = splice 24 (control_bytes control) cleared in
+      let l2 : length two ≡ length area = length_splice 24 (control_bytes control) cleared fits ∙ l1 in
+      let three = splice 512 (to_le_bytes w64 bits) two in
+      let fits3 : 512 + length (to_le_bytes w64 bits) ≤ length two = omega arith in
+      let l3 : length three ≡ length area = length_splice 512 (to_le_bytes w64 bits) two fits3 ∙ l2 in
+      let outer : (k : ℕ) → is_within 512 8 k ≡ false → get_or three k 0 ≡ get_or two k 0 = λ k off. splice_byte 512 (to_le_bytes w64 bits) two k fits3 ∙ ap (λ b. if b then get_or (to_le_bytes w64 bits) (k - 512) 0 else get_or two k 0) off in
+      let middle : (k : ℕ) → is_within 24 8 k ≡ false → get_or two k 0 ≡ get_or cleared k 0 = λ k off. splice_byte 24 (control_bytes control) cleared k fits ∙ ap (λ n. if is_within 24 n k then get_or (control_bytes control) (k - 24) 0 else get_or cleared k 0) (control_eight control) ∙ ap (λ b. if b then get_or (control_bytes control) (k - 24) 0 else get_or cleared k 0) off in
+      record {
+        len = l3;
+        bits = λ c. ap (λ x. has x c) (xstate_bv_splice two bits (omega arith) bits_small) ∙ are c;
+        control_is = mxcsr_same three two (omega arith) (omega arith) (λ k low high. outer k (within_below 512 8 k (omega arith))) ∙ mxcsr_splice cleared control (omega arith) small;
+        zero_is = λ on k low. outer (160 + k) (within_below 512 8 (160 + k) (omega arith)) ∙ middle (160 + k) (within_above 24 8 (160 + k) (omega arith)) ∙ cleared_zero on k low;
+        others = λ k c_off b_off a_off. outer k b_off ∙ middle k c_off ∙ cleared_other k a_off;
+      }

@@ -1,0 +1,172 @@
+-- Which components an area has room for, and the set of those that are copied.
+use Rattle.std.proofs.Common.{◌≡◌, ◌⊎◌, ℕ, ◌+◌, ◌<◌, ◌≤◌, ◌==◌, ◌&&◌, ◌||◌, Bool, true, false, true≢false, not, nat_le, List, length, get_or, Some, None, Option, refl, sym, ap, subst, ◌∙◌, arith, inl, inr}
+use Rattle.std.proofs.lemmas.Bool.{cases_Bool, cases_eq, cases_lt, or_cases, eq-eqb, ne_eqb, eqb-true, le-leb}
+use Rattle.std.proofs.lemmas.Nat.Bits.{bit_at_set_same, bit_at_set_other}
+use Rattle.std.proofs.lemmas.Bool.Decides.{nat_tests}
+use Rattle.std.proofs.lemmas.List.{get_or_default}
+use Rattle.std.specs.Prelude.{bit_or, ◌*◌, ◌%◌, ◌^◌}
+use Rattle.xs_base.proofs.SetLemmas.{has_none}
+use Rattle.std.specs.Int.{bit_at, w64}
+use Rattle.xs_base.specs.declared.component.Row.{Row}
+use Rattle.xs_base.specs.Area.{has_room, ends_inside}
+use Rattle.xs_base.specs.Compact.{is_compacted, place, has_place}
+use Rattle.xs_base.specs.Header.{xcomp_bv}
+use Rattle.xs_base.specs.Layout.{IsLayout, IsRowOf, has_row, row_of}
+use Rattle.xs_base.specs.Sets.{has}
+use Rattle.xs_base.proofs.LayoutLemmas.{has_row_at, sound_at}
+use Rattle.xs_base.proofs.PlaceLemmas.{place_legacy}
+use Rattle.xs_base.proofs.RowLemmas.{row_of_at, row_of_tells, row_found, has_sse}
+use Rattle.xs_area.specs.Copy.{is_copied}
+use Rattle.xs_area.specs.declared.cursor.Cursor.{Cursor}
+use Rattle.xs_area.proofs.CursorLemmas.{IsBefore, passed, before_place, before_next}
+use Rattle.xs_area.specs.Cursor.{place_after}
+
+-- ---- room
+
+-- whether there is room for a row's component
+pub room_at : (rows : List Row) → IsLayout rows → (area : List ℕ) (i : ℕ) (r : Row) → i < length rows → r ≡ get_or rows i r → has_room rows area r.comp.0 ≡ ((not (is_compacted (xcomp_bv area)) || has (xcomp_bv area) r.comp.0) && nat_le (place rows (xcomp_bv area) r + r.size) (length area))
+room_at rows table area i r lt is =
+    ap (λ b. b && (not (is_compacted (xcomp_bv area)) || has (xcomp_bv area) r.comp.0) && ends_inside rows area (row_of rows r.comp.0)) (has_row_at rows i r lt is)
+    ∙ ap (λ o. (not (is_compacted (xcomp_bv area)) || has (xcomp_bv area) r.comp.0) && ends_inside rows area o) (row_of_at rows table i r lt is)
+
+-- what room tells
+pub record HasRoom (rows : List Row) (area : List ℕ) (c : ℕ) : Type 0 where
+  pub placed : has_place rows (xcomp_bv area) c ≡ true
+  pub row : Row
+  pub is_row : IsRowOf rows c row
+  pub fits : place rows (xcomp_bv area) row + row.size ≤ length area
+
+pub room_tells : (rows : List Row) → IsLayout rows → (area : List ℕ) (c : ℕ) → has_room rows area c ≡ true → HasRoom rows area c
+room_tells rows table area c h =
+    let parts = both (has_place rows (xcomp_bv area) c) (ends_inside rows area (row_of rows c)) h in
+    let own = first (has_row rows c) (not (is_compacted (xcomp_bv area)) || has (xcomp_bv area) c) parts.0 in
+    let found = row_found rows c own in
+    let inside : nat_le (place rows (xcomp_bv area) found.0 + found.0.size) (length area) ≡ true = ap (ends_inside rows area) (sym found.1) ∙ parts.1 in
+    record { placed = parts.0; row = found.0; is_row = row_of_tells rows c found.0 found.1; fits = grind (arith, nat_tests) }
+  where
+    both : (a b : Bool) → (a && b) ≡ true → (a ≡ true) × (b ≡ true)
+    both true true h = (refl, refl)
+    both true false h = absurd (true≢false (sym h))
+    both false b h = absurd (true≢false (sym h))
+
+    first : (a b : Bool) → (a && b) ≡ true → a ≡ true
+    first true b h = refl
+    first false b h = absurd (true≢false (sym h))
+
+-- room for a row's component
+pub room_row : (rows : List Row) → IsLayout rows → (area : List ℕ) (i : ℕ) (r : Row) → i < length rows → r ≡ get_or rows i r → has_room rows area r.comp.0 ≡ true → place rows (xcomp_bv area) r + r.size ≤ length area
+room_row rows table area i r lt is h =
+    second (not (is_compacted (xcomp_bv area)) || has (xcomp_bv area) r.comp.0) (place rows (xcomp_bv area) r + r.size) (length area) (sym (room_at rows table area i r lt is) ∙ h)
+  where
+    second : (a : Bool) (m n : ℕ) → (a && nat_le m n) ≡ true → m ≤ n
+    second true m n h = grind (arith, nat_tests)
+    second false m n h = absurd (true≢false (sym h))
+
+-- SSE has room where it has a place: it stands in the legacy region.
+pub room_sse : (rows : List Row) → IsLayout rows → (area : List ℕ) → 576 ≤ length area → has_room rows area 1 ≡ (not (is_compacted (xcomp_bv area)) || has (xcomp_bv area) 1)
+room_sse rows table area long =
+    let found = row_found rows 1 (has_sse rows table) in
+    let row = found.0 in
+    let tells = row_of_tells rows 1 row found.1 in
+    let stands = (sound_at rows table tells.index row tells.within tells.is).sse tells.number in
+    let at = place_legacy rows (xcomp_bv area) row (omega (arith, tells.number)) in
+    let inside : nat_le (place rows (xcomp_bv area) row + row.size) (length area) ≡ true = le-leb _ _ (omega (arith, at, stands.0, stands.1)) in
+    ap (λ b. b && (not (is_compacted (xcomp_bv area)) || has (xcomp_bv area) 1) && ends_inside rows area (row_of rows 1)) (has_sse rows table)
+    ∙ ap (λ o. (not (is_compacted (xcomp_bv area)) || has (xcomp_bv area) 1) && ends_inside rows area o) found.1
+    ∙ ap (λ b. (not (is_compacted (xcomp_bv area)) || has (xcomp_bv area) 1) && b) inside
+    ∙ and_true (not (is_compacted (xcomp_bv area)) || has (xcomp_bv area) 1)
+  where
+    and_true : (b : Bool) → (b && true) ≡ b
+    and_true true = refl
+    and_true false = refl
+
+-- ---- sets
+
+-- one component more
+pub has_more : (set c d : ℕ) → c < 64 → has (bit_or set (1 * 2 ^ c % 2 ^ 64)) d ≡ (has set d || (d == c))
+has_more set c d small = elim (cases_eq d c) [
+  | inl same ↦ rw (same, bit_at_set_same w64 set c small) (sym (ap (λ b. has set c || b) (eq-eqb c c refl) ∙ or_true (has set c)))
+  | inr other ↦ ap (λ n. n == 1) (bit_at_set_other w64 set c small d other) ∙ sym (ap (λ b. has set d || b) (ne_eqb d c other) ∙ or_false (has set d))
+]
+  where
+    or_true : (b : Bool) → (b || true) ≡ true
+    or_true true = refl
+    or_true false = refl
+
+    or_false : (b : Bool) → (b || false) ≡ b
+    or_false true = refl
+    or_false false = refl
+
+-- The set has the components that are copied, of the rows before i.
+pub record AreChosen (rows : List Row) (area : List ℕ) (set i : ℕ) (cursor : Cursor) (copied : ℕ) : Type 0 where
+  pub before : IsBefore rows (xcomp_bv area) i cursor
+  pub sound : (c : ℕ) → has copied c ≡ true → is_copied rows area set c ≡ true
+  pub whole : (j : ℕ) (r : Row) → j < i → j < length rows → r ≡ get_or rows j r → is_copied rows area set r.comp.0 ≡ true → has copied r.comp.0 ≡ true
+
+-- what the test of a row answers
+pub chosen_row : (rows : List Row) → IsLayout rows → (area : List ℕ) (set i : ℕ) (cursor : Cursor) (r : Row) (at : ℕ) (wanted : Bool) → i < length rows → r ≡ get_or rows i r → IsBefore rows (xcomp_bv area) i cursor → at ≡ place_after cursor.names.0 cursor.end r → wanted ≡ (has set r.comp.0 && not (r.comp.0 == 9) && ((not (is_compacted (xcomp_bv area)) || has (xcomp_bv area) r.comp.0) && nat_le (at + r.size) (length area))) → wanted ≡ is_copied rows area set r.comp.0
+chosen_row rows table area set i cursor r at wanted lt is before at_is test =
+    let placed = at_is ∙ before_place rows table (xcomp_bv area) i cursor r lt is before in
+    test
+    ∙ ap (λ p. has set r.comp.0 && not (r.comp.0 == 9) && ((not (is_compacted (xcomp_bv area)) || has (xcomp_bv area) r.comp.0) && nat_le (p + r.size) (length area))) placed
+    ∙ ap (λ b. has set r.comp.0 && not (r.comp.0 == 9) && b) (sym (room_at rows table area i r lt is))
+
+-- one row more
+pub chosen_more : (rows : List Row) → IsLayout rows → (area : List ℕ) (set i : ℕ) (cursor : Cursor) (copied more : ℕ) (r : Row) (wanted : Bool) → i < length rows → r ≡ get_or rows i r → AreChosen rows area set i cursor copied → wanted ≡ is_copied rows area set r.comp.0 → ((c : ℕ) → has more c ≡ (has copied c || ((c == r.comp.0) && wanted))) → AreChosen rows area set (i + 1) (passed cursor r) more
+chosen_more rows table area set i cursor copied more r wanted lt is at wants bits = record {
+  before = before_next rows table (xcomp_bv area) i cursor r lt is at.before;
+  sound = λ c h. sound c (or_cases (has copied c) ((c == r.comp.0) && wanted) (sym (bits c) ∙ h));
+  whole = λ j s later within it chosen. bits s.comp.0 ∙ whole j s within it chosen (cases_lt j i) later;
+}
+  where
+    both : (a b : Bool) → (a && b) ≡ true → (a ≡ true) × (b ≡ true)
+    both true true h = (refl, refl)
+    both true false h = absurd (true≢false (sym h))
+    both false b h = absurd (true≢false (sym h))
+
+    or_left : (a b : Bool) → a ≡ true → (a || b) ≡ true
+    or_left true b h = refl
+    or_left false b h = absurd (true≢false (sym h))
+
+    or_right : (a b : Bool) → b ≡ true → (a || b) ≡ true
+    or_right true b h = refl
+    or_right false b h = h
+
+    sound : (c : ℕ) → (has copied c ≡ true) ⊎ (((c == r.comp.0) && wanted) ≡ true) → is_copied rows area set c ≡ true
+    sound c (inl old) = at.sound c old
+    sound c (inr new) =
+        let parts = both (c == r.comp.0) wanted new in
+        ap (is_copied rows area set) (eqb-true c r.comp.0 parts.0) ∙ sym wants ∙ parts.1
+
+    whole : (j : ℕ) (s : Row) → j < length rows → s ≡ get_or rows j s → is_copied rows area set s.comp.0 ≡ true → (j < i) ⊎ (i ≤ j) → j < i + 1 → (has copied s.comp.0 || ((s.comp.0 == r.comp.0) && wanted)) ≡ true
+    whole j s within it chosen (inl before) later = or_left (has copied s.comp.0) _ (at.whole j s before within it chosen)
+    whole j s within it chosen (inr after) later =
+        let one : j ≡ i = omega arith in
+        let same : s ≡ r = it ∙ ap (λ n. get_or rows n s) one ∙ get_or_default rows i s r lt ∙ sym is in
+        let number : s.comp.0 ≡ r.comp.0 = ap (λ (x : Row). x.comp.0) same in
+        let want : wanted ≡ true = wants ∙ ap (is_copied rows area set) (sym number) ∙ chosen in
+        or_right (has copied s.comp.0) _ (ap (λ b. b && wanted) (eq-eqb s.comp.0 r.comp.0 number) ∙ want)
+
+-- before the first row
+pub chosen_first : (rows : List Row) (area : List ℕ) (set : ℕ) (cursor : Cursor) → IsBefore rows (xcomp_bv area) 0 cursor → AreChosen rows area set 0 cursor 0
+chosen_first rows area set cursor at = record { before = at; sound = λ c h. absurd (true≢false (sym h ∙ has_none c)); whole = λ j r none within it chosen. absurd (omega arith) }
+
+-- every row
+pub chosen_all : (rows : List Row) → IsLayout rows → (area : List ℕ) (set i : ℕ) (cursor : Cursor) (copied : ℕ) → length rows ≤ i → AreChosen rows area set i cursor copied → (c : ℕ) → has copied c ≡ is_copied rows area set c
+chosen_all rows table area set i cursor copied past at c = here (cases_Bool (has copied c)) (cases_Bool (is_copied rows area set c))
+  where
+    second : (a b c : Bool) → (a && b && c) ≡ true → c ≡ true
+    second true true true h = refl
+    second true true false h = h
+    second true false c h = absurd (true≢false (sym h))
+    second false b c h = absurd (true≢false (sym h))
+
+    here : (has copied c ≡ true) ⊎ (has copied c ≡ false) → (is_copied rows area set c ≡ true) ⊎ (is_copied rows area set c ≡ false) → has copied c ≡ is_copied rows area set c
+    here (inl bit) b = bit ∙ sym (at.sound c bit)
+    here (inr no_bit) (inr not_wanted) = no_bit ∙ sym not_wanted
+    here (inr no_bit) (inl wanted) =
+        let room = room_tells rows table area c (second (has set c) (not (c == 9)) (has_room rows area c) wanted) in
+        let row = room.is_row in
+        let chosen : is_copied rows area set room.row.comp.0 ≡ true = ap (is_copied rows area set) row.number ∙ wanted in
+        let bit = at.whole row.index room.row (omega (arith, row.within)) row.within row.is chosen in
+        absurd (true≢false (sym bit ∙ ap (has copied) row.number ∙ no_bit))
