@@ -8,10 +8,12 @@ use Rattle.xs_base.specs.declared.component.Features.{Features}
 use Rattle.xs_base.specs.Sets.{has}
 use Rattle.xs_base.specs.Compact.{is_compacted, place, has_place}
 use Rattle.xs_base.specs.Header.{xstate_bv, xcomp_bv}
-use Rattle.xs_base.specs.Layout.{IsLayout, has_row, features}
-use Rattle.xs_base.specs.Area.{control_in}
+use Rattle.xs_base.specs.Layout.{IsLayout, has_row, row_of, features}
+use Rattle.xs_base.specs.Area.{control_in, ends_inside, has_room}
 use Rattle.xs_base.proofs.AreaLemmas.{row_of_place, some_file}
-use Rattle.xs_base.proofs.LayoutLemmas.{row_found, has_features}
+use Rattle.xs_base.proofs.LayoutLemmas.{has_features}
+use Rattle.xs_base.proofs.LayoutLemmas as layouts
+use Rattle.xs_base.proofs.RowLemmas.{row_found, row_of_tells}
 use Rattle.xs_base.proofs.SetLemmas.{within_set, set_within}
 use Rattle.xs_area.specs.declared.cursor.Cursor.{Cursor}
 use Rattle.xs_area.specs.Cursor.{place_after}
@@ -71,7 +73,7 @@ file_held rows area table long control known all = record {
     placed : (c : ℕ) → has (xstate_bv area) c ≡ true → has_place rows (xcomp_bv area) c ≡ true
     placed c named =
         let there : has_row rows c ≡ true = sym (has_features rows table c) ∙ within_set (xstate_bv area) (features rows) (eqb-true _ _ known) c named in
-        let found = row_found rows c there in
+        let found = layouts.row_found rows c there in
         let row : slice_get rows found.1.index ≡ Some found.0 = slice_get_read rows (length rows) found.1.index found.0 refl found.1.within found.1.is in
         let held = all found.1.index found.0 row (rw found.1.number named) in
         and_from (has_row rows c) (not (is_compacted (xcomp_bv area)) || has (xcomp_bv area) c) there (rw found.1.number at (row_parts area found.0 (place rows (xcomp_bv area) found.0) held).0)
@@ -87,3 +89,13 @@ file_rows rows area held i r row named =
     let at = place rows (xcomp_bv area) r in
     let named_is = (and_parts (has_row rows r.comp.0) (not (is_compacted (xcomp_bv area)) || has (xcomp_bv area) r.comp.0) (held.stands.2.placed r.comp.0 named)).1 in
     and_from (not (is_compacted (xcomp_bv area)) || has (xcomp_bv area) r.comp.0) (nat_le (at + r.size) (length area)) named_is (le-leb (at + r.size) (length area) (held.places i r row named))
+
+-- It has room for each component that it names.
+pub file_room : (rows : List Row) (area : List ℕ) → HoldsFile rows area → (c : ℕ) → has (xstate_bv area) c ≡ true → has_room rows area c ≡ true
+file_room rows area held c named =
+    let placed = held.stands.2.placed c named in
+    let found = row_found rows c (row_of_place rows (xcomp_bv area) c placed) in
+    let tells = row_of_tells rows c found.0 found.1 in
+    let row : slice_get rows tells.index ≡ Some found.0 = slice_get_read rows (length rows) tells.index found.0 refl tells.within tells.is in
+    let inside : ends_inside rows area (Some found.0) ≡ true = le-leb (place rows (xcomp_bv area) found.0 + found.0.size) (length area) (held.places tells.index found.0 row (rw tells.number named)) in
+    and_from (has_place rows (xcomp_bv area) c) (ends_inside rows area (row_of rows c)) placed (rw found.1 inside)

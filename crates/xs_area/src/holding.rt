@@ -1,6 +1,9 @@
 //! Whether an area from elsewhere can be read.
 
-ghost use Rattle.std.specs.Prelude.{◌≡◌, ◌≤◌, ◌<◌, ◌^◌, ◌↔◌, length, IsTrue, bit_and, ◌==◌};
+ghost use Rattle.std.specs.Prelude.{◌≡◌, ℕ, ◌≤◌, ◌<◌, ◌^◌, ◌↔◌, true, length, IsTrue, bit_and, ◌==◌};
+ghost use Rattle.xs_base.specs.Area.{has_room};
+ghost use Rattle.xs_base.specs.Header as header;
+ghost use Rattle.xs_base.specs.Sets.{has};
 ghost use Rattle.xs_base.specs.Layout.{IsLayout, features};
 ghost use Rattle.xs_area.specs.Holding.{HoldsFile, HoldsRows, holds_row};
 
@@ -13,7 +16,8 @@ use xs_layout::Layout;
 /// XCOMP_BV, and the area has the bytes of each such place. Then it stands for a file of the machine (SDM volume 1,
 /// 13.4.2 and 13.4.3).
 pub fn stands(layout: &Layout, area: &Area) -> bool
-    ensures { IsTrue result ↔ HoldsFile layout.now area.now.bytes.items }
+    ensures holds { IsTrue result ↔ HoldsFile layout.now area.now.bytes.items }
+    ensures room { IsTrue result → (c : ℕ) → has (header.xstate_bv area.now.bytes.items) c ≡ true → has_room layout.now area.now.bytes.items c ≡ true }
 {
     let bytes = area.bytes.as_slice();
     if bytes.len() < 576 {
