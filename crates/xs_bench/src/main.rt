@@ -6,6 +6,8 @@ mod command;
 mod inputs;
 mod repeats;
 mod table;
+#[cfg(test)]
+mod tests;
 
 use crate::command::{Command, parse};
 use crate::repeats::repeat;
