@@ -7,3 +7,4 @@ pub mod CopyLemmas
 pub mod TakeLemmas
 pub mod StandLemmas
 pub mod FixtureLemmas
+pub mod HoldingLemmas

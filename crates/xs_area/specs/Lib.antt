@@ -2,3 +2,4 @@
 pub mod Cursor
 pub mod Held
 pub mod Copy
+pub mod Holding

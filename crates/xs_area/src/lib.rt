@@ -10,6 +10,9 @@ mod copies;
 mod cursor;
 #[cfg(test)]
 mod fixtures;
+mod holding;
+#[cfg(test)]
+mod holding_tests;
 mod standard;
 #[cfg(test)]
 mod tests;
@@ -17,5 +20,6 @@ mod tests;
 pub use area::{Area, Class, Lease, mxcsr, xcomp_bv, xstate_bv};
 pub use check::read_standard;
 pub use copies::{compact_of, copy_area};
+pub use holding::stands;
 pub use standard::standard_of;
 pub use xs_base::{HeaderError, Origin, Parts};

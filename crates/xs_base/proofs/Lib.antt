@@ -12,3 +12,4 @@ pub mod StandardLemmas
 pub mod FileLemmas
 pub mod Registers
 pub mod WorkedValues
+pub mod AreaLemmas

@@ -6,7 +6,7 @@ use Rattle.std.proofs.lemmas.Nat.{shr_split}
 use Rattle.std.proofs.Math.Nat.{suc-mul}
 use Rattle.std.proofs.Math.Nat.{mod-lt}
 use Rattle.std.proofs.lemmas.Nat.{pow_pos}
-use Rattle.std.proofs.lemmas.Bool.{cases_eq, cases_lt, ne_eqb, eqb-true}
+use Rattle.std.proofs.lemmas.Bool.{cases_eq, cases_lt, ne_eqb, eqb-true, and_parts}
 use Rattle.std.proofs.lemmas.Bool.Decides.{nat_tests}
 use Rattle.std.proofs.lemmas.Nat.Bits.{bit_at_above, bit_at_and, bit_at-zero, bit_at-lt, same_from_bits, bit_at-suc, bit_at_cat_low, bit_at_cat_high, bit_at_set_same, bit_at_set_other, bit_at_clear_same, bit_at_clear_other}
 use Rattle.xs_base.specs.Sets.{has}
@@ -122,3 +122,24 @@ has_without set k c lt fits = here (cases_eq c k) (cases_lt c 64)
     here (inl e) within = rw (e, bit_at_clear_same w64 set k lt) (grind (arith, nat_tests))
     here (inr ne) (inl within) = rw (bit_at_clear_other w64 set k lt c within ne) (grind (arith, nat_tests))
     here (inr ne) (inr above) = rw (bit_at_and set (bit_not w64 (1 * 2 ^ k % 2 ^ 64)) c, bit_at_above set 64 c fits above) (grind (arith, nat_tests))
+
+-- ---- a set within another
+
+-- what both sets have
+pub has_and : (a b c : ℕ) → has (bit_and a b) c ≡ (has a c && has b c)
+has_and a b c =
+    let x = bit_at-lt a c in
+    let y = bit_at-lt b c in
+    rw (bit_at_and a b c) (grind (arith, nat_tests))
+
+-- each bit of a set within another is in the other
+pub within_set : (a b : ℕ) → bit_and a b ≡ a → (c : ℕ) → has a c ≡ true → has b c ≡ true
+within_set a b same c named = (and_parts (has a c) (has b c) (sym (has_and a b c) ∙ ap (λ s. has s c) same ∙ named)).1
+
+-- and a set is within another that has each of its bits
+pub set_within : (a b : ℕ) → ((c : ℕ) → has a c ≡ true → has b c ≡ true) → bit_and a b ≡ a
+set_within a b all = same_set (bit_and a b) a (λ c. has_and a b c ∙ one (has a c) (has b c) (all c))
+  where
+    one : (x y : Bool) → (x ≡ true → y ≡ true) → (x && y) ≡ x
+    one true y h = h refl
+    one false y h = refl

@@ -1,0 +1,64 @@
+//! Whether an area from elsewhere can be read.
+
+ghost use Rattle.std.specs.Prelude.{◌≡◌, ℕ, ◌≤◌, ◌<◌, ◌^◌, ◌↔◌, true, length, IsTrue, bit_and, ◌==◌};
+ghost use Rattle.xs_base.specs.Area.{has_room};
+ghost use Rattle.xs_base.specs.Header as header;
+ghost use Rattle.xs_base.specs.Sets.{has};
+ghost use Rattle.xs_base.specs.Layout.{IsLayout, features};
+ghost use Rattle.xs_area.specs.Holding.{HoldsFile, HoldsRows, holds_row};
+
+use crate::area::{Area, xcomp_bv, xstate_bv};
+use crate::cursor::Cursor;
+use xs_base::{Comp, Features, Row};
+use xs_layout::Layout;
+
+/// Whether the area can be read: it has at least 576 bytes, each component whose bit in XSTATE_BV is 1 has a place by
+/// XCOMP_BV, and the area has the bytes of each such place. Then it stands for a file of the machine (SDM volume 1,
+/// 13.4.2 and 13.4.3).
+pub fn stands(layout: &Layout, area: &Area) -> bool
+    ensures holds { IsTrue result ↔ HoldsFile layout.now area.now.bytes.items }
+    ensures room { IsTrue result → (c : ℕ) → has (header.xstate_bv area.now.bytes.items) c ≡ true → has_room layout.now area.now.bytes.items c ≡ true }
+{
+    let bytes = area.bytes.as_slice();
+    if bytes.len() < 576 {
+        return false;
+    }
+    if !is_known(layout, xstate_bv(bytes)) {
+        return false;
+    }
+    holds_rows(layout, bytes)
+}
+
+/// Whether the machine has each component of the set.
+fn is_known(layout: &Layout, bits: u64) -> bool
+    ensures { result ≡ (bit_and bits (features layout.now) == bits) }
+{
+    bits & layout.features().0 == bits
+}
+
+/// Whether the area has the place of each component of the machine whose bit in XSTATE_BV is 1.
+fn holds_rows(layout: &Layout, bytes: &[u8]) -> bool
+    requires { 576 ≤ length bytes.now }
+    ensures rows { IsTrue result ↔ HoldsRows layout.now bytes.now }
+    ensures layout { IsLayout layout.now }
+{
+    let bits = Features(xstate_bv(bytes));
+    let names = Features(xcomp_bv(bytes));
+    let mut cursor = Cursor::new(names);
+    'each: for i in 0..layout.len() {
+        let row = layout.row_at(i);
+        let at = cursor.pass(row);
+        if bits.has(row.comp) && !holds_row(names, row, at, bytes.len()) {
+            return false;
+        }
+    }
+    true
+}
+
+/// Whether the row's component has a place by the XCOMP_BV `names`, which from byte `at` on is within `len` bytes.
+fn holds_row(names: Features, row: Row, at: usize, len: usize) -> bool
+    requires { at < 2 ^ 33 }
+    ensures { result ≡ holds_row names.0 row at len }
+{
+    (!names.has(Comp(63)) || names.has(row.comp)) && at + row.size as usize <= len
+}
