@@ -1,5 +1,5 @@
 -- The answers to inputs.
-use Rattle.std.proofs.Common.{◌≡◌, ℕ, ◌<◌, false, List, [], ◌∷◌, length, refl, sym, subst, inl, inr, arith}
+use Rattle.std.proofs.Common.{◌≡◌, ℕ, false, List, [], ◌∷◌, refl, sym, subst, inl, inr}
 use Rattle.std.specs.Prelude.{Option}
 use Rattle.xs_model.specs.declared.script.Script.{Script}
 use Rattle.xs_model.specs.declared.event.Event.{Event}
@@ -8,9 +8,8 @@ use Rattle.xs_model.specs.Machine.{Machine}
 use Rattle.xs_model.specs.History.{Run, IsWhole, has_kill}
 use Rattle.xstate.specs.declared.status.Status.{Status}
 use Rattle.xstate.specs.declared.status.Status.TheVariants as statuses
-use Rattle.xstate.specs.Grammar.{Spells}
 use Rattle.xstate.specs.Text.{history_text, AreTasksKnown}
-use Rattle.xstate.specs.Answers.{IsAccepted, IsRefused, RunsTo, AnswerEnds, TellEnds, WriteEnds, limit}
+use Rattle.xstate.specs.Answers.{IsAccepted, IsRefused, RunsTo, AnswerEnds, TellEnds, WriteEnds}
 use Rattle.xstate.proofs.LegalTasks.{legal_tasks}
 
 -- no task is killed in a run

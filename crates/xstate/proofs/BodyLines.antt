@@ -1,8 +1,7 @@
 -- One line more of the blocks.
-use Rattle.std.proofs.Common.{◌≡◌, ℕ, ◌+◌, ◌<◌, ◌≤◌, Bool, true, false, ◌||◌, nat_le, List, [], ◌∷◌, ◌++◌, length, map, Option, Some, None, Result, Ok, Err, refl, sym, ◌∙◌, ap, subst, arith, length-append}
+use Rattle.std.proofs.Common.{◌≡◌, ℕ, ◌+◌, ◌<◌, Bool, true, false, ◌||◌, nat_le, List, [], ◌∷◌, ◌++◌, length, Option, Some, None, Ok, Err, refl, sym, ◌∙◌, ap, subst, arith, length-append}
 use Rattle.std.proofs.lemmas.Bool.{lt-leb}
 use Rattle.std.proofs.lemmas.List.{append_assoc, append-nil, map-append, length-map}
-use Rattle.std.proofs.lemmas.List.Concat.{flat_map-append}
 use Rattle.std.proofs.lemmas.Slice.Eq.{bytes_eq-Decides}
 use Rattle.std.specs.List.{AllByRecursion, flat_map, list_any}
 use Rattle.std.specs.Option.{is_some}
@@ -14,17 +13,15 @@ use Rattle.xs_model.specs.Script.{AreDistinct, AreNumbered, AreBlocksNumbered}
 use Rattle.xstate.specs.declared.line.Line.{Line}
 use Rattle.xstate.specs.declared.line.Line.TheVariants as lines
 use Rattle.xstate.specs.declared.body.Body.{Body}
-use Rattle.xstate.specs.declared.refusal.Kind.{Kind}
-use Rattle.xstate.specs.declared.refusal.Kind.TheVariants.{BadLine, Limit, Repeated}
-use Rattle.xstate.specs.declared.refusal.LimitName.TheVariants as limits
+use Rattle.xstate.specs.declared.refusal.Kind.TheVariants.{BadLine, Repeated}
 use Rattle.xstate.specs.declared.refusal.ScriptError.{ScriptError}
 use Rattle.xstate.specs.declared.refusal.ScriptError.TheVariants as errors
 use Rattle.xstate.specs.Grammar.{order_lines, block_lines}
-use Rattle.xstate.specs.LineOrder.{Stand, AtBlock, InBlock, next, may_end, after_task}
-use Rattle.xstate.specs.Refusal.{LineFails, Early, table_fault, Fails, Here}
+use Rattle.xstate.specs.LineOrder.{AtBlock, InBlock, next, may_end}
+use Rattle.xstate.specs.Refusal.{Early, table_fault, Fails, Here}
 use Rattle.xstate.specs.ScriptLine.{kept_line}
-use Rattle.xstate.specs.Front.{IsFront, IsKeptFront, IsNext, ExplainsLine, ExplainsNext}
-use Rattle.xstate.specs.Body.{names_of, with_begun, blocks_of, begun_stand, body_stand, begun_lines, lines_of_body, AreBlocks, TakesLine, ReadsLine, AreBlocksOf}
+use Rattle.xstate.specs.Front.{IsKeptFront, IsNext, ExplainsLine, ExplainsNext}
+use Rattle.xstate.specs.Body.{names_of, blocks_of, begun_stand, body_stand, begun_lines, lines_of_body, AreBlocks, TakesLine, ReadsLine, AreBlocksOf}
 use Rattle.xstate.proofs.Fronts.{front_push}
 use Rattle.xstate.proofs.KeptOrder.{kept_next}
 use Rattle.xstate.proofs.HeadSteps.{next_fails}

@@ -1,9 +1,9 @@
 -- The registers that are built, and the commands that name them.
-use Rattle.std.proofs.Common.{◌≡◌, ℕ, ◌+◌, ◌<◌, ◌≤◌, true, List, length, refl, sym, ap, ◌∙◌, subst, arith}
+use Rattle.std.proofs.Common.{◌≡◌, ℕ, ◌+◌, ◌<◌, ◌≤◌, true, List, length, refl, ap, ◌∙◌, subst, arith}
 use Rattle.xs_base.specs.declared.component.Row.{Row}
 use Rattle.xs_base.specs.declared.component.Place.{Place}
 use Rattle.xs_base.specs.Component.{sizes, component_size}
-use Rattle.xs_base.specs.Register.{IsNamed, IsRegister}
+use Rattle.xs_base.specs.Register.{IsRegister}
 use Rattle.xs_base.proofs.Registers.{one_place, place_within}
 use Rattle.xs_model.specs.declared.script.Command.{Command}
 use Rattle.xs_model.specs.declared.script.Command.TheVariants as commands
@@ -12,7 +12,6 @@ use Rattle.xs_model.specs.declared.script.Order.{Order}
 use Rattle.xs_model.specs.declared.script.Block.{Block}
 use Rattle.xs_model.specs.declared.script.Script.{Script}
 use Rattle.xs_model.specs.Script.{IsBuilt}
-use Rattle.std.specs.Prelude.{slice_get, Some}
 use Rattle.std.specs.List.{AllByRecursion}
 use Rattle.xstate.proofs.TaskLemmas.{built_sse, built_apart}
 use Rattle.xstate.proofs.TurnLemmas.{AllByRecursion-at, body_found}

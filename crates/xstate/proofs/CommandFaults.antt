@@ -1,11 +1,10 @@
 -- What is wrong with a command, and with what is kept of it.
-use Rattle.std.proofs.Common.{◌≡◌, ℕ, ◌<◌, ◌≤◌, true, false, List, length, refl, sym, ◌∙◌, arith}
+use Rattle.std.proofs.Common.{List}
 use Rattle.xs_base.specs.declared.component.Row.{Row}
 use Rattle.xs_model.specs.declared.script.Command.{Command}
 use Rattle.xs_model.specs.Script.{register_of}
 use Rattle.xstate.specs.declared.refusal.Kind.{Kind}
-use Rattle.xstate.specs.declared.refusal.Kind.TheVariants.{NotBuilt, UnknownName}
-use Rattle.xstate.specs.Refusal.{CommandFails, Unknown, Unbuilt, Length}
+use Rattle.xstate.specs.Refusal.{CommandFails, Unknown, Unbuilt}
 use Rattle.xstate.specs.Commands.{RegisterFails, NoRegister, Unready}
 
 -- A command fails by its register.

@@ -1,19 +1,18 @@
 -- The front of a text: its lines so far, and one line more.
-use Rattle.std.proofs.Common.{◌≡◌, ℕ, ◌+◌, Bool, true, false, List, [], ◌∷◌, ◌++◌, length, map, Option, Some, None, Ok, Err, refl, sym, ◌∙◌, ap, subst, arith, length-append}
-use Rattle.std.proofs.lemmas.List.{append_assoc, append-nil, map-append}
+use Rattle.std.proofs.Common.{◌≡◌, ℕ, ◌+◌, false, List, [], ◌∷◌, ◌++◌, length, Ok, refl, sym, ◌∙◌, ap, subst, arith, length-append}
+use Rattle.std.proofs.lemmas.List.{append_assoc}
 use Rattle.std.proofs.lemmas.List.Concat.{flat_map-append}
 use Rattle.std.specs.List.{AllByRecursion}
-use Rattle.xs_base.specs.declared.layout_error.LayoutError.{LayoutError}
 use Rattle.xstate.specs.declared.line.Line.{Line}
 use Rattle.xstate.specs.declared.refusal.Kind.{Kind}
-use Rattle.xstate.specs.declared.refusal.Kind.TheVariants.{BadLine, Layout}
-use Rattle.xstate.specs.ScriptLine.{line_text, IsLine, kept_line}
+use Rattle.xstate.specs.declared.refusal.Kind.TheVariants.{BadLine}
+use Rattle.xstate.specs.ScriptLine.{line_text, IsLine}
 use Rattle.xstate.specs.Grammar.{lines_text}
 use Rattle.xstate.specs.LineOrder.{Stand, next, may_end, Leads}
-use Rattle.xstate.specs.Refusal.{AreLines, NoLine, LineFails, Early, Unbuilt, Misspelled, Misplaced, is_unbuilt, table_fault, Fails, Table, Here}
+use Rattle.xstate.specs.Refusal.{NoLine, LineFails, Early, Misspelled, is_unbuilt, Fails}
 use Rattle.xstate.specs.declared.refusal.ScriptError.{ScriptError}
 use Rattle.xstate.specs.declared.refusal.ScriptError.TheVariants as errors
-use Rattle.xstate.specs.Front.{IsFront, IsKeptFront, RefusesFrom, ExplainsFrom, ExplainsLine}
+use Rattle.xstate.specs.Front.{IsFront, RefusesFrom, ExplainsFrom, ExplainsLine}
 
 -- a text's first line, and the text after it
 pub lines_more : (l : Line) (ls : List Line) (rest : List ℕ) → lines_text (l ∷ ls) ++ rest ≡ line_text l ++ 10 ∷ (lines_text ls ++ rest)

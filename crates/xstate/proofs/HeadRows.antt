@@ -1,15 +1,14 @@
 -- The rows of a script's machine, one after another, and the table that they are.
-use Rattle.std.proofs.Common.{◌≡◌, ℕ, suc, ◌+◌, ◌-◌, ◌≤◌, List, [], ◌∷◌, ◌++◌, length, map, Option, Some, None, Ok, Err, refl, sym, ◌∙◌, ap, arith}
+use Rattle.std.proofs.Common.{◌≡◌, ℕ, suc, ◌+◌, ◌-◌, ◌≤◌, List, [], ◌∷◌, ◌++◌, length, Option, Some, None, Ok, Err, refl, ap, arith}
 use Rattle.std.specs.List.{slice_get}
-use Rattle.std.proofs.lemmas.List.{map-append}
 use Rattle.xs_base.specs.declared.component.Row.{Row}
 use Rattle.xs_base.specs.declared.layout_error.LayoutError.{LayoutError}
 use Rattle.xs_base.specs.declared.layout_error.LayoutFault.{LayoutFault}
-use Rattle.xs_base.specs.Layout.{IsLayout, row_error, first_row_fault, fault_or, fault_else, layout_fault, table_error}
+use Rattle.xs_base.specs.Layout.{row_error, first_row_fault, fault_or, layout_fault, table_error}
 use Rattle.xs_base.proofs.LayoutLemmas.{row_fault_none, few_from}
 use Rattle.xstate.specs.declared.refusal.Kind.TheVariants.{Layout}
 use Rattle.xstate.specs.declared.line.Line.TheVariants as lines
-use Rattle.xstate.specs.LineOrder.{AtRow, last_row, after_cpus, after_rows, next}
+use Rattle.xstate.specs.LineOrder.{AtRow, last_row, after_cpus, next}
 
 -- the last row of a list, by its place
 pub last_row_is : (rows : List Row) → slice_get rows (length rows - 1) ≡ last_row rows

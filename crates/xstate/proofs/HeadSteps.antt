@@ -1,18 +1,15 @@
 -- One line more of a head.
-use Rattle.std.proofs.Common.{◌≡◌, ℕ, ◌+◌, false, List, [], ◌∷◌, ◌++◌, length, Some, None, Ok, Err, refl, sym, ◌∙◌, ap, subst, arith, length-append}
-use Rattle.xs_base.specs.declared.layout_error.LayoutError.{LayoutError}
+use Rattle.std.proofs.Common.{◌≡◌, ℕ, ◌+◌, false, List, length, None, Err, refl, sym, ◌∙◌, ap, subst, arith, length-append}
 use Rattle.xs_base.specs.declared.component.Row.{Row}
 use Rattle.xstate.specs.declared.line.Line.{Line}
 use Rattle.xstate.specs.declared.head.Stage.{Stage}
 use Rattle.xstate.specs.declared.head.Stage.TheVariants as stages
 use Rattle.xstate.specs.declared.head.Head.{Head}
 use Rattle.xstate.specs.declared.refusal.Kind.{Kind}
-use Rattle.xstate.specs.declared.refusal.Kind.TheVariants.{Layout}
-use Rattle.xstate.specs.ScriptLine.{line_text, IsLine, kept_line}
 use Rattle.xstate.specs.LineOrder.{Stand, AtVersion, next, may_end}
-use Rattle.xstate.specs.Refusal.{LineFails, Misplaced, is_unbuilt, table_fault, Fails, Table, Here}
+use Rattle.xstate.specs.Refusal.{Misplaced, table_fault, Fails, Here}
 use Rattle.xstate.specs.Front.{IsFront, IsNext}
-use Rattle.xstate.specs.Head.{stage_stand, head_stand, lines_of_head, IsHead, Takes, Steps}
+use Rattle.xstate.specs.Head.{stage_stand, head_stand, lines_of_head, Takes, Steps}
 use Rattle.xstate.proofs.Fronts.{front_push}
 use Rattle.xstate.proofs.KeptOrder.{kept_next, kept_of_head}
 

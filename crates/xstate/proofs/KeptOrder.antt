@@ -1,5 +1,5 @@
 -- What is kept of a line leads where the line leads.
-use Rattle.std.proofs.Common.{◌≡◌, ℕ, ◌++◌, List, [], ◌∷◌, Option, Some, None, Ok, Err, Result, refl, sym, ◌∙◌, ap}
+use Rattle.std.proofs.Common.{◌≡◌, ◌++◌, List, [], ◌∷◌, Option, Some, None, Ok, refl, ◌∙◌, ap}
 use Rattle.xs_base.specs.declared.component.Row.{Row}
 use Rattle.xs_base.specs.declared.layout_error.LayoutError.{LayoutError}
 use Rattle.xs_base.specs.Layout.{row_error}
@@ -7,7 +7,6 @@ use Rattle.xstate.specs.declared.line.Line.{Line}
 use Rattle.xstate.specs.declared.line.Line.TheVariants as lines
 use Rattle.xstate.specs.declared.head.Stage.{Stage}
 use Rattle.xstate.specs.declared.head.Stage.TheVariants as stages
-use Rattle.xstate.specs.declared.refusal.Kind.{Kind}
 use Rattle.xstate.specs.ScriptLine.{kept_line, kept_row}
 use Rattle.xstate.specs.LineOrder.{Stand, AtVersion, AtMachine, AtRow, AtCpus, AtQuantum, AtLarge, AtBlock, InBlock, next, after_row, last_row}
 use Rattle.xstate.specs.Head.{stage_stand}

@@ -1,9 +1,7 @@
 -- The lines of blocks, of which the second pass has what was kept.
-use Rattle.std.proofs.Common.{◌≡◌, ℕ, ◌+◌, ◌<◌, ◌≤◌, true, false, List, [], ◌∷◌, ◌++◌, length, map, refl, sym, ◌∙◌, ap, subst, arith, length-append, inl, inr}
+use Rattle.std.proofs.Common.{◌≡◌, ℕ, ◌+◌, true, List, [], ◌∷◌, ◌++◌, length, map, refl, sym, ◌∙◌, ap, subst, arith, length-append, inl, inr}
 use Rattle.std.specs.List.{AllByRecursion, flat_map}
 use Rattle.std.proofs.lemmas.Bool.{cases_lt}
-use Rattle.std.proofs.lemmas.List.{append_assoc, append-nil, map-append, length-map}
-use Rattle.std.proofs.lemmas.List.Concat.{flat_map-append}
 use Rattle.xs_base.specs.declared.component.Row.{Row}
 use Rattle.xs_base.specs.declared.component.Place.{Place}
 use Rattle.xs_base.specs.Register.{IsRegister}
@@ -12,14 +10,14 @@ use Rattle.xs_model.specs.declared.script.Command.{Command}
 use Rattle.xs_model.specs.declared.script.Command.TheVariants as commands
 use Rattle.xs_model.specs.declared.script.Order.{Order}
 use Rattle.xs_model.specs.declared.script.Block.{Block}
-use Rattle.xs_model.specs.Script.{is_built, is_name, IsCommand, IsBuiltCommand, AreNumbered, AreBlocksNumbered}
+use Rattle.xs_model.specs.Script.{is_name, IsCommand, IsBuiltCommand, AreNumbered, AreBlocksNumbered}
 use Rattle.xstate.specs.declared.line.Line.{Line}
 use Rattle.xstate.specs.declared.line.Line.TheVariants as lines
 use Rattle.xstate.specs.declared.refusal.Kind.{Kind}
 use Rattle.xstate.specs.ScriptLine.{IsLine, IsCommandLine, kept_line, kept_command, kept_bytes}
 use Rattle.xstate.specs.Grammar.{order_lines, block_lines}
-use Rattle.xstate.specs.Refusal.{AreLines, rows_of_line, table_of, IsKnown, IsKnownCommand, CommandFails, Unknown, Unbuilt, Length}
-use Rattle.xstate.specs.Commands.{IsBuiltRegister, PassesCommand, PassesOrders, FirstOrder, FirstBlock}
+use Rattle.xstate.specs.Refusal.{AreLines, IsKnown, IsKnownCommand, CommandFails, Unknown, Unbuilt, Length}
+use Rattle.xstate.specs.Commands.{PassesCommand, PassesOrders}
 use Rattle.xstate.proofs.Kept.{kept_same_bytes, kept_long}
 use Rattle.xstate.proofs.Fronts.{all_join}
 use Rattle.xstate.proofs.BodyLines.{length_block}

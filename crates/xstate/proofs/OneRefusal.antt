@@ -1,6 +1,6 @@
 -- A text has one refusal at most.
-use Rattle.std.proofs.Common.{◌≡◌, ℕ, ◌+◌, ◌<◌, ◌≤◌, Bool, true, false, List, [], ◌∷◌, ◌++◌, length, map, Option, Some, None, Ok, Err, codes, refl, sym, ◌∙◌, ap, subst, arith, length-append}
-use Rattle.std.specs.Prelude.{bytes_eq, if◌then◌else◌}
+use Rattle.std.proofs.Common.{◌≡◌, ℕ, ◌+◌, true, false, List, [], ◌∷◌, ◌++◌, length, Option, Some, None, Ok, codes, refl, sym, ◌∙◌, ap, subst, arith}
+use Rattle.std.specs.Prelude.{bytes_eq}
 use Rattle.std.specs.List.{AllByRecursion}
 use Rattle.std.proofs.lemmas.List.{append-nil}
 use Rattle.xs_base.specs.declared.component.Row.{Row}
@@ -10,11 +10,10 @@ use Rattle.xs_base.specs.Layout.{table_error}
 use Rattle.xs_base.proofs.Registers.{one_place}
 use Rattle.xs_model.specs.declared.script.Command.{Command}
 use Rattle.xs_model.specs.declared.script.Command.TheVariants as commands
-use Rattle.xs_model.specs.Script.{is_built, register_of}
+use Rattle.xs_model.specs.Script.{is_built}
 use Rattle.xstate.specs.declared.line.Line.{Line}
 use Rattle.xstate.specs.declared.line.Line.TheVariants as lines
 use Rattle.xstate.specs.declared.refusal.Kind.{Kind}
-use Rattle.xstate.specs.declared.refusal.Kind.TheVariants.{Layout}
 use Rattle.xstate.specs.ScriptLine.{line_text, IsLine}
 use Rattle.xstate.specs.Grammar.{lines_text}
 use Rattle.xstate.specs.LineOrder.{Stand, AtVersion, AtMachine, AtRow, AtCpus, AtQuantum, AtLarge, AtBlock, InBlock, next, may_end, after_rows, Leads}

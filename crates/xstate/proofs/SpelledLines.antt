@@ -1,15 +1,14 @@
 -- The lines of a script that a text spells.
-use Rattle.std.proofs.Common.{◌≡◌, ℕ, ◌+◌, ◌<◌, ◌≤◌, ◌^◌, Bool, true, false, not, ◌&&◌, ◌||◌, ◌==◌, nat_le, nat_lt, List, [], ◌∷◌, ◌++◌, length, map, Option, Some, None, Result, Ok, Err, refl, sym, ◌∙◌, ap, subst, arith, length-append}
+use Rattle.std.proofs.Common.{◌≡◌, ℕ, ◌+◌, ◌<◌, ◌≤◌, Bool, true, false, ◌&&◌, ◌||◌, ◌==◌, nat_le, nat_lt, List, [], ◌∷◌, ◌++◌, length, map, Option, Some, None, Ok, refl, sym, ◌∙◌, ap, subst, arith, length-append}
 use Rattle.std.specs.Prelude.{bytes_eq}
 use Rattle.std.specs.List.{AllByRecursion, flat_map, list_any, list_all}
-use Rattle.std.proofs.lemmas.Bool.{lt-leb, le-leb, lt-ltb, leb-true, ltb-true, and_parts}
-use Rattle.std.proofs.lemmas.List.{append_assoc, append-nil, append_cancel_left, map-append, length-map}
+use Rattle.std.proofs.lemmas.Bool.{lt-leb, le-leb, lt-ltb}
+use Rattle.std.proofs.lemmas.List.{append_assoc, append-nil, append_cancel_left}
 use Rattle.std.proofs.lemmas.Slice.Eq.{bytes_eq-Decides}
 use Rattle.xs_base.specs.declared.component.Row.{Row}
 use Rattle.xs_base.specs.declared.component.Place.{Place}
-use Rattle.xs_base.specs.Component.{component_count}
-use Rattle.xs_base.specs.Layout.{IsSound, IsLayout, first_row_fault, row_error, table_error, amx_rows, avx_rows}
-use Rattle.xs_base.specs.Register.{IsRegister, IsNamed}
+use Rattle.xs_base.specs.Layout.{IsSound, IsLayout, first_row_fault}
+use Rattle.xs_base.specs.Register.{IsNamed}
 use Rattle.xs_base.proofs.LayoutLemmas.{row_fault_none, layout_parts, passes, passes_sound}
 use Rattle.xs_base.proofs.Registers.{place_length, name_length, name_spelled, is_name_byte}
 use Rattle.xs_model.specs.declared.script.Named.{Named}
@@ -21,14 +20,14 @@ use Rattle.xs_model.specs.declared.script.Command.TheVariants as commands
 use Rattle.xs_model.specs.declared.script.Order.{Order}
 use Rattle.xs_model.specs.declared.script.Block.{Block}
 use Rattle.xs_model.specs.declared.script.Script.{Script}
-use Rattle.xs_model.specs.Script.{IsTableOf, IsValid, IsBuilt, IsCommand, IsBuiltCommand, AreDistinct, AreNumbered, AreBlocksNumbered, is_name, is_letter, is_letter_or_digit}
+use Rattle.xs_model.specs.Script.{IsValid, IsCommand, IsBuiltCommand, AreDistinct, AreNumbered, AreBlocksNumbered, is_name, is_letter}
 use Rattle.xstate.specs.declared.line.Line.{Line}
 use Rattle.xstate.specs.declared.line.Line.TheVariants as lines
 use Rattle.xstate.specs.declared.refusal.Kind.{Kind}
 use Rattle.xstate.specs.ScriptLine.{IsLine, IsCommandLine, is_register_byte, is_register_word}
-use Rattle.xstate.specs.Grammar.{lines_text, order_lines, block_lines, row_lines, head_lines, script_lines, Spells}
-use Rattle.xstate.specs.LineOrder.{Stand, AtVersion, AtMachine, AtRow, AtCpus, AtQuantum, AtLarge, AtBlock, InBlock, next, may_end, last_row, after_machine, Leads}
-use Rattle.xstate.specs.Refusal.{AreLines, Passes, rows_of_line, table_of, IsKnown, CommandFails, RefusesLine, RefusesCommand, Refuses, ByLine, ByCommand}
+use Rattle.xstate.specs.Grammar.{order_lines, block_lines, row_lines, head_lines, script_lines, Spells}
+use Rattle.xstate.specs.LineOrder.{Stand, AtVersion, AtMachine, AtRow, AtCpus, AtQuantum, AtLarge, AtBlock, InBlock, next, last_row, after_machine, Leads}
+use Rattle.xstate.specs.Refusal.{AreLines, Passes, table_of, IsKnown, CommandFails, Refuses, ByLine, ByCommand}
 use Rattle.xstate.specs.Body.{names_of}
 use Rattle.xstate.proofs.HeadRows.{row_leads, rows_over}
 use Rattle.xstate.proofs.Fronts.{all_join, leads_join}

@@ -1,5 +1,5 @@
 -- A script and the lines that it was read from.
-use Rattle.std.proofs.Common.{◌≡◌, ℕ, ◌+◌, ◌<◌, ◌≤◌, Bool, true, false, List, [], ◌∷◌, ◌++◌, length, map, refl, sym, ◌∙◌, ap, subst, arith, length-append}
+use Rattle.std.proofs.Common.{◌≡◌, ℕ, ◌+◌, ◌<◌, true, List, [], ◌∷◌, ◌++◌, length, map, refl, sym, ◌∙◌, ap, subst, arith, length-append}
 use Rattle.std.specs.List.{AllByRecursion, flat_map}
 use Rattle.std.proofs.lemmas.List.{append_assoc, append-nil, map-append, length-map}
 use Rattle.std.proofs.lemmas.List.Concat.{flat_map-append}
@@ -8,30 +8,28 @@ use Rattle.xs_base.specs.Layout.{amx_rows, avx_rows}
 use Rattle.xs_model.specs.declared.script.Named.{Named}
 use Rattle.xs_model.specs.declared.script.Named.TheVariants.{Amx, Avx, Rows}
 use Rattle.xs_model.specs.declared.script.Command.{Command}
-use Rattle.xs_model.specs.declared.script.Command.TheVariants as commands
 use Rattle.xs_model.specs.declared.script.Order.{Order}
 use Rattle.xs_model.specs.declared.script.Block.{Block}
 use Rattle.xs_model.specs.declared.script.Script.{Script}
-use Rattle.xs_model.specs.Script.{IsTableOf, IsValid, IsBuilt, AreBlocksNumbered}
+use Rattle.xs_model.specs.Script.{IsTableOf, AreBlocksNumbered}
 use Rattle.xstate.specs.declared.line.Line.{Line}
 use Rattle.xstate.specs.declared.line.Line.TheVariants as lines
-use Rattle.xstate.specs.declared.head.Stage.{Stage}
 use Rattle.xstate.specs.declared.head.Stage.TheVariants as stages
 use Rattle.xstate.specs.declared.head.Head.{Head}
 use Rattle.xstate.specs.declared.refusal.Kind.{Kind}
 use Rattle.xstate.specs.declared.refusal.ScriptError.{ScriptError}
 use Rattle.xstate.specs.declared.refusal.ScriptError.TheVariants as errors
 use Rattle.xstate.specs.ScriptLine.{IsLine, kept_line, kept_command}
-use Rattle.xstate.specs.Grammar.{lines_text, order_lines, block_lines, row_lines, head_lines, script_lines, Spells}
-use Rattle.xstate.specs.LineOrder.{Stand, AtVersion, AtBlock, may_end, Leads}
-use Rattle.xstate.specs.Refusal.{AreLines, Passes, rows_of_line, table_of, IsKnown, RefusesLine, RefusesCommand, Refuses, ByLine, ByCommand, Explains, CommandFails}
-use Rattle.xstate.specs.Front.{IsFront, IsKeptFront, RefusesFrom, ExplainsFrom}
-use Rattle.xstate.specs.Head.{IsHead, IsHeadOf, lines_of_head, machine_lines}
-use Rattle.xstate.specs.Body.{names_of, AreBlocks, AreBlocksOf}
-use Rattle.xstate.specs.Commands.{PassesOrders, FirstOrder, FirstBlock}
+use Rattle.xstate.specs.Grammar.{lines_text, order_lines, block_lines, row_lines, head_lines, Spells}
+use Rattle.xstate.specs.LineOrder.{AtVersion, AtBlock, may_end}
+use Rattle.xstate.specs.Refusal.{AreLines, Passes, rows_of_line, table_of, IsKnown, RefusesCommand, Refuses, ByLine, ByCommand, Explains, CommandFails}
+use Rattle.xstate.specs.Front.{IsFront, ExplainsFrom}
+use Rattle.xstate.specs.Head.{IsHeadOf, lines_of_head, machine_lines}
+use Rattle.xstate.specs.Body.{names_of, AreBlocksOf}
+use Rattle.xstate.specs.Commands.{PassesOrders, FirstBlock}
 use Rattle.xstate.proofs.Numbering.{blocks_rise}
 use Rattle.xstate.proofs.Fronts.{all_join, front_join, rest_explains}
-use Rattle.xstate.proofs.KnownLines.{all_parts, IsCut, map_cut, PassesLine, known_lines, kept_fails, orders_pass, blocks_pass, names_fit, blocks_known, number_at}
+use Rattle.xstate.proofs.KnownLines.{all_parts, map_cut, PassesLine, known_lines, kept_fails, orders_pass, blocks_pass, names_fit, blocks_known, number_at}
 
 -- ---- the head
 

@@ -1,5 +1,5 @@
 -- What a reader keeps of the blocks.
-use Rattle.std.specs.Prelude.{◌≡◌, ℕ, ◌+◌, ◌<◌, ◌≤◌, true, List, [], ◌∷◌, ◌++◌, length, map, Option, Some, None, Ok}
+use Rattle.std.specs.Prelude.{◌≡◌, ℕ, ◌+◌, ◌<◌, ◌≤◌, List, [], ◌∷◌, ◌++◌, length, map, Option, Some, None, Ok}
 use Rattle.std.specs.List.{flat_map, AllByRecursion}
 use Rattle.xs_model.specs.declared.script.BlockKind.TheVariants.{Task}
 use Rattle.xs_model.specs.declared.script.Block.{Block}
@@ -9,7 +9,7 @@ use Rattle.xstate.specs.declared.line.Line.TheVariants as lines
 use Rattle.xstate.specs.declared.body.Body.{Body}
 use Rattle.xstate.specs.ScriptLine.{IsLine, line_text, kept_line}
 use Rattle.xstate.specs.Grammar.{order_lines, block_lines}
-use Rattle.xstate.specs.LineOrder.{Stand, AtBlock, InBlock, next, may_end}
+use Rattle.xstate.specs.LineOrder.{Stand, AtBlock, InBlock, next}
 use Rattle.xstate.specs.Front.{IsKeptFront}
 
 abbrev pub names_of : List Block → List (List ℕ)

@@ -1,4 +1,4 @@
-use Rattle.std.proofs.Common.{List, suc, ◌∷◌, ◌++◌, take, drop, sym, ap, ◌∙◌}
+use Rattle.std.proofs.Common.{suc, ◌∷◌, ◌++◌, take, drop, sym, ap, ◌∙◌}
 use Rattle.std.proofs.Math.Seq.{split_at}
 use Rattle.xs_model.specs.declared.script.Block.{Block}
 use Rattle.xstate.proofs.commands.first_fault.Goals as goal

@@ -1,4 +1,4 @@
-use Rattle.std.proofs.Common.{List, suc, ◌∷◌, ◌++◌, take, drop, refl, sym, ap, ◌∙◌}
+use Rattle.std.proofs.Common.{suc, ◌∷◌, ◌++◌, take, drop, refl, sym, ap, ◌∙◌}
 use Rattle.std.proofs.Math.Seq.{split_at}
 use Rattle.xs_model.specs.declared.script.Order.{Order}
 use Rattle.xstate.proofs.commands.first_order_fault.Goals as goal

@@ -1,7 +1,7 @@
-use Rattle.std.proofs.Common.{arith, refl}
+use Rattle.std.proofs.Common.{arith}
 use Rattle.xstate.specs.LineOrder.{AtVersion}
 use Rattle.xstate.specs.Head.{head_stand, lines_of_head}
-use Rattle.xstate.proofs.Fronts.{line_explains, front_none}
+use Rattle.xstate.proofs.Fronts.{line_explains}
 use Rattle.xstate.proofs.HeadSteps.{head_goes_on, head_counts}
 use Rattle.xstate.proofs.reader.read_head.Goals as goal
 

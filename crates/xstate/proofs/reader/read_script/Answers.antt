@@ -1,4 +1,4 @@
-use Rattle.xstate.proofs.WholeScripts.{line_refuses, blocks_refuse, read_spells, read_refuses}
+use Rattle.xstate.proofs.WholeScripts.{blocks_refuse, read_spells, read_refuses}
 use Rattle.xstate.proofs.reader.read_script.Goals as goal
 
 pub returns-in-Err-read_blocks-clause-refused : goal.returns-in-Err-read_blocks-clause-refused

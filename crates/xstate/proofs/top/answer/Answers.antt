@@ -1,6 +1,5 @@
-use Rattle.std.proofs.Common.{◌<◌, ◌≤◌, length, ap, arith}
-use Rattle.std.specs.Prelude.{Err}
-use Rattle.xstate.specs.Answers.{limit, IsRefused, TooLong, ByLine, too_long_text}
+use Rattle.std.proofs.Common.{◌<◌, length, arith}
+use Rattle.xstate.specs.Answers.{limit, TooLong, ByLine, too_long_text}
 use Rattle.xstate.specs.RefusalText.{refusal_text}
 use Rattle.xstate.proofs.AnswerLemmas.{refused_told, run_told}
 use Rattle.xstate.proofs.top.answer.Goals as goal

@@ -1,4 +1,4 @@
-use Rattle.std.proofs.Common.{◌≡◌, List, ℕ, refl, subst, ap, ◌∙◌}
+use Rattle.std.proofs.Common.{List, ℕ, refl, subst, ap, ◌∙◌}
 use Rattle.xs_base.specs.Bytes.{splice}
 use Rattle.xs_base.specs.Register.{IsRegister}
 use Rattle.xs_model.specs.declared.script.Command.{Command}

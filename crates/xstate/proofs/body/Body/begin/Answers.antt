@@ -1,4 +1,4 @@
-use Rattle.std.proofs.Common.{[], refl, arith, sym, ◌∙◌, Some}
+use Rattle.std.proofs.Common.{refl, arith, sym, ◌∙◌, Some}
 use Rattle.xs_model.specs.declared.script.BlockKind.TheVariants.{Task}
 use Rattle.xs_model.specs.declared.script.Block.{Block}
 use Rattle.xstate.specs.declared.body.Body.{Body}
