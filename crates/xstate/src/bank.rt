@@ -6,7 +6,7 @@ ghost use Rattle.xs_base.specs.declared.component.Place.{Place};
 ghost use Rattle.xs_model.specs.Script.{IsCommand, IsBuiltCommand};
 ghost use Rattle.xstate.specs.Engine.{BankRuns};
 
-use xs_base::{Lane, Place};
+use xs_base::{Lane, Place, put};
 use xs_layout::Layout;
 use xs_model::{Command, Reply};
 use xs_regs::place_of_bytes;
@@ -69,14 +69,4 @@ impl Bank {
             }
         }
     }
-}
-
-/// Writes bytes over a part of others.
-#[tactic(auto, unfolding(xs_base::specs::Bytes::splice))]
-pub fn put(out: &mut [u8], at: usize, bytes: &[u8])
-    requires { at + length bytes.now ≤ length out.old }
-    ensures written { out.new ≡ splice at bytes.now out.old }
-    ensures len { length out.new ≡ length out.old }
-{
-    out[at..at + bytes.len()].copy_from_slice(bytes);
 }
