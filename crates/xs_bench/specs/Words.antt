@@ -1,9 +1,11 @@
 -- The words of the command line, and the lines of a table: this project's own.
-use Rattle.std.specs.Prelude.{ℕ, List, ◌++◌, codes, decimal}
+use Rattle.std.specs.Prelude.{◌≡◌, ℕ, List, [], ◌∷◌, ◌++◌, codes, decimal}
 use Rattle.xs_base.specs.declared.component.Row.{Row}
 use Rattle.xs_base.specs.Layout.{amx_rows, avx_rows}
 use Rattle.xs_bench.specs.declared.command.Machine.{Machine}
 use Rattle.xs_bench.specs.declared.command.Machine.TheVariants.{Amx, Avx}
+use Rattle.xs_bench.specs.declared.command.Command.{Command}
+use Rattle.xs_bench.specs.declared.command.Command.TheVariants.{Layout, Repeat}
 use Rattle.xs_bench.specs.declared.command.Call.{Call}
 use Rattle.xs_bench.specs.declared.command.Call.TheVariants.{StandardInto, StandardOf, CompactOf, CopyArea, Copy, Nothing}
 
@@ -22,6 +24,11 @@ call_word CompactOf = codes "compact-of"
 call_word CopyArea = codes "copy-area"
 call_word Copy = codes "copy"
 call_word Nothing = codes "nothing"
+
+-- the words of a command; the last of a call is its number of turns
+abbrev pub Spells : List (List ℕ) → Command → Type 0
+Spells words (Layout machine) = words ≡ codes "layout" ∷ machine_word machine ∷ []
+Spells words (Repeat call turns) = (number : List ℕ) × (words ≡ codes "repeat" ∷ call_word call ∷ number ∷ [])
 
 -- a row's line: number, size, offset and flags
 abbrev pub row_line : Row → List ℕ

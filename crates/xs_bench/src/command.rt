@@ -1,7 +1,7 @@
 //! The words of the command line.
 
-ghost use Rattle.std.specs.Prelude.{◌≡◌, IfSome};
-ghost use Rattle.xs_bench.specs.Words.{call_word, machine_word, machine_rows};
+ghost use Rattle.std.specs.Prelude.{◌≡◌, map, string_bytes, IfSome};
+ghost use Rattle.xs_bench.specs.Words.{call_word, machine_word, machine_rows, Spells};
 
 use xs_layout::Layout;
 
@@ -53,7 +53,9 @@ impl Machine {
 }
 
 /// The command that the words spell, if any.
-pub fn parse(words: &[String]) -> Option<Command> {
+pub fn parse(words: &[String]) -> Option<Command>
+    ensures { IfSome result (Spells (map string_bytes words.now)) }
+{
     match words {
         [command, machine] if command.as_str() == "layout" => {
             Some(Command::Layout(machine_of(machine.as_str())?))
