@@ -13,7 +13,7 @@ use crate::line_reader::begins_row;
 use crate::refusal::{Kind, LimitName, ScriptError};
 use arrayvec::ArrayVec;
 use xs_base::{LayoutError, Row};
-use xs_layout::{Layout, row_error, table_error};
+use xs_layout::{Layout, MOST_ROWS, row_error, table_error};
 use xs_model::Named;
 
 /// The most processors of a script.
@@ -43,7 +43,7 @@ pub(crate) struct Head {
     pub(crate) stage: Stage,
     pub(crate) machine: Named,
     pub(crate) layout: Layout,
-    pub(crate) rows: ArrayVec<Row, 9>,
+    pub(crate) rows: ArrayVec<Row, MOST_ROWS>,
     pub(crate) quantum: u32,
     pub(crate) large: u32,
 }
@@ -105,7 +105,7 @@ impl Head {
     }
 
     /// Takes the next line, or answers what it is refused with.
-    pub(crate) fn add(&mut self, line: Line) -> Result<(), Kind>
+    fn add(&mut self, line: Line) -> Result<(), Kind>
         requires head { IsHead self.old }
         requires part { self.old.stage ≡ Stage.Block → ⊥ }
         ensures taken { OnOk result (Takes self.old line self.new) }
@@ -129,6 +129,7 @@ impl Head {
         }
     }
 
+    /// Takes the machine: one with a name has its table, and of one of rows these are next.
     fn set_machine(&mut self, named: Named)
         requires head { IsHead self.old }
         requires stage { self.old.stage ≡ Stage.Machine }
@@ -149,6 +150,7 @@ impl Head {
         }
     }
 
+    /// Takes one row more.
     fn add_row(&mut self, row: Row) -> Result<(), Kind>
         requires head { IsHead self.old }
         requires stage { self.old.stage ≡ Stage.Row }
@@ -164,12 +166,14 @@ impl Head {
         }
     }
 
+    /// The first test that the row fails as the next one.
     fn row_error(&self, row: Row) -> Option<LayoutError>
         ensures { result ≡ row_error (last_row self.now.rows.items) row }
     {
         row_error(self.rows.as_slice().last().copied(), row)
     }
 
+    /// Takes the number of processors after the rows, which are the machine's table.
     fn close_rows(&mut self, n: u32) -> Result<(), Kind>
         requires head { IsHead self.old }
         requires stage { self.old.stage ≡ Stage.Row }
@@ -191,6 +195,7 @@ impl Head {
         }
     }
 
+    /// Takes the number of processors.
     fn set_cpus(&mut self, n: u32) -> Result<(), Kind>
         requires head { IsHead self.old }
         requires stage { self.old.stage ≡ Stage.Cpus }
@@ -202,6 +207,7 @@ impl Head {
         Ok(())
     }
 
+    /// Takes the quantum.
     fn set_quantum(&mut self, n: u32) -> Result<(), Kind>
         requires head { IsHead self.old }
         requires stage { self.old.stage ≡ Stage.Quantum }
@@ -216,6 +222,7 @@ impl Head {
         Ok(())
     }
 
+    /// Takes the number of Large save areas.
     fn set_large(&mut self, n: u32) -> Result<(), Kind>
         requires head { IsHead self.old }
         requires stage { self.old.stage ≡ Stage.Large }
