@@ -7,7 +7,9 @@ use xs_base::{Comp, Place};
 /// A register with a name of its own.
 #[derive(Clone, Copy)]
 pub struct Single {
+    /// The name.
     pub name: &'static [u8],
+    /// Where it stands.
     pub place: Place,
 }
 

@@ -1,6 +1,6 @@
 //! Names, registers and standard bytes at worked values.
 
-use crate::{File, place_of, place_of_bytes};
+use crate::{File, one_place, place_of, place_of_bytes};
 use std::test::Fail;
 use xs_base::{Comp, Features, Lane, Place};
 use xs_layout::Layout;
@@ -193,5 +193,24 @@ fn a_mask_tells_which_components_are_written(rt: HostRuntime) -> Result<(), Fail
         [0x80, 0x1f, 0, 0, 0xff, 0xff, 0, 0].as_slice()
     );
     assert_eq!(rt; &out[174..178], [0, 0, 0x11, 0x11].as_slice());
+    Ok(())
+}
+
+#[test]
+fn parts_are_whole_components(rt: HostRuntime) -> Result<(), Fail> {
+    one_place();
+    let file = File::initial(rt.alloc(), &Layout::avx())?;
+    for (component, len, first) in [
+        (0, 160, Some(0x7f)),
+        (1, 256, Some(0)),
+        (2, 256, Some(0)),
+        (3, 0, None),
+        (9, 8, Some(0)),
+        (18, 8192, Some(0)),
+    ] {
+        let part = file.part(Comp(component));
+        assert_eq!(rt; part.len(), len, "component {component}");
+        assert_eq!(rt; part.first().copied(), first, "component {component}");
+    }
     Ok(())
 }

@@ -8,7 +8,7 @@ ghost use Rattle.xstate.specs.Writing.{AppendsFront};
 use xs_io::{Failed, Sink};
 
 /// Hands the text to the sink, and its rest again where fewer bytes were taken. Where a write fails, the sink has taken
-/// a front of the text.
+/// a front of the text, and not all of it.
 pub fn write_all<K: Sink>(sink: &mut K, text: &[u8]) -> Result<(), Failed>
     ensures ok { OnOk result (Appends (K.written sink.old) (K.written sink.new) text.now) }
     ensures err { OnErr result (AppendsFront (K.written sink.old) (K.written sink.new) text.now) }
