@@ -1,6 +1,5 @@
-use Rattle.std.proofs.Common.{◌≡◌, ◌≤◌, ◌<◌, ◌==◌, ℕ, Bool, true, false, length, List, get_or, bit_and, refl, sym, ap, ◌∙◌, rules}
+use Rattle.std.proofs.Common.{◌<◌, ◌==◌, ℕ, get_or, bit_and, sym, ap, ◌∙◌, rules}
 use Rattle.std.proofs.lemmas.Bool.{false≢true}
-use Rattle.xs_base.specs.Header.{xstate_bv}
 use Rattle.xs_base.specs.Layout.{features}
 use Rattle.xs_base.proofs.AreaLemmas.{control_small}
 use Rattle.xs_area.proofs.HoldingLemmas.{file_held, file_known, file_rows, file_room}
