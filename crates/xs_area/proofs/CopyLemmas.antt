@@ -1,16 +1,14 @@
 -- Components copied along the rows.
-use Rattle.std.proofs.Common.{◌≡◌, ◌≢◌, ◌⊎◌, ℕ, ◌+◌, ◌-◌, ◌<◌, ◌≤◌, ◌==◌, ◌&&◌, ◌%◌, nat_le, Bool, true, false, true≢false, not, List, length, get_or, if◌then◌else◌, refl, sym, ap, subst, ◌∙◌, arith, inl, inr}
-use Rattle.std.proofs.lemmas.Bool.{cases_Bool, cases_eq, cases_lt}
-use Rattle.std.proofs.lemmas.Bool.Decides.{nat_tests}
+use Rattle.std.proofs.Common.{◌≡◌, ◌⊎◌, ℕ, ◌+◌, ◌-◌, ◌<◌, ◌≤◌, ◌==◌, ◌&&◌, ◌%◌, nat_le, Bool, true, false, true≢false, not, List, length, get_or, if◌then◌else◌, refl, sym, ap, subst, ◌∙◌, arith, inl, inr}
+use Rattle.std.proofs.lemmas.Bool.{cases_eq, cases_lt}
 use Rattle.std.proofs.lemmas.List.{get_or_default}
 use Rattle.std.proofs.lemmas.List.Edits.{length-between, get_or-between}
 use Rattle.std.specs.Prelude.{slice_range}
 use Rattle.xs_base.proofs.StandardLemmas.{written_as}
 use Rattle.xs_base.specs.declared.component.Row.{Row}
-use Rattle.xs_base.specs.declared.component.Features.{Features}
 use Rattle.xs_base.specs.Area.{has_room}
 use Rattle.xs_base.specs.Bytes.{is_within}
-use Rattle.xs_base.specs.Compact.{place, has_place}
+use Rattle.xs_base.specs.Compact.{place}
 use Rattle.xs_base.specs.File.{is_own}
 use Rattle.xs_base.specs.Header.{xcomp_bv}
 use Rattle.xs_base.specs.Layout.{IsLayout, IsSound}

@@ -1,8 +1,7 @@
 -- A cursor along the rows tells the places of the machine.
-use Rattle.std.proofs.Common.{◌≡◌, ◌≢◌, ℕ, ◌+◌, ◌*◌, ◌<◌, ◌≤◌, ◌^◌, ◌&&◌, Bool, true, false, nat_le, List, length, get_or, drop, if◌then◌else◌, refl, sym, ap, ◌∙◌, arith, inl, inr}
-use Rattle.std.proofs.lemmas.Bool.{cases_Bool}
+use Rattle.std.proofs.Common.{◌≡◌, ℕ, ◌+◌, ◌*◌, ◌<◌, ◌≤◌, ◌^◌, ◌&&◌, nat_le, List, length, get_or, drop, if◌then◌else◌, refl, sym, ap, ◌∙◌, arith}
 use Rattle.xs_base.specs.declared.component.Row.{Row}
-use Rattle.xs_base.specs.Layout.{IsLayout, IsSound, most_rows}
+use Rattle.xs_base.specs.Layout.{IsLayout}
 use Rattle.xs_base.specs.Compact.{aligned, is_compacted, compact_after, compact_from, compact_offset, place}
 use Rattle.xs_area.specs.declared.cursor.Cursor.{Cursor}
 use Rattle.xs_base.specs.declared.component.Features.{Features}

@@ -1,6 +1,6 @@
 -- What an area holds of a component is the byte of the file that it stands for.
-use Rattle.std.proofs.Common.{◌≡◌, ◌≢◌, ◌⊎◌, ℕ, ◌+◌, ◌-◌, ◌<◌, ◌≤◌, ◌^◌, ◌==◌, ◌&&◌, ◌||◌, Bool, true, false, not, List, ◌++◌, length, get_or, drop, Some, if◌then◌else◌, refl, sym, ap, subst, ◌∙◌, arith, inl, inr, get_or-set_same, get_or-set_other, length-append}
-use Rattle.std.proofs.lemmas.Bool.{cases_Bool, cases_eq, cases_lt, eq-eqb, ne_eqb, eqb-true}
+use Rattle.std.proofs.Common.{◌≡◌, ◌⊎◌, ℕ, ◌+◌, ◌-◌, ◌<◌, ◌≤◌, ◌&&◌, Bool, true, false, List, ◌++◌, length, get_or, drop, Some, if◌then◌else◌, refl, sym, ap, subst, ◌∙◌, arith, inl, inr, get_or-set_same, get_or-set_other, length-append}
+use Rattle.std.proofs.lemmas.Bool.{cases_Bool, cases_eq, cases_lt, ne_eqb}
 use Rattle.std.proofs.lemmas.Bool.Decides.{nat_tests}
 use Rattle.std.proofs.lemmas.List.{get_or-append_right}
 use Rattle.std.proofs.lemmas.List.Edits.{get_or-between, length-between}
@@ -8,11 +8,11 @@ use Rattle.std.proofs.lemmas.Option.{slice_get_read}
 use Rattle.std.specs.Int.{to_le_bytes, w32}
 use Rattle.std.specs.Prelude.{slice_range, slice_get}
 use Rattle.xs_base.specs.declared.component.Row.{Row}
-use Rattle.xs_base.specs.Area.{StandsFor, HoldsPlaces, control_in}
+use Rattle.xs_base.specs.Area.{StandsFor}
 use Rattle.xs_base.specs.Sets.{has}
 use Rattle.xs_base.specs.Bytes.{zeros, splice, is_within}
-use Rattle.xs_base.specs.Component.{component_count, component_size, initial_part}
-use Rattle.xs_base.specs.Compact.{place, compact_after}
+use Rattle.xs_base.specs.Component.{component_size, initial_part}
+use Rattle.xs_base.specs.Compact.{place}
 use Rattle.xs_base.specs.File.{File, IsFile, part, with_pkru, is_own}
 use Rattle.xs_base.specs.Header.{xstate_bv, xcomp_bv}
 use Rattle.xs_base.specs.Layout.{IsLayout, IsSound}
@@ -23,9 +23,9 @@ use Rattle.xs_base.specs.declared.component.Features.{Features}
 use Rattle.xs_area.specs.Cursor.{place_after}
 use Rattle.xs_base.proofs.LayoutLemmas.{sound_at}
 use Rattle.xs_area.proofs.CursorLemmas.{IsBefore, passed, before_first, before_place, before_next}
-use Rattle.xs_base.proofs.ByteLemmas.{within_tells, splice_byte, length_splice}
+use Rattle.xs_base.proofs.ByteLemmas.{splice_byte, length_splice}
 use Rattle.xs_base.proofs.ComponentLemmas.{zero_at, length_zeros, pkru_size}
-use Rattle.xs_base.proofs.StandardLemmas.{written_as, component_written, component_skip, component_all, component_control}
+use Rattle.xs_base.proofs.StandardLemmas.{written_as, component_written, component_skip, component_all}
 
 -- MXCSR and its mask are eight bytes
 pub control_eight : (value : ℕ) → length (control_bytes value) ≡ 8

@@ -6,4 +6,5 @@ pub mod FinishLemmas
 pub mod CopyLemmas
 pub mod TakeLemmas
 pub mod StandLemmas
+pub mod FixtureLemmas
 pub mod HoldingLemmas

@@ -1,13 +1,13 @@
 -- What an area stands for after a copy of components into it.
-use Rattle.std.proofs.Common.{◌≡◌, ◌⊎◌, ℕ, ◌+◌, ◌-◌, ◌<◌, ◌≤◌, ◌==◌, ◌&&◌, ◌||◌, Bool, true, false, true≢false, not, List, length, get_or, Some, if◌then◌else◌, refl, sym, ap, subst, ◌∙◌, arith, inl, inr}
-use Rattle.std.proofs.lemmas.Bool.{cases_Bool, cases_eq, or_cases, eqb-true, ne_eqb}
+use Rattle.std.proofs.Common.{◌≡◌, ◌⊎◌, ℕ, ◌+◌, ◌==◌, ◌&&◌, ◌||◌, Bool, true, false, true≢false, not, List, get_or, Some, if◌then◌else◌, refl, sym, ap, ◌∙◌, arith, inl, inr}
+use Rattle.std.proofs.lemmas.Bool.{cases_Bool, or_cases, eqb-true, ne_eqb}
 use Rattle.std.specs.Prelude.{slice_get}
 use Rattle.xs_base.specs.declared.component.Row.{Row}
 use Rattle.xs_base.specs.declared.header.Parts.{Parts}
-use Rattle.xs_base.specs.Area.{StandsAt, StandsFor, IsOfParts, IsCut, has_room, has_control_room, is_named, control_in}
+use Rattle.xs_base.specs.Area.{StandsAt, StandsFor, IsOfParts, IsCut, has_room, has_control_room, control_in}
 use Rattle.xs_base.specs.Component.{component_size, initial_part, initial_mxcsr}
 use Rattle.xs_base.specs.Compact.{is_compacted, place, has_place}
-use Rattle.xs_base.specs.File.{File, part, is_own}
+use Rattle.xs_base.specs.File.{File, part}
 use Rattle.xs_base.specs.Header.{xstate_bv, xcomp_bv, mxcsr}
 use Rattle.xs_base.specs.Layout.{IsLayout}
 use Rattle.xs_base.specs.Sets.{has}

@@ -1,6 +1,6 @@
 -- What a copy of components into an area wrote, from its steps.
-use Rattle.std.proofs.Common.{◌≡◌, ◌⊎◌, ℕ, ◌+◌, ◌-◌, ◌<◌, ◌≤◌, ◌==◌, ◌&&◌, ◌||◌, Bool, true, false, true≢false, not, List, length, get_or, Some, refl, sym, ap, subst, ◌∙◌, arith, inl, inr}
-use Rattle.std.proofs.lemmas.Bool.{cases_Bool, cases_eq, cases_lt, eqb-true}
+use Rattle.std.proofs.Common.{◌≡◌, ◌⊎◌, ℕ, ◌+◌, ◌<◌, ◌≤◌, ◌==◌, ◌&&◌, ◌||◌, Bool, true, false, true≢false, not, List, length, get_or, Some, refl, sym, ap, ◌∙◌, arith, inl, inr}
+use Rattle.std.proofs.lemmas.Bool.{cases_eq, eqb-true}
 use Rattle.std.proofs.lemmas.Option.{slice_get_within, get_or_from_slice_get}
 use Rattle.std.specs.Prelude.{slice_get}
 use Rattle.xs_base.specs.declared.component.Row.{Row}
@@ -9,7 +9,7 @@ use Rattle.xs_base.specs.Bytes.{is_within}
 use Rattle.xs_base.specs.Component.{initial_mxcsr}
 use Rattle.xs_base.specs.Compact.{is_compacted, place}
 use Rattle.xs_base.specs.File.{is_own}
-use Rattle.xs_base.specs.Header.{xstate_bv, xcomp_bv, mxcsr}
+use Rattle.xs_base.specs.Header.{xcomp_bv}
 use Rattle.xs_base.specs.Layout.{IsLayout, IsSound}
 use Rattle.xs_base.specs.Sets.{has}
 use Rattle.xs_base.proofs.ByteLemmas.{range_same, within_in, within_below, within_above}

@@ -15,6 +15,24 @@ pub struct Area {
     pub bytes: Vec<u8>,
 }
 
+/// The two lengths that a kernel area has: without room for TILEDATA, and with it.
+#[derive(Clone, Copy, PartialEq, Eq, Debug)]
+pub enum Class {
+    /// For a task that hasn't used TILEDATA.
+    Small,
+    /// For one that has.
+    Large,
+}
+
+/// An area that a task has from a pool, and its class.
+#[derive(Debug, Drop)]
+pub struct Lease {
+    /// The class.
+    pub class: Class,
+    /// The area.
+    pub area: Area,
+}
+
 /// XSTATE_BV, bytes 512 to 519 of an area: the components that it has state of (SDM volume 1, 13.4.2).
 #[tactic(auto, using(crate::proofs::LittleEndian::eight_bytes), unfolding(xs_base::specs::Header::xstate_bv))]
 pub fn xstate_bv(bytes: &[u8]) -> u64
@@ -41,23 +59,4 @@ pub fn mxcsr(bytes: &[u8]) -> u32
     ensures { result ≡ header.mxcsr bytes.now }
 {
     LittleEndian::read_u32(&bytes[24..28])
-}
-
-#[cfg(test)]
-mod tests {
-    use super::{mxcsr, xcomp_bv, xstate_bv};
-
-    #[test]
-    fn the_header_is_read_little_endian(rt: HostRuntime) {
-        let mut bytes = [0u8; 576];
-        bytes[24] = 0x80;
-        bytes[25] = 0x1f;
-        bytes[512] = 0x02;
-        bytes[519] = 0x40;
-        bytes[520] = 0xe7;
-        bytes[527] = 0x80;
-        assert_eq!(rt; mxcsr(&bytes), 0x1f80);
-        assert_eq!(rt; xstate_bv(&bytes), 0x4000_0000_0000_0002);
-        assert_eq!(rt; xcomp_bv(&bytes), 0x8000_0000_0000_00e7);
-    }
 }

@@ -85,7 +85,7 @@ fn take(layout: &Layout, from: &[u8], names: Features, set: Features, control: u
 }
 
 /// The components that are copied.
-fn copied_of(layout: &Layout, to: &[u8], set: Features) -> Features
+pub fn copied_of(layout: &Layout, to: &[u8], set: Features) -> Features
     requires { 576 ≤ length to.now }
     ensures copied { (c : ℕ) → has result.0 c ≡ is_copied layout.now to.now set.0 c }
     ensures layout { IsLayout layout.now }
@@ -114,7 +114,7 @@ fn is_copied_row(set: Features, names: Features, row: Row, at: usize, len: usize
 }
 
 /// The set, with the component where it is wanted.
-fn with(set: Features, comp: Comp, wanted: bool) -> Features
+pub fn with(set: Features, comp: Comp, wanted: bool) -> Features
     requires { comp.0 < 64 }
     ensures { (c : ℕ) → has result.0 c ≡ (has set.0 c || ((c == comp.0) && wanted)) }
 {

@@ -1,17 +1,23 @@
-//! Save areas: the memory that XSAVE and its kin write. So far an area's legacy region and header alone; the crate's
-//! contract is what its readers say of the bytes.
+//! Save areas, the memory that XSAVE and its kin write, in the standard and in the compacted format. The crate reads
+//! an area's header, checks images from outside, writes the standard bytes of what an area stands for, and makes an
+//! area stand for the parts of an image or for what another area stands for. It stands on the machine's table in
+//! `xs_layout`; what areas, images and standard bytes mean stands in `xs_base`, and that is the crate's contract.
 #![tactic(auto)]
 
 mod area;
 mod check;
 mod copies;
 mod cursor;
+#[cfg(test)]
+mod fixtures;
 mod holding;
 #[cfg(test)]
 mod holding_tests;
 mod standard;
+#[cfg(test)]
+mod tests;
 
-pub use area::{Area, mxcsr, xcomp_bv, xstate_bv};
+pub use area::{Area, Class, Lease, mxcsr, xcomp_bv, xstate_bv};
 pub use check::read_standard;
 pub use copies::{compact_of, copy_area};
 pub use holding::stands;

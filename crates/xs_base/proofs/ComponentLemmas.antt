@@ -34,6 +34,10 @@ pub x87_size : component_size 0 ≡ 160
 unfolding component_size sizes
 x87_size = refl
 
+pub sse_size : component_size 1 ≡ 256
+unfolding component_size sizes
+sse_size = refl
+
 pub pkru_size : component_size 9 ≡ 8
 unfolding component_size sizes
 pkru_size = refl

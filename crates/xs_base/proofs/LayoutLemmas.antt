@@ -232,7 +232,7 @@ rank_more (Some b) r h e =
     let rise = below_rises b.comp.0 r.comp.0 component_numbers (number_after b r (passes (Some b) r e)) h.known in
     omega arith
 
-few_from : (before : Option Row) (at : ℕ) (rows : List Row) → IsSoundBefore before → first_row_fault before at rows ≡ None → rank_after before + length rows ≤ most_rows
+pub few_from : (before : Option Row) (at : ℕ) (rows : List Row) → IsSoundBefore before → first_row_fault before at rows ≡ None → rank_after before + length rows ≤ most_rows
 few_from before at [] s h = let most = rank_most before s in omega arith
 few_from before at (r ∷ rows) s h =
     let parts = row_fault_none before at r rows h in

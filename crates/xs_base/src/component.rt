@@ -7,7 +7,7 @@ use bitflags::{Flag, Flags, bitflag_items};
 
 /// A component of the extended state by its number, 0 to 62: bit `i` of XCR0, XSTATE_BV and XCOMP_BV is that of
 /// component `i` (SDM volume 1, 13.1).
-#[derive(Clone, Copy, PartialEq, Eq, Debug)]
+#[derive(Clone, Copy, PartialEq, Eq, Debug, Default)]
 pub struct Comp(pub u8);
 
 /// A set of components, one bit each, as XCR0 and XSTATE_BV have them (SDM volume 1, 13.1 and 13.4.2).
@@ -76,7 +76,7 @@ impl Features {
 /// A row of a machine's table of components: what CPUID leaf 0DH tells of one (SDM volume 1, 13.2), rows 0 and 1
 /// included. The size and the offset in the standard format are in bytes. Flag bit 0 is a supervisor component, bit 1
 /// alignment to 64 bytes in the compacted format, bit 2 support of XFD.
-#[derive(Clone, Copy, PartialEq, Eq, Debug)]
+#[derive(Clone, Copy, PartialEq, Eq, Debug, Default)]
 pub struct Row {
     /// The component's number.
     pub comp: Comp,

@@ -8,6 +8,7 @@ mod component;
 mod header;
 mod lane;
 mod layout_error;
+mod little_endian;
 #[cfg(test)]
 mod tests;
 mod words;
@@ -19,4 +20,5 @@ pub use component::{Comp, Features, Place, Row};
 pub use header::{HeaderError, Origin, Parts};
 pub use lane::Lane;
 pub use layout_error::{LayoutError, LayoutFault};
+pub use little_endian::four_bytes_again;
 pub use words::{Errno, How, Set, Signo};

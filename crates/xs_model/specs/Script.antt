@@ -1,6 +1,6 @@
 -- Scripts: which values are scripts. Every limit and every rule of names here is this project's own.
 use Rattle.std.specs.Prelude.{◌≡◌, ℕ, ◌+◌, ◌<◌, ◌≤◌, Bool, true, false, ◌&&◌, ◌||◌, ◌==◌, nat_le, nat_lt, List, [], ◌∷◌, length, map}
-use Rattle.std.specs.List.{list_all, AllByRecursion}
+use Rattle.std.specs.List.{list_all, flat_map, AllByRecursion}
 use Rattle.xs_base.specs.declared.component.Row.{Row}
 use Rattle.xs_base.specs.declared.component.Place.{Place}
 use Rattle.xs_base.specs.Layout.{IsLayout, amx_rows, avx_rows}
@@ -47,16 +47,27 @@ abbrev pub AreDistinct : List (List ℕ) → Type 0
 AreDistinct [] = Unit {0}
 AreDistinct (name ∷ names) = AllByRecursion (λ other. other ≡ name → ⊥) names × AreDistinct names
 
--- The numbers of the orders are those of their lines, where line `first` is the block's own first line.
+-- The numbers of the orders are those of lines in a row, from this one on.
 abbrev pub AreNumbered : ℕ → List Order → Type 0
 AreNumbered number [] = Unit {0}
 AreNumbered number (order ∷ orders) = (order.number ≡ number) × AreNumbered (number + 1) orders
 
+-- The numbers of the orders are those of their lines, where line `first` is the first block's own first line.
 abbrev pub AreBlocksNumbered : ℕ → List Block → Type 0
 AreBlocksNumbered first [] = Unit {0}
 AreBlocksNumbered first (block ∷ blocks) = AreNumbered (first + 1) block.body × AreBlocksNumbered (first + length block.body + 2) blocks
 
--- a script whose parts are within their limits
+-- Numbers of lines that rise, each above the one before, the first above `last`.
+abbrev pub AreRising : ℕ → List ℕ → Type 0
+AreRising last [] = Unit {0}
+AreRising last (number ∷ numbers) = (last < number) × AreRising number numbers
+
+-- the numbers of the orders, in the order of the blocks
+abbrev pub order_numbers : List Block → List ℕ
+order_numbers blocks = flat_map (λ (block : Block). map (λ (order : Order). order.number) block.body) blocks
+
+-- A script whose parts are within their limits. A form that this version doesn't have has no part here yet: schedules,
+-- children, kernel threads, handlers, and MXCSR's upper bytes.
 pub record IsValid (script : Script) : Type 0 where
   pub layout : IsLayout script.layout
   pub machine : IsTableOf script.machine script.layout
@@ -67,6 +78,7 @@ pub record IsValid (script : Script) : Type 0 where
   pub few : length script.blocks ≤ 64
   pub names : AllByRecursion (λ (block : Block). is_name block.name ≡ true) script.blocks
   pub distinct : AreDistinct (map (λ (block : Block). block.name) script.blocks)
+  pub rising : AreRising 0 (order_numbers script.blocks)
   pub commands : AllByRecursion (λ (block : Block). AllByRecursion (λ (order : Order). IsCommand script.layout order.command) block.body) script.blocks
 
 -- A register that the program has: XMM alone.

@@ -1,13 +1,16 @@
 -- The components in use, row after row.
-use Rattle.std.proofs.Common.{◌≡◌, ◌⊎◌, inl, inr, ℕ, ◌+◌, ◌*◌, ◌%◌, ◌^◌, ◌<◌, ◌≤◌, Bool, true, false, not, ◌&&◌, ◌||◌, ◌==◌, List, length, get_or, drop, bit_or, refl, sym, ap, ◌∙◌}
-use Rattle.std.proofs.lemmas.Bool.{cases_eq, ne_eqb, eq-eqb}
+use Rattle.std.proofs.Common.{◌≡◌, ◌⊎◌, inl, inr, ℕ, ◌+◌, ◌*◌, ◌%◌, ◌^◌, ◌<◌, ◌≤◌, Bool, true, false, not, ◌&&◌, ◌||◌, ◌==◌, List, length, get_or, drop, bit_or, refl, sym, ap, ◌∙◌, arith}
+use Rattle.std.proofs.lemmas.Bool.{cases_Bool, cases_eq, ne_eqb, eq-eqb, eqb-true}
+use Rattle.std.proofs.lemmas.List.Folds.{Any-from_list_any}
+use Rattle.std.specs.List.{list_any}
 use Rattle.xs_base.specs.declared.component.Row.{Row}
 use Rattle.std.specs.Str.{bytes_eq}
 use Rattle.xs_base.specs.Sets.{has}
-use Rattle.xs_base.specs.Component.{initial_part}
+use Rattle.xs_base.specs.Component.{component_count, initial_part}
 use Rattle.xs_base.specs.File.{File, part}
-use Rattle.xs_base.specs.Layout.{has_row}
+use Rattle.xs_base.specs.Layout.{IsLayout, has_row}
 use Rattle.xs_base.proofs.SetLemmas.{has_none, has_or}
+use Rattle.xs_base.proofs.LayoutLemmas.{sound_at}
 use Rattle.xs_base.proofs.FeatureLemmas.{row_more, row_none}
 
 -- the component isn't initial
@@ -48,3 +51,16 @@ used_all test rows i set past h c =
     or_none : (b : Bool) → (b || false) ≡ b
     or_none true = refl
     or_none false = refl
+
+-- A machine has no component from 19 on.
+pub none_above : (rows : List Row) (c : ℕ) → IsLayout rows → component_count ≤ c → has_row rows c ≡ false
+unfolding has_row
+none_above rows c layout above =
+    elim (cases_Bool (list_any (λ (r : Row). r.comp.0 == c) rows)) [
+      | inl there ↦
+          let found = Any-from_list_any (λ (r : Row). r.comp.0 == c) rows there in
+          let number = (sound_at rows layout found.0 found.1 found.2 (sym found.3)).number in
+          let same : found.1.comp.0 ≡ c = eqb-true found.1.comp.0 c found.4 in
+          absurd (omega arith)
+      | inr gone ↦ gone
+    ]

@@ -1,10 +1,10 @@
 //! Register files.
 
-ghost use Rattle.std.specs.Prelude.{◌≡◌, ℕ, ◌<◌, ◌≤◌, ◌==◌, List, length, slice_index, IfOk};
+ghost use Rattle.std.specs.Prelude.{◌≡◌, ℕ, ◌<◌, ◌≤◌, ◌==◌, false, List, length, slice_index, IfOk};
 ghost use Rattle.std.specs.List.{list_all};
 ghost use Rattle.std.specs.Str.{bytes_eq};
 ghost use Rattle.xs_base.specs.Component.{component_count, component_size, initial_part};
-ghost use Rattle.xs_base.specs.File.{part, initial_file, is_mxcsr, read_place, write_place, in_use};
+ghost use Rattle.xs_base.specs.File.{IsFile, part, initial_file, is_mxcsr, read_place, write_place, in_use};
 ghost use Rattle.xs_base.specs.Layout.{standard_size};
 ghost use Rattle.xs_base.specs.Register.{IsRegister};
 ghost use Rattle.xs_base.specs.Sets.{has};
@@ -42,7 +42,8 @@ impl Model for File {
 }
 
 impl File {
-    /// The file whose every component is in its initial configuration (SDM volume 1, 13.6).
+    /// The file whose every component is in its initial configuration (SDM volume 1, 13.6). Fails for want of memory
+    /// alone; no other call takes memory.
     pub fn initial(alloc: Global, layout: &Layout) -> Result<File, AllocError>
         ensures { IfOk result (λ file. file ≡ initial_file layout.now) }
     {
@@ -61,7 +62,8 @@ impl File {
 
     /// The machine whose file this is.
     pub fn layout(&self) -> &Layout
-        ensures { result.now ≡ self.now.rows }
+        ensures rows { result.now ≡ self.now.rows }
+        ensures file { IsFile self.now }
     {
         &self.layout
     }
@@ -73,7 +75,7 @@ impl File {
         self.mxcsr
     }
 
-    /// The bytes of the component.
+    /// The bytes of the component, as many as it has on any machine. The number is below 19.
     pub fn part(&self, c: Comp) -> &[u8]
         requires { c.0 < component_count }
         ensures bytes { result.now ≡ part self.now c.0 }
@@ -82,7 +84,7 @@ impl File {
         &self.parts[c.0 as usize]
     }
 
-    /// The bytes of a register.
+    /// The bytes of a register of the machine, 1 to 64.
     pub fn read(&self, place: Place) -> Lane
         requires { (name : List ℕ) × IsRegister self.now.rows name place }
         ensures { result ≡ read_place self.now place }
@@ -95,11 +97,12 @@ impl File {
         Lane::from_slice(register)
     }
 
-    /// Writes a register.
+    /// Writes a register of the machine, whose every byte the lane has. Nothing else changes.
     pub fn write(&mut self, place: Place, lane: &Lane)
         requires register { (name : List ℕ) × IsRegister self.old.rows name place }
         requires len { length lane.now ≡ place.len }
-        ensures { self.new ≡ write_place self.old place lane.now }
+        ensures written { self.new ≡ write_place self.old place lane.now }
+        ensures machine { self.new.rows ≡ self.old.rows }
     {
         let bytes = lane.as_slice();
         if is_mxcsr(place) {
@@ -115,7 +118,8 @@ impl File {
 
     /// The components that aren't in their initial configuration. MXCSR doesn't count.
     pub fn in_use(&self) -> Features
-        ensures { (c : ℕ) → has result.0 c ≡ in_use self.now c }
+        ensures each { (c : ℕ) → has result.0 c ≡ in_use self.now c }
+        ensures above { (c : ℕ) → component_count ≤ c → has result.0 c ≡ false }
     {
         let layout = self.layout();
         let mut bits = 0;

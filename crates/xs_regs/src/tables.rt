@@ -15,12 +15,19 @@ pub struct Single {
 /// each next one stands `stride` bytes further.
 #[derive(Clone, Copy)]
 pub struct Family {
+    /// What stands before the number.
     pub stem: &'static [u8],
+    /// The first number.
     pub from: u8,
+    /// How many there are.
     pub count: u8,
+    /// The number of their component.
     pub component: u8,
+    /// The byte of the component that the first begins at.
     pub offset: u16,
+    /// The bytes from one to the next.
     pub stride: u16,
+    /// The bytes of each.
     pub len: u8,
     ghost two_digits: { from + count ≤ 100 },
 }

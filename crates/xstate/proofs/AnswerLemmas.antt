@@ -1,5 +1,5 @@
 -- The answers to inputs.
-use Rattle.std.proofs.Common.{◌≡◌, ℕ, ◌<◌, false, List, [], ◌∷◌, length, refl, sym, subst, inl, inr, arith}
+use Rattle.std.proofs.Common.{◌≡◌, ℕ, false, List, [], ◌∷◌, refl, sym, subst, inl, inr}
 use Rattle.std.specs.Prelude.{Option}
 use Rattle.xs_model.specs.declared.script.Script.{Script}
 use Rattle.xs_model.specs.declared.event.Event.{Event}
@@ -8,9 +8,8 @@ use Rattle.xs_model.specs.Machine.{Machine}
 use Rattle.xs_model.specs.History.{Run, IsWhole, has_kill}
 use Rattle.xstate.specs.declared.status.Status.{Status}
 use Rattle.xstate.specs.declared.status.Status.TheVariants as statuses
-use Rattle.xstate.specs.Grammar.{Spells}
 use Rattle.xstate.specs.Text.{history_text, AreTasksKnown}
-use Rattle.xstate.specs.Answers.{IsAccepted, IsRefused, RunsTo, AnswerEnds, TellEnds, WriteEnds, refused_text, limit}
+use Rattle.xstate.specs.Answers.{IsAccepted, IsRefused, RunsTo, AnswerEnds, TellEnds, WriteEnds}
 use Rattle.xstate.proofs.LegalTasks.{legal_tasks}
 
 -- no task is killed in a run
@@ -27,19 +26,11 @@ unkilled m n (events.End t ∷ later) run = unkilled run.0 n later run.2
 pub whole_tasks : (script : Script) (history : List Event) → IsWhole script history → AreTasksKnown script history
 whole_tasks script history whole = legal_tasks script history (whole.machine, whole.legal)
 
--- an input that is longer than a script may be is refused
-pub too_long : (input : List ℕ) → limit < length input → IsRefused input
-too_long input long script accepted = absurd (omega (arith, accepted.short))
-
--- what spells no script is refused
-pub spells_none : (input : List ℕ) → ((script : Script) → Spells input script → ⊥) → IsRefused input
-spells_none input none script accepted = none script accepted.spelled
-
--- an input that is refused, once that was told
-pub refused_told : (input : List ℕ) (written written' : Option (List ℕ)) (faults faults' : ℕ) (result : Status) → IsRefused input → TellEnds statuses.Refused refused_text written written' faults faults' result → AnswerEnds input written written' faults faults' result
-refused_told input written written' faults faults' result refused told = elim told [
-  | inl told ↦ subst (λ (status : Status). AnswerEnds input written written' faults faults' status) (sym told.0) (told.1, refused, told.2)
-  | inr failed ↦ subst (λ (status : Status). AnswerEnds input written written' faults faults' status) (sym failed.0) (failed.1, refused_text, inr (refused, refl), failed.2)
+-- an input that is refused, once its line was told
+pub refused_told : (input line : List ℕ) (written written' : Option (List ℕ)) (faults faults' : ℕ) (result : Status) → IsRefused input line → TellEnds statuses.Refused line written written' faults faults' result → AnswerEnds input written written' faults faults' result
+refused_told input line written written' faults faults' result refused told = elim told [
+  | inl told ↦ subst (λ (status : Status). AnswerEnds input written written' faults faults' status) (sym told.0) (told.1, line, refused, told.2)
+  | inr failed ↦ subst (λ (status : Status). AnswerEnds input written written' faults faults' status) (sym failed.0) (failed.1, line, inr refused, failed.2)
 ]
 
 runs_to : (input : List ℕ) (script : Script) (history : List Event) → IsAccepted input script → IsWhole script history → RunsTo input (history_text script history)

@@ -1,10 +1,10 @@
 -- The hex text of a lane, read by the crate `hex`.
-use Rattle.std.proofs.Common.{◌≡◌, ℕ, ◌<◌, zero, suc, List, [], ◌∷◌, Result, Ok, Err, refl, sym, ◌∙◌, ap, arith, MatchResult, slice_index}
+use Rattle.std.proofs.Common.{◌≡◌, ℕ, ◌<◌, zero, suc, List, [], ◌∷◌, Result, Ok, Err, sym, ◌∙◌, ap, arith, MatchResult, slice_index}
 use Rattle.std.specs.Result.{result_unwrap_or}
 use Rattle.std.specs.List.{AllByRecursion}
 use Rattle.hex.specs.Hex.{IsBytes, decode_sized, encode_lower}
 use Rattle.hex.specs.declared.error.FromHexError.{FromHexError}
-use Rattle.hex.proofs.HexLemmas.{decode_sized-ok, decode_sized-twice, decode_of-ok, decode_sized-encode_lower}
+use Rattle.hex.proofs.HexLemmas.{decode_sized-ok, decode_sized-twice, decode_of-ok, decode_of-same, decode_of-encode_lower, decode_sized-encode_lower}
 use Rattle.xstate.specs.Parts.{IsLane}
 
 -- bytes by their indices, from bytes by recursion
@@ -45,10 +45,10 @@ IsLane-decode_sized len text bytes e =
 pub same_decoded : (r : Result (List ℕ) FromHexError) (a b : List ℕ) → r ≡ Ok a → r ≡ Ok b → a ≡ b
 same_decoded r a b ea eb = ap (λ (r : Result (List ℕ) FromHexError). result_unwrap_or r []) (sym ea ∙ eb)
 
--- one lane has a text
-pub one_lane : (len : ℕ) (a b : List ℕ) → IsLane len a → IsLane len b → encode_lower a ≡ encode_lower b → a ≡ b
-one_lane len a b fa fb e =
-    same_decoded (decode_sized (encode_lower a) len) a b (decode_sized-lane len a _ fa refl) (decode_sized-lane len b _ fb e)
+-- bytes of one text are the same
+pub one_hex : (a b : List ℕ) → AllByRecursion (λ byte. byte < 256) a → AllByRecursion (λ byte. byte < 256) b → encode_lower a ≡ encode_lower b → a ≡ b
+one_hex a b fa fb e =
+    decode_of-same (encode_lower a) a b (decode_of-encode_lower a (IsBytes-from_recursion a fa)) (rw e (decode_of-encode_lower b (IsBytes-from_recursion b fb)))
 
 -- What `decode_to_slice` wrote, where it succeeded, is a lane, and no other lane has the text.
 pub decoded : (len n : ℕ) (text out : List ℕ) (r : Result Unit FromHexError) → MatchResult (decode_sized text n) (λ bytes. (r ≡ Ok tt) × (out ≡ bytes)) (λ e. r ≡ Err e) → r ≡ Ok tt → n ≡ len → IsLane len out × ((x : List ℕ) → IsLane len x → text ≡ encode_lower x → out ≡ x)

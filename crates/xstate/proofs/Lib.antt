@@ -4,6 +4,7 @@ pub mod AreaLemmas
 pub mod Stepping
 pub mod HeldLemmas
 pub mod TaskLemmas
+pub mod BuiltRegisters
 pub mod TurnLemmas
 pub mod Opening
 pub mod EngineLoops
@@ -15,16 +16,28 @@ pub mod OneSpelling
 pub mod KnownBytes
 pub mod HistoryFront
 pub mod LegalTasks
-pub mod Numbers
-pub mod Lanes
-pub mod Registers
-pub mod Cuts
-pub mod Spellings
-pub mod Readings
-pub mod Bodies
-pub mod Blocks
-pub mod Heads
-pub mod Scripts
 -- Lemmas of the top call.
 pub mod AnswerLemmas
+pub mod KnownInputs
 pub mod CommandWords
+-- Lemmas of the script reader, one file a noun.
+pub mod Numbers
+pub mod Cuts
+pub mod Lanes
+pub mod HexText
+pub mod Spellings
+pub mod FirstLines
+pub mod Kept
+pub mod HeadRows
+pub mod Fronts
+pub mod KeptOrder
+pub mod HeadSteps
+pub mod Readings
+pub mod Unbuilt
+pub mod BodyLines
+pub mod CommandFaults
+pub mod KnownLines
+pub mod Numbering
+pub mod WholeScripts
+pub mod OneRefusal
+pub mod SpelledLines

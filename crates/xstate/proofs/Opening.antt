@@ -3,35 +3,29 @@ use Rattle.std.proofs.Common.{◌≡◌, ℕ, zero, suc, List, [], ◌∷◌, le
 use Rattle.std.proofs.lemmas.List.{length-replicate}
 use Rattle.std.specs.Prelude.{None, map}
 use Rattle.std.specs.List.{AllByRecursion}
-use Rattle.xs_base.specs.Layout.{amx_rows}
+use Rattle.xs_base.specs.declared.component.Row.{Row}
 use Rattle.xs_base.specs.Task.{PrivateTask, root_task}
 use Rattle.xs_model.specs.declared.script.BlockKind.TheVariants as kinds
-use Rattle.xs_model.specs.declared.script.Named.{Named}
-use Rattle.xs_model.specs.declared.script.Named.TheVariants.{Amx}
 use Rattle.xs_model.specs.declared.script.Block.{Block}
 use Rattle.xs_model.specs.declared.script.Script.{Script}
 use Rattle.xs_model.specs.declared.stage.Stage.TheVariants as stages
 use Rattle.xs_model.specs.Machine.{BlockState, Machine, opening_block, opening_stage}
-use Rattle.xs_model.specs.Script.{IsBuilt, rows_of}
+use Rattle.xs_model.specs.Script.{IsBuilt}
 use Rattle.xstate.specs.Engine.{fresh, fresh_tasks, task_at, block_at_rest, IsAtRest}
 use Rattle.xstate.proofs.TaskLemmas.{root_fresh}
 use Rattle.xstate.proofs.HeldLemmas.{held_at_first}
 
--- the one machine
-rows_amx : (named : Named) → rows_of named ≡ amx_rows
-rows_amx Amx = refl
-
 -- a task that has had no turn is a block as it opens
-opens : (block : Block) → block.kind ≡ kinds.Task → block_at_rest fresh ≡ opening_block amx_rows block
-opens block kind =
-    ap (λ (task : PrivateTask). let state : BlockState = record { stage = stages.Ready; task = task; parent = None; pending = [] } in state) root_fresh
-    ∙ ap (λ kind. let state : BlockState = record { stage = opening_stage kind; task = root_task amx_rows; parent = None; pending = [] } in state) (sym kind)
+opens : (rows : List Row) (block : Block) → block.kind ≡ kinds.Task → block_at_rest rows fresh ≡ opening_block rows block
+opens rows block kind =
+    ap (λ (task : PrivateTask). let state : BlockState = record { stage = stages.Ready; task = task; parent = None; pending = [] } in state) (root_fresh rows)
+    ∙ ap (λ kind. let state : BlockState = record { stage = opening_stage kind; task = root_task rows; parent = None; pending = [] } in state) (sym kind)
 
-blocks_open : (blocks : List Block) → AllByRecursion (λ (block : Block). (block.kind ≡ kinds.Task) × (block.handler ≡ [])) blocks → map block_at_rest (fresh_tasks (length blocks)) ≡ map (opening_block amx_rows) blocks
-blocks_open [] all = refl
-blocks_open (block ∷ blocks) all =
-    ap (λ state. state ∷ map block_at_rest (fresh_tasks (length blocks))) (opens block all.0.0)
-    ∙ ap (λ states. opening_block amx_rows block ∷ states) (blocks_open blocks all.1)
+blocks_open : (rows : List Row) (blocks : List Block) → AllByRecursion (λ (block : Block). (block.kind ≡ kinds.Task) × (block.handler ≡ [])) blocks → map (block_at_rest rows) (fresh_tasks (length blocks)) ≡ map (opening_block rows) blocks
+blocks_open rows [] all = refl
+blocks_open rows (block ∷ blocks) all =
+    ap (λ state. state ∷ map (block_at_rest rows) (fresh_tasks (length blocks))) (opens rows block all.0.0)
+    ∙ ap (λ states. opening_block rows block ∷ states) (blocks_open rows blocks all.1)
 
 -- each place of a task that has had no turn is 0
 fresh_place : (n t : ℕ) → (task_at (fresh_tasks n) t).place ≡ 0
@@ -44,7 +38,7 @@ pub at_opening : (script : Script) (bank : List ℕ) → IsBuilt script → IsAt
 at_opening script bank built = record {
   run =
       ap (λ (blocks : List BlockState). let m : Machine = record { script = script; blocks = blocks; committing = None; history = [] } in m)
-      (blocks_open script.blocks built.tasks ∙ ap (λ rows. map (opening_block rows) script.blocks) (sym (rows_amx script.machine)));
+      (blocks_open script.layout script.blocks built.tasks);
   marked = held_at_first;
   kept = λ t is. absurd (cc);
   known = length-replicate (length script.blocks) fresh;

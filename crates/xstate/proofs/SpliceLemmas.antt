@@ -1,14 +1,9 @@
 -- What stands in a list after one list was written over a part of it.
-use Rattle.std.proofs.Common.{◌≡◌, ℕ, ◌+◌, ◌-◌, ◌≤◌, List, ◌++◌, length, take, drop, refl, sym, ap, ◌∙◌, arith, length-append, length-take, length-drop}
+use Rattle.std.proofs.Common.{◌≡◌, ℕ, ◌+◌, ◌-◌, ◌≤◌, List, ◌++◌, length, take, drop, refl, sym, ap, ◌∙◌, arith, length-take, length-drop}
 use Rattle.std.proofs.lemmas.List.{take-append-le, drop-append-le, drop-take, take-take}
 use Rattle.std.proofs.Math.Seq.{drop-append_seam, take-append_seam}
 use Rattle.std.specs.Prelude.{slice_range}
 use Rattle.xs_base.specs.Bytes.{splice}
-
--- the length stays
-pub length-splice : (at : ℕ) (new old : List ℕ) → at + length new ≤ length old → length (splice at new old) ≡ length old
-unfolding splice
-length-splice at new old fits = simp (length-append, length-take, length-drop) (omega arith)
 
 -- what was written stands there
 pub range-splice_same : (at : ℕ) (new old : List ℕ) → at ≤ length old → slice_range (splice at new old) at (at + length new) ≡ new

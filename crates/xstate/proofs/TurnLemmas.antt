@@ -7,7 +7,7 @@ use Rattle.std.specs.Prelude.{Option, Some, None, map, slice_get, if◌then◌el
 use Rattle.std.specs.Option.{option_map}
 use Rattle.std.specs.List.{list_any, AllByRecursion}
 use Rattle.xs_base.specs.declared.words.How.{How}
-use Rattle.xs_base.specs.Layout.{amx_rows}
+use Rattle.xs_base.specs.declared.component.Row.{Row}
 use Rattle.xs_base.specs.Task.{PrivateTask, parked, marks_after}
 use Rattle.xs_model.specs.declared.script.BlockKind.TheVariants as kinds
 use Rattle.xs_model.specs.declared.script.Order.{Order}
@@ -43,14 +43,14 @@ not_on : {rest : Bool} (ended : Bool) → rest ≡ false → (is_on 0 (if ended 
 not_on true none = none
 not_on false none = none
 
-none_on : (tasks : List SavedTask) → list_any (λ (block : BlockState). is_on 0 block.stage) (map block_at_rest tasks) ≡ false
-none_on [] = refl
-none_on (task ∷ tasks) = not_on task.ended (none_on tasks)
+none_on : (rows : List Row) (tasks : List SavedTask) → list_any (λ (block : BlockState). is_on 0 block.stage) (map (block_at_rest rows) tasks) ≡ false
+none_on rows [] = refl
+none_on rows (task ∷ tasks) = not_on task.ended (none_on rows tasks)
 
 -- the state of a block at rest
-at_rest : (tasks : List SavedTask) (t : ℕ) → t < length tasks → slice_get (map block_at_rest tasks) t ≡ Some (block_at_rest (task_at tasks t))
-at_rest tasks t here =
-    slice_get-map block_at_rest tasks t ∙ ap (option_map block_at_rest) (slice_get-get_or tasks t _ here)
+at_rest : (rows : List Row) (tasks : List SavedTask) (t : ℕ) → t < length tasks → slice_get (map (block_at_rest rows) tasks) t ≡ Some (block_at_rest rows (task_at tasks t))
+at_rest rows tasks t here =
+    slice_get-map (block_at_rest rows) tasks t ∙ ap (option_map (block_at_rest rows)) (slice_get-get_or tasks t _ here)
 
 -- the block of a task
 lines_at : (script : Script) (tasks : List SavedTask) (t : ℕ) → length tasks ≡ length script.blocks → t < length tasks → (lines : Block) × (slice_get script.blocks t ≡ Some lines)
@@ -75,16 +75,16 @@ turn_starts script bank last tasks history t how after built rest here lives how
     let kind = (AllByRecursion-at (λ (block : Block). (block.kind ≡ kinds.Task) × (block.handler ≡ [])) script.blocks t found.0 built.tasks found.1).0 in
     let before = machine_at_rest script tasks history in
     let event = events.Start t 0 how None in
-    let marks = marks_after (task_with task.registers task.place 0) in
-    let step : Starts before t 0 how None (machine_in_turn script tasks (history ++ event ∷ []) t (block_in_turn task.registers task.place marks 0) None) = record {
-      block = block_at_rest task;
+    let marks = marks_after (task_with script.layout task.registers task.place 0) in
+    let step : Starts before t 0 how None (machine_in_turn script tasks (history ++ event ∷ []) t (block_in_turn script.layout task.registers task.place marks 0) None) = record {
+      block = block_at_rest script.layout task;
       lines = found.0;
-      here = at_rest tasks t here;
+      here = at_rest script.layout tasks t here;
       known = found.1;
       acts = refl;
       ready = ap (λ ended. if ended then stages.Ended else stages.Ready) lives;
       processor = omega (arith, built.one);
-      free = none_on tasks;
+      free = none_on script.layout tasks;
       how_is = how_is ∙ ap (how_of kinds.Task) (sym (rest.marked t)) ∙ ap (λ kind. how_of kind (held history 0 t)) (sym kind);
       quiet = refl;
       signal_is = refl;
@@ -103,17 +103,17 @@ turn_starts script bank last tasks history t how after built rest here lives how
     })
 
 -- marks are given by the rest of the task
-parked_marks : (registers : List ℕ) (place marks : ℕ) → parked (task_with registers place marks) ≡ parked (task_with registers place 0)
+parked_marks : (rows : List Row) (registers : List ℕ) (place marks : ℕ) → parked (task_with rows registers place marks) ≡ parked (task_with rows registers place 0)
 unfolding marks_after
-parked_marks registers place marks = refl
+parked_marks rows registers place marks = refl
 
 -- what was put in a place is there
 set_here : (blocks : List BlockState) (t : ℕ) (block : BlockState) → t < length blocks → slice_get (set blocks t block) t ≡ Some block
 set_here blocks t block here =
     slice_get_read (set blocks t block) (length (set blocks t block)) t block refl (omega (arith, length-set blocks t block)) (sym (get_or-set_same blocks t block block here))
 
-length_at_rest : (tasks : List SavedTask) (t : ℕ) → t < length tasks → t < length (map block_at_rest tasks)
-length_at_rest tasks t here = omega (arith, length-map tasks block_at_rest)
+length_at_rest : (rows : List Row) (tasks : List SavedTask) (t : ℕ) → t < length tasks → t < length (map (block_at_rest rows) tasks)
+length_at_rest rows tasks t here = omega (arith, length-map tasks (block_at_rest rows))
 
 task_here : (tasks : List SavedTask) (t : ℕ) (task : SavedTask) → t < length tasks → task_at (set tasks t task) t ≡ task
 task_here tasks t task here = get_or-set_same tasks t task _ here
@@ -136,14 +136,14 @@ goes_on_below : (ran quantum : ℕ) → goes_on ran quantum ≡ true → ran + 1
 goes_on_below ran quantum is = ltb-true (ran + 1) quantum is
 
 -- the block of a task whose turn has ended
-block_rests : (registers : List ℕ) (place marks : ℕ) (ended : Bool) → block_at_rest (record { registers = registers; place = place; ended = ended }) ≡ record { stage = if ended then stages.Ended else stages.Ready; task = parked (task_with registers place marks); parent = None; pending = [] }
-block_rests registers place marks ended =
-    ap (λ (task : PrivateTask). let block : BlockState = record { stage = if ended then stages.Ended else stages.Ready; task = task; parent = None; pending = [] } in block) (sym (parked_marks registers place marks))
+block_rests : (rows : List Row) (registers : List ℕ) (place marks : ℕ) (ended : Bool) → block_at_rest rows (record { registers = registers; place = place; ended = ended }) ≡ record { stage = if ended then stages.Ended else stages.Ready; task = parked (task_with rows registers place marks); parent = None; pending = [] }
+block_rests rows registers place marks ended =
+    ap (λ (task : PrivateTask). let block : BlockState = record { stage = if ended then stages.Ended else stages.Ready; task = task; parent = None; pending = [] } in block) (sym (parked_marks rows registers place marks))
 
 -- the blocks at rest, where one task is replaced
-rest_of : (tasks : List SavedTask) (t : ℕ) (saved : SavedTask) (turn block : BlockState) → block_at_rest saved ≡ block → map block_at_rest (set tasks t saved) ≡ set (set (map block_at_rest tasks) t turn) t block
-rest_of tasks t saved turn block is =
-    map-set block_at_rest tasks t saved ∙ ap (set (map block_at_rest tasks) t) is ∙ sym (set-set (map block_at_rest tasks) t turn block)
+rest_of : (rows : List Row) (tasks : List SavedTask) (t : ℕ) (saved : SavedTask) (turn block : BlockState) → block_at_rest rows saved ≡ block → map (block_at_rest rows) (set tasks t saved) ≡ set (set (map (block_at_rest rows) tasks) t turn) t block
+rest_of rows tasks t saved turn block is =
+    map-set (block_at_rest rows) tasks t saved ∙ ap (set (map (block_at_rest rows) tasks) t) is ∙ sym (set-set (map (block_at_rest rows) tasks) t turn block)
 
 -- At rest again: the turn's task is saved from the bank.
 rest_after : (script : Script) (bank : List ℕ) (last : Option ℕ) (tasks : List SavedTask) (t : ℕ) (saved : SavedTask) (history : List Event) (lines : Block)
@@ -167,30 +167,30 @@ rest_after script bank last tasks t saved history lines here known all within la
 line_step : (script : Script) (bank : List ℕ) (last : Option ℕ) (tasks : List SavedTask) (history : List Event) (t place ran : ℕ)
     → (turn : IsInTurn script bank last tasks history t place ran)
     → (lines : Block) (order : Order) → slice_get script.blocks t ≡ Some lines → slice_get lines.body place ≡ Some order → ran < script.quantum
-    → (reply : Reply) (after : List ℕ) → BankRuns bank order.command reply after
+    → (reply : Reply) (after : List ℕ) → BankRuns script.layout bank order.command reply after
     → (on : Bool) → goes_on ran script.quantum ≡ on
     → (next : Machine)
-    → next ≡ happened (machine_in_turn script tasks history t (block_in_turn bank place turn.marks ran) turn.committing) (events.Local t order.number reply) t
-    (record { stage = if on then stages.Turn 0 (ran + 1) else stages.Ready; task = if on then task_with after (place + 1) turn.marks else parked (task_with after (place + 1) turn.marks); parent = None; pending = [] })
+    → next ≡ happened (machine_in_turn script tasks history t (block_in_turn script.layout bank place turn.marks ran) turn.committing) (events.Local t order.number reply) t
+    (record { stage = if on then stages.Turn 0 (ran + 1) else stages.Ready; task = if on then task_with script.layout after (place + 1) turn.marks else parked (task_with script.layout after (place + 1) turn.marks); parent = None; pending = [] })
     (if on then Some t else None)
-    → RunsLine (machine_in_turn script tasks history t (block_in_turn bank place turn.marks ran) turn.committing) t order.number reply next
+    → RunsLine (machine_in_turn script tasks history t (block_in_turn script.layout bank place turn.marks ran) turn.committing) t order.number reply next
 line_step script bank last tasks history t place ran turn lines order known at within reply after runs on is next next_is = record {
-  block = block_in_turn bank place turn.marks ran;
+  block = block_in_turn script.layout bank place turn.marks ran;
   lines = lines;
   order = order;
   cpu = 0;
   ran = ran;
-  after = task_with after (place + 1) turn.marks;
-  here = set_here (map block_at_rest tasks) t (block_in_turn bank place turn.marks ran) (length_at_rest tasks t turn.here);
+  after = task_with script.layout after (place + 1) turn.marks;
+  here = set_here (map (block_at_rest script.layout) tasks) t (block_in_turn script.layout bank place turn.marks ran) (length_at_rest script.layout tasks t turn.here);
   known = known;
   acts = turn.acts;
   in_turn = refl;
   within = within;
   at = at;
   line_is = refl;
-  effect = bank_runs bank order.command reply after place turn.marks runs;
-  next = next_is ∙ ap (λ (b : Bool). happened (machine_in_turn script tasks history t (block_in_turn bank place turn.marks ran) turn.committing) (events.Local t order.number reply) t
-      (record { stage = if b then stages.Turn 0 (ran + 1) else stages.Ready; task = if b then task_with after (place + 1) turn.marks else parked (task_with after (place + 1) turn.marks); parent = None; pending = [] })
+  effect = bank_runs script.layout bank order.command reply after place turn.marks runs;
+  next = next_is ∙ ap (λ (b : Bool). happened (machine_in_turn script tasks history t (block_in_turn script.layout bank place turn.marks ran) turn.committing) (events.Local t order.number reply) t
+      (record { stage = if b then stages.Turn 0 (ran + 1) else stages.Ready; task = if b then task_with script.layout after (place + 1) turn.marks else parked (task_with script.layout after (place + 1) turn.marks); parent = None; pending = [] })
       (if b then Some t else None)) (sym is);
 }
 
@@ -198,16 +198,16 @@ line_step script bank last tasks history t place ran turn lines order known at w
 line_by : (script : Script) (bank : List ℕ) (last : Option ℕ) (tasks : List SavedTask) (history : List Event) (t place ran : ℕ)
     → IsInTurn script bank last tasks history t place ran
     → (lines : Block) (order : Order) → slice_get script.blocks t ≡ Some lines → slice_get lines.body place ≡ Some order → ran < script.quantum
-    → (reply : Reply) (after : List ℕ) → BankRuns bank order.command reply after
+    → (reply : Reply) (after : List ℕ) → BankRuns script.layout bank order.command reply after
     → (on : Bool) → goes_on ran script.quantum ≡ on
     → AfterLine script after last tasks (history ++ events.Local t order.number reply ∷ []) t (place + 1) ran (if on then stages.Turn 0 (ran + 1) else stages.Ready)
 line_by script bank last tasks history t place ran turn lines order known at within reply after runs true is =
-    let before = machine_in_turn script tasks history t (block_in_turn bank place turn.marks ran) turn.committing in
+    let before = machine_in_turn script tasks history t (block_in_turn script.layout bank place turn.marks ran) turn.committing in
     let event = events.Local t order.number reply in
-    let next = machine_in_turn script tasks (history ++ event ∷ []) t (block_in_turn after (place + 1) turn.marks (ran + 1)) (Some t) in
+    let next = machine_in_turn script tasks (history ++ event ∷ []) t (block_in_turn script.layout after (place + 1) turn.marks (ran + 1)) (Some t) in
     let step = line_step script bank last tasks history t place ran turn lines order known at within reply after runs true is next
     (ap (λ (blocks : List BlockState). let m : Machine = record { script = script; blocks = blocks; committing = Some t; history = history ++ event ∷ [] } in m)
-    (sym (set-set (map block_at_rest tasks) t (block_in_turn bank place turn.marks ran) (block_in_turn after (place + 1) turn.marks (ran + 1))))) in (
+    (sym (set-set (map (block_at_rest script.layout) tasks) t (block_in_turn script.layout bank place turn.marks ran) (block_in_turn script.layout after (place + 1) turn.marks (ran + 1))))) in (
       refl,
       goes_on_below ran script.quantum is,
       record {
@@ -223,13 +223,13 @@ line_by script bank last tasks history t place ran turn lines order known at wit
       },
     )
 line_by script bank last tasks history t place ran turn lines order known at within reply after runs false is =
-    let before = machine_in_turn script tasks history t (block_in_turn bank place turn.marks ran) turn.committing in
+    let before = machine_in_turn script tasks history t (block_in_turn script.layout bank place turn.marks ran) turn.committing in
     let event = events.Local t order.number reply in
     let saved : SavedTask = record { registers = after; place = place + 1; ended = false } in
     let next = machine_at_rest script (set tasks t saved) (history ++ event ∷ []) in
     let step = line_step script bank last tasks history t place ran turn lines order known at within reply after runs false is next
     (ap (λ (blocks : List BlockState). let m : Machine = record { script = script; blocks = blocks; committing = None; history = history ++ event ∷ [] } in m)
-    (rest_of tasks t saved (block_in_turn bank place turn.marks ran) _ (block_rests after (place + 1) turn.marks false))) in
+    (rest_of script.layout tasks t saved (block_in_turn script.layout bank place turn.marks ran) _ (block_rests script.layout after (place + 1) turn.marks false))) in
     rest_after script after last tasks t saved (history ++ event ∷ []) lines turn.here known turn.known
     (let inside = slice_get_within lines.body place order at in omega arith) turn.last_is refl
     (Run-more (opening script) history before event next turn.run step)
@@ -239,7 +239,7 @@ line_by script bank last tasks history t place ran turn lines order known at wit
 pub turn_line : (script : Script) (bank : List ℕ) (last : Option ℕ) (tasks : List SavedTask) (history : List Event) (t place ran : ℕ)
     → IsInTurn script bank last tasks history t place ran
     → (lines : Block) (order : Order) → slice_get script.blocks t ≡ Some lines → slice_get lines.body place ≡ Some order → ran < script.quantum
-    → (reply : Reply) (after : List ℕ) → BankRuns bank order.command reply after
+    → (reply : Reply) (after : List ℕ) → BankRuns script.layout bank order.command reply after
     → AfterLine script after last tasks (history ++ events.Local t order.number reply ∷ []) t (place + 1) ran (stage_after 0 ran script.quantum)
 turn_line script bank last tasks history t place ran turn lines order known at within reply after runs =
     line_by script bank last tasks history t place ran turn lines order known at within reply after runs (goes_on ran script.quantum) refl
@@ -250,24 +250,24 @@ pub turn_ends : (script : Script) (bank : List ℕ) (last : Option ℕ) (tasks :
     → (lines : Block) → slice_get script.blocks t ≡ Some lines → place ≡ length lines.body → ran < script.quantum
     → IsAtRest script bank last (with_task tasks t bank place true) (history ++ events.End t ∷ [])
 turn_ends script bank last tasks history t place ran turn lines known at_end within =
-    let before = machine_in_turn script tasks history t (block_in_turn bank place turn.marks ran) turn.committing in
+    let before = machine_in_turn script tasks history t (block_in_turn script.layout bank place turn.marks ran) turn.committing in
     let event = events.End t in
     let saved : SavedTask = record { registers = bank; place = place; ended = true } in
     let next = machine_at_rest script (set tasks t saved) (history ++ event ∷ []) in
     let step : Ends before t next = record {
-      block = block_in_turn bank place turn.marks ran;
+      block = block_in_turn script.layout bank place turn.marks ran;
       lines = lines;
       cpu = 0;
       ran = ran;
-      here = set_here (map block_at_rest tasks) t (block_in_turn bank place turn.marks ran) (length_at_rest tasks t turn.here);
+      here = set_here (map (block_at_rest script.layout) tasks) t (block_in_turn script.layout bank place turn.marks ran) (length_at_rest script.layout tasks t turn.here);
       known = known;
       acts = turn.acts;
       in_turn = refl;
       within = within;
       at_end = at_end;
-      outside = root_handling amx_rows;
+      outside = root_handling script.layout;
       next = ap (λ (blocks : List BlockState). let m : Machine = record { script = script; blocks = blocks; committing = None; history = history ++ event ∷ [] } in m)
-          (rest_of tasks t saved (block_in_turn bank place turn.marks ran) _ (block_rests bank place turn.marks true));
+          (rest_of script.layout tasks t saved (block_in_turn script.layout bank place turn.marks ran) _ (block_rests script.layout bank place turn.marks true));
     } in
     rest_after script bank last tasks t saved (history ++ event ∷ []) lines turn.here known turn.known (omega arith) turn.last_is refl
     (Run-more (opening script) history before event next turn.run step)

@@ -2,6 +2,7 @@
 use Rattle.std.proofs.Common.{◌≡◌, ℕ, zero, suc, ◌+◌, ◌-◌, ◌<◌, ◌||◌, Bool, true, false, not, List, [], ◌∷◌, length, set, refl, ap, arith}
 use Rattle.std.specs.Prelude.{Option, Some, map, slice_get, if◌then◌else◌}
 use Rattle.std.specs.List.{list_any}
+use Rattle.xs_base.specs.declared.component.Row.{Row}
 use Rattle.xs_model.specs.declared.script.Block.{Block}
 use Rattle.xs_model.specs.declared.script.Script.{Script}
 use Rattle.xs_model.specs.declared.event.Event.{Event}
@@ -50,15 +51,15 @@ turn_falls script bank last during history tasks t from place registers over kno
 gone : (task : SavedTask) (rest : Bool) → task.ended ≡ true → rest ≡ false → (lives (if task.ended then stages.Ended else stages.Ready) || rest) ≡ false
 gone task rest ended none = rw (ended, none) refl
 
-none_live : (tasks : List SavedTask) → NoneLives tasks → list_any (λ (block : BlockState). lives block.stage) (map block_at_rest tasks) ≡ false
-none_live [] ended = refl
-none_live (task ∷ tasks) ended =
-    gone task _ (ended 0 (omega arith)) (none_live tasks (λ t here. ended (suc t) (omega arith)))
+none_live : (rows : List Row) (tasks : List SavedTask) → NoneLives tasks → list_any (λ (block : BlockState). lives block.stage) (map (block_at_rest rows) tasks) ≡ false
+none_live rows [] ended = refl
+none_live rows (task ∷ tasks) ended =
+    gone task _ (ended 0 (omega arith)) (none_live rows tasks (λ t here. ended (suc t) (omega arith)))
 
 -- Where every task has ended the history is whole.
 pub whole_at_end : (script : Script) (bank : List ℕ) (last : Option ℕ) (tasks : List SavedTask) (history : List Event) → IsAtRest script bank last tasks history → NoneLives tasks → IsWhole script history
 whole_at_end script bank last tasks history rest ended = record {
   machine = machine_at_rest script tasks history;
   legal = rest.run;
-  ended = none_live tasks ended;
+  ended = none_live script.layout tasks ended;
 }

@@ -1,6 +1,6 @@
 -- What `xstate` answers: which command lines it takes, which inputs it accepts, and what it writes for them. All of it
 -- is this project's own.
-use Rattle.std.specs.Prelude.{◌≡◌, ℕ, ◌+◌, ◌≤◌, false, List, [], ◌∷◌, ◌++◌, length, codes, Option, ◌⊎◌}
+use Rattle.std.specs.Prelude.{◌≡◌, ℕ, ◌+◌, ◌<◌, ◌≤◌, false, List, [], ◌∷◌, ◌++◌, length, codes, Option, ◌⊎◌}
 use Rattle.std.specs.Io.KnownBytes.{Appends, Consumes, IsAtEnd}
 use Rattle.xs_io.specs.Causes.{Rose}
 use Rattle.xs_model.specs.declared.script.Script.{Script}
@@ -8,7 +8,10 @@ use Rattle.xs_model.specs.declared.event.Event.{Event}
 use Rattle.xs_model.specs.History.{IsWhole, has_kill}
 use Rattle.xstate.specs.declared.status.Status.{Status}
 use Rattle.xstate.specs.declared.status.Status.TheVariants as statuses
+use Rattle.xstate.specs.declared.refusal.Kind.{Kind}
 use Rattle.xstate.specs.Grammar.{Spells}
+use Rattle.xstate.specs.Refusal.{Refuses}
+use Rattle.xstate.specs.RefusalText.{refusal_text}
 use Rattle.xstate.specs.Text.{history_text}
 use Rattle.xstate.specs.Writing.{AppendsFront}
 
@@ -19,8 +22,8 @@ IsRun words = words ≡ codes "run" ∷ []
 abbrev pub usage_text : List ℕ
 usage_text = codes "usage: xstate run [--tasks] | replay | check | gen N | demo N" ++ 10 ∷ []
 
-abbrev pub refused_text : List ℕ
-refused_text = codes "refused 0 not-built" ++ 10 ∷ []
+abbrev pub too_long_text : List ℕ
+too_long_text = codes "refused 0 too-long" ++ 10 ∷ []
 
 -- the most bytes of a script
 abbrev pub limit : ℕ
@@ -31,8 +34,10 @@ pub record IsAccepted (input : List ℕ) (script : Script) : Type 0 where
   pub short : length input ≤ limit
   pub spelled : Spells input script
 
-abbrev pub IsRefused : List ℕ → Type 0
-IsRefused input = (script : Script) → IsAccepted input script → ⊥
+-- The input is no script, and this line says why: it is longer than a script may be, or one of its lines is refused.
+pub data IsRefused (input : List ℕ) : List ℕ → Type 0 where
+  TooLong : limit < length input → IsRefused input too_long_text
+  ByLine : (number : ℕ) (kind : Kind) → length input ≤ limit → Refuses input number kind → IsRefused input (refusal_text number kind)
 
 -- The input is a script, and the text is that of a whole history of it, without a Kill.
 pub record RunsTo (input text : List ℕ) : Type 0 where
@@ -45,7 +50,7 @@ pub record RunsTo (input text : List ℕ) : Type 0 where
 
 -- the right output for an input
 abbrev pub IsOutput : List ℕ → List ℕ → Type 0
-IsOutput input text = RunsTo input text ⊎ (IsRefused input × (text ≡ refused_text))
+IsOutput input text = RunsTo input text ⊎ IsRefused input text
 
 -- The input was read: to its end, or where it is longer than a script may be until one byte more was taken.
 pub record IsRead (left left' : Option (List ℕ)) (input : List ℕ) : Type 0 where
@@ -62,7 +67,7 @@ pub record TakesAtMost (left left' : Option (List ℕ)) : Type 0 where
 -- How the answer to an input ends, by the status: what was written, and the count of the sink's faults.
 abbrev pub AnswerEnds : List ℕ → Option (List ℕ) → Option (List ℕ) → ℕ → ℕ → Status → Type 0
 AnswerEnds input written written' faults faults' statuses.Done = (faults' ≡ faults) × (text : List ℕ) × RunsTo input text × Appends written written' text
-AnswerEnds input written written' faults faults' statuses.Refused = (faults' ≡ faults) × IsRefused input × Appends written written' refused_text
+AnswerEnds input written written' faults faults' statuses.Refused = (faults' ≡ faults) × (text : List ℕ) × IsRefused input text × Appends written written' text
 AnswerEnds input written written' faults faults' statuses.ReadFault = ⊥
 AnswerEnds input written written' faults faults' statuses.WriteFault = Rose faults faults' × (text : List ℕ) × IsOutput input text × AppendsFront written written' text
 AnswerEnds input written written' faults faults' statuses.NoMemory = (faults' ≡ faults) × (written' ≡ written)

@@ -2,11 +2,11 @@
 -- A task that no turn runs is seen as its saved registers (the bytes of component 1), its place, and whether it has
 -- ended; the task in a turn has its registers in the bank.
 use Rattle.std.specs.Prelude.{◌≡◌, ℕ, ◌+◌, ◌-◌, ◌<◌, ◌≤◌, Bool, true, false, ◌==◌, List, [], ◌∷◌, length, map, replicate, slice_get, slice_index_or, slice_range, slice_set, Option, Some, None, ◌⊎◌, if◌then◌else◌}
+use Rattle.xs_base.specs.declared.component.Row.{Row}
 use Rattle.xs_base.specs.declared.component.Place.{Place}
 use Rattle.xs_base.specs.Bytes.{zeros, splice}
 use Rattle.xs_base.specs.Sets.{has}
 use Rattle.xs_base.specs.Header.{xstate_bv}
-use Rattle.xs_base.specs.Layout.{amx_rows}
 use Rattle.xs_base.specs.File.{with_part}
 use Rattle.xs_base.specs.Register.{IsRegister}
 use Rattle.xs_base.specs.Task.{PrivateTask, root_task, parked}
@@ -20,6 +20,7 @@ use Rattle.xs_model.specs.declared.event.Reply.{Reply}
 use Rattle.xs_model.specs.declared.event.Reply.TheVariants as replies
 use Rattle.xs_model.specs.declared.stage.Stage.{Stage}
 use Rattle.xs_model.specs.declared.stage.Stage.TheVariants as stages
+use Rattle.xs_model.specs.Script.{is_built}
 use Rattle.xs_model.specs.Held.{held}
 use Rattle.xs_model.specs.Machine.{BlockState, Machine, opening, may_act}
 use Rattle.xs_model.specs.History.{Run}
@@ -46,26 +47,26 @@ fresh = record { registers = zeros 256; place = 0; ended = false }
 abbrev pub task_at : List SavedTask → ℕ → SavedTask
 task_at tasks t = slice_index_or tasks t (record { registers = []; place = 0; ended = true })
 
--- What a command does to the bank, and its reply.
-abbrev pub BankRuns : List ℕ → Command → Reply → List ℕ → Type 0
-BankRuns old (commands.Set reg bytes) reply new = (place : Place) × IsRegister amx_rows reg place × (reply ≡ replies.Done) × (new ≡ splice place.offset bytes old)
-BankRuns old (commands.Get reg) reply new = (place : Place) × IsRegister amx_rows reg place × (reply ≡ replies.Bytes (slice_range old place.offset (place.offset + place.len))) × (new ≡ old)
+-- What a command does to the bank, and its reply, on the machine with these rows.
+abbrev pub BankRuns : List Row → List ℕ → Command → Reply → List ℕ → Type 0
+BankRuns rows old (commands.Set reg bytes) reply new = (place : Place) × IsRegister rows reg place × (is_built place ≡ true) × (reply ≡ replies.Done) × (new ≡ splice place.offset bytes old)
+BankRuns rows old (commands.Get reg) reply new = (place : Place) × IsRegister rows reg place × (is_built place ≡ true) × (reply ≡ replies.Bytes (slice_range old place.offset (place.offset + place.len))) × (new ≡ old)
 
 -- the private task with these registers, place and marks: all else is as at the opening
-abbrev pub task_with : List ℕ → ℕ → ℕ → PrivateTask
-task_with registers place marks = record (root_task amx_rows) { file = with_part (root_task amx_rows).file 1 registers; place = place; marks = marks }
+abbrev pub task_with : List Row → List ℕ → ℕ → ℕ → PrivateTask
+task_with rows registers place marks = record (root_task rows) { file = with_part (root_task rows).file 1 registers; place = place; marks = marks }
 
-abbrev pub block_at_rest : SavedTask → BlockState
-block_at_rest task = record { stage = if task.ended then stages.Ended else stages.Ready; task = parked (task_with task.registers task.place 0); parent = None; pending = [] }
+abbrev pub block_at_rest : List Row → SavedTask → BlockState
+block_at_rest rows task = record { stage = if task.ended then stages.Ended else stages.Ready; task = parked (task_with rows task.registers task.place 0); parent = None; pending = [] }
 
-abbrev pub block_in_turn : List ℕ → ℕ → ℕ → ℕ → BlockState
-block_in_turn registers place marks ran = record { stage = stages.Turn 0 ran; task = task_with registers place marks; parent = None; pending = [] }
+abbrev pub block_in_turn : List Row → List ℕ → ℕ → ℕ → ℕ → BlockState
+block_in_turn rows registers place marks ran = record { stage = stages.Turn 0 ran; task = task_with rows registers place marks; parent = None; pending = [] }
 
 abbrev pub machine_at_rest : Script → List SavedTask → List Event → Machine
-machine_at_rest script tasks history = record { script = script; blocks = map block_at_rest tasks; committing = None; history = history }
+machine_at_rest script tasks history = record { script = script; blocks = map (block_at_rest script.layout) tasks; committing = None; history = history }
 
 abbrev pub machine_in_turn : Script → List SavedTask → List Event → ℕ → BlockState → Option ℕ → Machine
-machine_in_turn script tasks history t block committing = record { script = script; blocks = slice_set (map block_at_rest tasks) t block; committing = committing; history = history }
+machine_in_turn script tasks history t block committing = record { script = script; blocks = slice_set (map (block_at_rest script.layout) tasks) t block; committing = committing; history = history }
 
 -- the block was started last
 abbrev pub is_last : Option ℕ → ℕ → Bool
@@ -86,7 +87,7 @@ pub record IsAtRest (script : Script) (bank : List ℕ) (last : Option ℕ) (tas
 pub record IsInTurn (script : Script) (bank : List ℕ) (last : Option ℕ) (tasks : List SavedTask) (history : List Event) (t place ran : ℕ) : Type 0 where
   pub marks : ℕ
   pub committing : Option ℕ
-  pub run : Run (opening script) history (machine_in_turn script tasks history t (block_in_turn bank place marks ran) committing)
+  pub run : Run (opening script) history (machine_in_turn script tasks history t (block_in_turn script.layout bank place marks ran) committing)
   pub acts : may_act committing t ≡ true
   pub last_is : last ≡ Some t
   pub marked : (u : ℕ) → held history 0 u ≡ is_last last u

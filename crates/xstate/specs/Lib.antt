@@ -1,12 +1,18 @@
 -- The definitions of both texts, one file a noun.
 pub mod ScriptLine
 pub mod Reads
-pub mod Grammar
 pub mod Parts
+pub mod Grammar
+pub mod LineOrder
 pub mod Refusal
+pub mod Front
+pub mod Head
+pub mod Body
+pub mod Commands
+pub mod RefusalText
 pub mod Text
 pub mod Engine
 pub mod Writing
+pub mod Statuses
 pub mod Answers
 pub mod Headline
-pub mod Statuses

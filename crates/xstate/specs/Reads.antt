@@ -7,6 +7,11 @@ abbrev pub Reads : {A : Type 0} → (A → List ℕ) → (A → Type 0) → Opti
 Reads {A} text Fits None bytes = (x : A) → Fits x → bytes ≡ text x → ⊥
 Reads text Fits (Some x) bytes = Fits x × (bytes ≡ text x)
 
+-- The same of a reader that answers what it keeps of the value.
+abbrev pub ReadsAs : {A B : Type 0} → (A → List ℕ) → (A → Type 0) → (A → B) → Option B → List ℕ → Type 0
+ReadsAs {A} text Fits keep None bytes = (x : A) → Fits x → bytes ≡ text x → ⊥
+ReadsAs {A} text Fits keep (Some y) bytes = (x : A) × Fits x × (bytes ≡ text x) × (y ≡ keep x)
+
 -- The first line of the bytes is the text of a value that fits, and the rest comes after its line feed.
 abbrev pub IsFirstLine : {A : Type 0} → (A → List ℕ) → (A → Type 0) → A → List ℕ → List ℕ → Type 0
 IsFirstLine text Fits x bytes rest = Fits x × (bytes ≡ text x ++ 10 ∷ rest)

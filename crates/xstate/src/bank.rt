@@ -2,13 +2,14 @@
 
 ghost use Rattle.std.specs.Prelude.{◌≡◌, ◌+◌, ◌≤◌, length, slice_range};
 ghost use Rattle.xs_base.specs.Bytes.{zeros, splice};
-ghost use Rattle.xs_base.specs.Layout.{amx_rows};
-ghost use Rattle.xs_model.specs.Script.{IsCommand};
+ghost use Rattle.xs_base.specs.declared.component.Place.{Place};
+ghost use Rattle.xs_model.specs.Script.{IsCommand, IsBuiltCommand};
 ghost use Rattle.xstate.specs.Engine.{BankRuns};
 
-use crate::register::place_of;
-use xs_base::{Lane, Place};
+use xs_base::{Lane, Place, put};
+use xs_layout::Layout;
 use xs_model::{Command, Reply};
+use xs_regs::place_of_bytes;
 
 /// The sixteen XMM registers, XMM 0 first, 16 bytes each.
 #[derive(Drop)]
@@ -47,34 +48,25 @@ impl Bank {
     }
 
     /// Runs a command, and answers its reply.
-    pub fn run(&mut self, command: &Command) -> Reply
-        requires { IsCommand amx_rows command.now }
-        ensures { BankRuns self.old.registers command.now result self.new.registers }
+    pub fn run(&mut self, layout: &Layout, command: &Command) -> Reply
+        requires known { IsCommand layout.now command.now }
+        requires built { IsBuiltCommand command.now }
+        ensures { BankRuns layout.now self.old.registers command.now result self.new.registers }
     {
         match command {
             Command::Set { reg, bytes } => {
-                let Some(place) = place_of(reg.as_slice()) else {
+                let Some(place) = place_of_bytes(reg.as_slice(), layout) else {
                     unreachable!()
                 };
                 self.write(place, bytes.as_slice());
                 Reply::Done
             }
             Command::Get { reg } => {
-                let Some(place) = place_of(reg.as_slice()) else {
+                let Some(place) = place_of_bytes(reg.as_slice(), layout) else {
                     unreachable!()
                 };
                 Reply::Bytes(self.read(place))
             }
         }
     }
-}
-
-/// Writes bytes over a part of others.
-#[tactic(auto, unfolding(xs_base::specs::Bytes::splice))]
-pub fn put(out: &mut [u8], at: usize, bytes: &[u8])
-    requires { at + length bytes.now ≤ length out.old }
-    ensures written { out.new ≡ splice at bytes.now out.old }
-    ensures len { length out.new ≡ length out.old }
-{
-    out[at..at + bytes.len()].copy_from_slice(bytes);
 }

@@ -114,6 +114,7 @@ impl Engine {
         ran: u32,
     ) -> Result<Stage, AllocError>
         requires valid { IsValid script.now }
+        requires built { IsBuilt script.now }
         requires turn { IsInTurn script.now self.old.bank.registers self.old.last self.old.tasks.items self.old.history task place ran }
         requires line { place < length (body_at script.now task) }
         requires within { ran < script.now.quantum }
@@ -121,7 +122,7 @@ impl Engine {
         ensures tasks { self.new.tasks.items ≡ self.old.tasks.items }
     {
         let order = &lines_of(script, task)[place];
-        let reply = self.bank.run(&order.command);
+        let reply = self.bank.run(&script.layout, &order.command);
         self.history.push(Event::Local {
             task,
             line: order.number,
@@ -133,6 +134,7 @@ impl Engine {
     /// Runs the lines of a turn from a place on, until the quantum is used up or the body ends.
     fn run_lines(&mut self, script: &Script, task: u32, from: usize) -> Result<Pause, AllocError>
         requires valid { IsValid script.now }
+        requires built { IsBuilt script.now }
         requires turn { IsInTurn script.now self.old.bank.registers self.old.last self.old.tasks.items self.old.history task from 0 }
         requires start { from ≤ length (body_at script.now task) }
         ensures after { IfOk result (λ pause. AfterLines script.now self.new.bank.registers self.new.last self.new.tasks.items self.new.history task from pause.place pause.over) }

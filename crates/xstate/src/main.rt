@@ -2,14 +2,19 @@
 #![tactic(auto)]
 
 mod bank;
+mod body;
+mod commands;
 mod engine;
+mod front;
+mod head;
+mod line;
 mod line_reader;
 mod parked;
 mod reader;
 mod reading;
 #[cfg(test)]
 mod reading_tests;
-mod register;
+mod refusal;
 mod status;
 mod text;
 mod top;

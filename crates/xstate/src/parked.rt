@@ -4,11 +4,11 @@ ghost use Rattle.std.specs.Prelude.{◌≡◌, length, IfOk};
 ghost use Rattle.xs_base.specs.Bytes.{splice, zeros};
 ghost use Rattle.xstate.specs.Engine.{registers_in, sse_alone};
 
-use crate::bank::{Bank, put};
+use crate::bank::Bank;
 use std::alloc::{AllocError, Global};
 use std::marker::Model;
 use xs_area::{Area, xstate_bv};
-use xs_base::{Comp, Features};
+use xs_base::{Comp, Features, put};
 
 /// The bytes of the legacy region and the header (SDM volume 1, 13.4).
 const AREA_BYTES: usize = 576;

@@ -1,58 +1,49 @@
-//! The script reader: the one script that a text spells, or none.
+//! The script reader: the one script that a text spells, or its first refusal.
 
-ghost use Rattle.std.specs.Prelude.{◌≡◌, ◌+◌, ◌<◌, ◌≤◌, ◌^◌, ℕ, List, ◌++◌, length, IfOk, IfErr, IsErrOf, MatchOption, IfSome};
-ghost use Rattle.std.specs.List.{list_any};
-ghost use Rattle.std.specs.Str.{bytes_eq};
-ghost use Rattle.xs_model.specs.declared.script.Order.{Order};
-ghost use Rattle.xs_model.specs.declared.script.Block.{Block};
+ghost use Rattle.std.specs.Prelude.{◌≡◌, ℕ, ◌+◌, ◌^◌, ◌<◌, ◌≤◌, List, [], length, IfOk, IfErr};
 ghost use Rattle.xs_model.specs.declared.script.Script.{Script};
+ghost use Rattle.xstate.specs.declared.refusal.Kind.{Kind};
 ghost use Rattle.xstate.specs.Grammar.{Spells};
-ghost use Rattle.xstate.specs.Parts.{body_text, IsBody, block_text, IsBlock, blocks_text, IsProgram, head_then, IsHead};
-ghost use Rattle.xstate.specs.Refusal.{Refuses, ReadsNothing};
+ghost use Rattle.xstate.specs.Refusal.{Refuses, Explains};
+ghost use Rattle.xstate.specs.LineOrder.{AtVersion, AtBlock};
+ghost use Rattle.xstate.specs.Front.{ExplainsFrom};
+ghost use Rattle.xstate.specs.Head.{IsHeadOf};
+ghost use Rattle.xstate.specs.Body.{AreBlocksOf};
 
-use crate::line_reader::{BodyLine, next_body_line, next_count, next_task};
-use crate::words::after;
+use crate::body::Body;
+use crate::commands::first_fault;
+use crate::head::{Head, Stage};
+use crate::refusal::ScriptError;
 use std::alloc::Global;
-use xs_model::{Block, BlockKind, Items, Name, Named, Order, Script};
+use xs_model::{Block, Items, Script};
 
-/// The greatest quantum, in Local events.
-const MOST_QUANTUM: u32 = 32;
-
-/// The most Large save areas.
-const MOST_LARGE: u32 = 64;
-
-/// The most blocks of a script.
-const MOST_BLOCKS: usize = 64;
-
-/// Why no script was read: the text is no script of the forms that are built, or there was no memory.
-#[derive(Debug, Drop)]
-pub enum ScriptError {
-    /// The text is no script of the forms of this version.
-    NotBuilt,
-    /// There was no memory for the script.
-    Memory,
-}
-
-/// The script that the text spells. The text has at most 1,048,576 bytes.
+/// The script that the text spells, which has at most 1,048,576 bytes, or its first refusal. It takes memory for the
+/// blocks and their orders alone.
 pub fn read_script(alloc: Global, text: &[u8]) -> Result<Script, ScriptError>
     requires { length text.now ≤ 1048576 }
     ensures spelled { IfOk result (Spells text.now) }
-    ensures not_built { IsErrOf result ScriptError.NotBuilt → (script : Script) → Spells text.now script → ⊥ }
+    ensures refused { IfErr result (Explains text.now) }
 {
-    let (quantum, large, rest) = match read_head(text) {
-        Some(head) => head,
-        None => return Err(ScriptError::NotBuilt),
+    let (head, number, rest) = match read_head(text) {
+        Ok(read) => read,
+        Err(e) => return Err(e),
     };
-    match read_blocks(alloc, rest) {
-        Ok(blocks) => Ok(Script {
-            machine: Named::Amx,
-            cpus: 1,
-            quantum,
-            large,
-            sched: Items::new(alloc),
-            blocks,
-        }),
-        Err(e) => Err(e),
+    let blocks = match read_blocks(alloc, number, rest) {
+        Ok(blocks) => blocks,
+        Err(e) => return Err(e),
+    };
+    let script = Script {
+        machine: head.machine,
+        layout: head.layout,
+        cpus: 1,
+        quantum: head.quantum,
+        large: head.large,
+        sched: Items::new(alloc),
+        blocks,
+    };
+    match first_fault(&script.layout, script.blocks.as_slice()) {
+        Some((line, kind)) => Err(ScriptError::Refused { line, kind }),
+        None => Ok(script),
     }
 }
 
@@ -61,121 +52,55 @@ pub fn one_script()
     ensures { (text : List ℕ) (a b : Script) → Spells text a → Spells text b → a ≡ b }
 {}
 
-/// The five lines before the blocks: the quantum, the number of Large areas, and the text after them.
-fn read_head(text: &[u8]) -> Option<(u32, u32, &[u8])>
-    ensures head { MatchOption result
-        ((quantum large : ℕ) (rest : List ℕ) → IsHead quantum large → text.now ≡ head_then quantum large rest → ⊥)
-        (λ x. IsHead x.0 x.1 × (text.now ≡ head_then x.0 x.1 x.2.now)) }
-    ensures shorter { IfSome result (λ x. length x.2.now ≤ length text.now) }
-{
-    // The first three lines are those of each script that is built.
-    let rest = after(b"xstate 1\nmachine amx\ncpus 1\n", text)?;
-    let (quantum, rest) = next_count(b"quantum ", rest)?;
-    if quantum < 1 {
-        return None;
-    }
-    if quantum > MOST_QUANTUM {
-        return None;
-    }
-    let (large, rest) = next_count(b"large ", rest)?;
-    if large > MOST_LARGE {
-        return None;
-    }
-    Some((quantum, large, rest))
-}
+/// A text has at most one refusal: one line, and one kind. A call does nothing.
+pub fn one_refusal()
+    ensures { (text : List ℕ) (m n : ℕ) (k j : Kind) → Refuses text m k → Refuses text n j → (m ≡ n) × (k ≡ j) }
+{}
 
-/// The blocks of a script, to the end of the text. The first block's first line is line 6.
-fn read_blocks(alloc: Global, text: &[u8]) -> Result<Items<Block>, ScriptError>
+/// A text that is refused spells no script. A call does nothing.
+pub fn not_both()
+    ensures { (text : List ℕ) (script : Script) (n : ℕ) (k : Kind) → Spells text script → Refuses text n k → ⊥ }
+{}
+
+/// The lines before the blocks, the number of the line after them, and the text from there on.
+fn read_head(text: &[u8]) -> Result<(Head, u32, &[u8]), ScriptError>
     requires { length text.now ≤ 1048576 }
-    ensures blocks { IfOk result (λ blocks. IsProgram blocks × (text.now ≡ blocks_text blocks)) }
-    ensures refused { IfErr result (λ e. Refuses e ((x : List Block) → IsProgram x → text.now ≡ blocks_text x → ⊥)) }
+    ensures head { IfOk result (λ x. IsHeadOf text.now x.0 x.1 x.2.now) }
+    ensures room { IfOk result (λ x. x.1 + length x.2.now ≤ 1 + length text.now) }
+    ensures refused { IfErr result (ExplainsFrom AtVersion 1 text.now) }
 {
-    let mut blocks = Items::new(alloc);
-    let mut number = 6;
+    let mut head = Head::new();
+    let mut number = 1;
     let mut left = text;
-    'each: while !left.is_empty() {
-        if blocks.len() == MOST_BLOCKS {
-            return Err(ScriptError::NotBuilt);
-        }
-        let (block, rest) = match read_block(alloc, number, left) {
-            Ok(read) => read,
+    'lines: while head.stage != Stage::Block {
+        match head.read_line(number, left) {
+            Ok(rest) => left = rest,
             Err(e) => return Err(e),
-        };
-        if has_name(blocks.as_slice(), &block.name) {
-            return Err(ScriptError::NotBuilt);
-        }
-        number += block.body.len() as u32 + 2;
-        match blocks.push(block) {
-            Ok(()) => {}
-            Err(_) => return Err(ScriptError::Memory),
-        }
-        left = rest;
-    }
-    if blocks.is_empty() {
-        return Err(ScriptError::NotBuilt);
-    }
-    Ok(blocks)
-}
-
-/// Whether a block has this name.
-fn has_name(blocks: &[Block], name: &Name) -> bool
-    ensures { result ≡ list_any (λ (block : Block). bytes_eq block.name name.now) blocks.now }
-{
-    let name = name.as_slice();
-    blocks.iter().any(|block| block.name.as_slice() == name)
-}
-
-/// The block that the text begins with, and the text after it. The block's first line has the number `first`.
-fn read_block(alloc: Global, first: u32, text: &[u8]) -> Result<(Block, &[u8]), ScriptError>
-    requires { first + length text.now < 2 ^ 32 }
-    ensures block { IfOk result (λ x. IsBlock first x.0 × (text.now ≡ block_text x.0 ++ x.1.now)) }
-    ensures shorter { IfOk result (λ x. length x.0.body + 2 + length x.1.now ≤ length text.now) }
-    ensures refused { IfErr result (λ e. Refuses e (ReadsNothing block_text (IsBlock first) text.now)) }
-{
-    let (name, rest) = match next_task(text) {
-        Some(task) => task,
-        None => return Err(ScriptError::NotBuilt),
-    };
-    match read_body(alloc, first + 1, rest) {
-        Ok((body, rest)) => {
-            let block = Block {
-                kind: BlockKind::Task,
-                name,
-                body,
-                handler: Items::new(alloc),
-            };
-            Ok((block, rest))
-        }
-        Err(e) => Err(e),
-    }
-}
-
-/// The orders that the text begins with, up to and with the line `end`, and the text after it. The first line has
-/// the number `first`.
-fn read_body(alloc: Global, first: u32, text: &[u8]) -> Result<(Items<Order>, &[u8]), ScriptError>
-    requires { first + length text.now < 2 ^ 32 }
-    ensures body { IfOk result (λ x. IsBody first x.0 × (text.now ≡ body_text x.0 ++ x.1.now)) }
-    ensures shorter { IfOk result (λ x. length x.0 + 1 + length x.1.now ≤ length text.now) }
-    ensures refused { IfErr result (λ e. Refuses e (ReadsNothing body_text (IsBody first) text.now)) }
-{
-    let mut body = Items::new(alloc);
-    let mut number = first;
-    let mut left = text;
-    'lines: loop {
-        let (line, rest) = match next_body_line(left) {
-            Some(next) => next,
-            None => return Err(ScriptError::NotBuilt),
-        };
-        let command = match line {
-            BodyLine::Order(command) => command,
-            BodyLine::End => return Ok((body, rest)),
-        };
-        match body.push(Order { number, command }) {
-            Ok(()) => {}
-            Err(_) => return Err(ScriptError::Memory),
         }
         number += 1;
-        left = rest;
+    }
+    Ok((head, number, left))
+}
+
+/// The blocks that the text is, to its end, where its first line is line `first`.
+fn read_blocks(alloc: Global, first: u32, text: &[u8]) -> Result<Items<Block>, ScriptError>
+    requires { first + length text.now < 2 ^ 32 }
+    ensures blocks { IfOk result (AreBlocksOf first text.now) }
+    ensures refused { IfErr result (ExplainsFrom (AtBlock []) first text.now) }
+{
+    let mut body = Body::new(alloc);
+    let mut number = first;
+    let mut left = text;
+    'lines: while !left.is_empty() {
+        match body.read_line(alloc, number, left) {
+            Ok(rest) => left = rest,
+            Err(e) => return Err(e),
+        }
+        number += 1;
+    }
+    match body.finish(number) {
+        Ok(blocks) => Ok(blocks),
+        Err(e) => Err(e),
     }
 }
 

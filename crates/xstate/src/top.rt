@@ -4,16 +4,19 @@ ghost use Rattle.std.specs.Prelude.{◌≡◌, ℕ, List, ◌⊎◌, ◌↔◌, 
 ghost use Rattle.std.specs.Io.KnownBytes.{Appends};
 ghost use Rattle.xs_io.specs.Causes.{Rose};
 ghost use Rattle.xs_model.specs.Script.{IsValid, IsBuilt};
-ghost use Rattle.xstate.specs.Answers.{IsRun, AnswerEnds, TellEnds, RunEnds, WriteEnds, IsFront, TakesAtMost, Unfailed, usage_text};
-ghost use Rattle.xstate.specs.Headline.{Headline, Refusal, Judges};
+ghost use Rattle.xs_model.specs.declared.script.Script.{Script};
+ghost use Rattle.xstate.specs.Answers.{IsRun, IsAccepted, IsRefused, AnswerEnds, TellEnds, RunEnds, WriteEnds, IsFront, TakesAtMost, Unfailed, usage_text, too_long_text};
+ghost use Rattle.xstate.specs.Headline.{Headline, Refusal, MayRun, MayRefuse};
+ghost use Rattle.xstate.specs.RefusalText.{refusal_text};
 ghost use Rattle.xstate.specs.Text.{AreTasksKnown, history_text};
 
 #[cfg(test)]
 mod tests;
 
 use crate::engine::run;
-use crate::reader::{ScriptError, read_script};
+use crate::reader::read_script;
 use crate::reading::{ReadError, read_up_to};
+use crate::refusal::{Kind, RefusalLine, ScriptError, write_refusal};
 use crate::status::Status;
 use crate::text::write_history;
 use crate::writing::write_all;
@@ -27,8 +30,8 @@ const LIMIT: usize = 1048576;
 /// The line that answers other words than a command.
 const USAGE: &[u8] = b"usage: xstate run [--tasks] | replay | check | gen N | demo N\n";
 
-/// The line that answers what is no script of this version.
-const REFUSED: &[u8] = b"refused 0 not-built\n";
+/// The line that answers an input that is longer than a script may be.
+const TOO_LONG: &[u8] = b"refused 0 too-long\n";
 
 /// Does what the words of the command line ask: `run` reads a script from the source and writes its history to the
 /// sink. `words` is the command line without the program's name.
@@ -46,11 +49,13 @@ pub fn top<S: Source, K: Sink>(
     // 0: what was written is the text of a whole history of the script that was read.
     ensures headline { result ≡ Status.Done → IsRun (map string_bytes words.now)
         × Headline (S.left source.old) (S.left source.new) (K.written sink.old) (K.written sink.new) }
-    // 2: what was read is no script of this version, and one line says so.
+    // 2: what was read is no script, and what was written is the line of its first refusal.
     ensures refused { result ≡ Status.Refused → IsRun (map string_bytes words.now)
         × Refusal (S.left source.old) (S.left source.new) (K.written sink.old) (K.written sink.new) }
-    // A known input is never refused where it is a script, and never run where it is none.
-    ensures exactly { (input : List ℕ) → S.left source.old ≡ Some input → IsRun (map string_bytes words.now) → Judges input result }
+    // A known input that is a script is never refused.
+    ensures runs { (input : List ℕ) (script : Script) → S.left source.old ≡ Some input → IsRun (map string_bytes words.now) → IsAccepted input script → MayRun result }
+    // A known input that is refused by a line is refused by no other, and never run.
+    ensures refuses { (input line : List ℕ) → S.left source.old ≡ Some input → IsRun (map string_bytes words.now) → IsRefused input line → MayRefuse (K.written sink.old) (K.written sink.new) line result }
     // 4: only where the source failed in this call, and nothing was written.
     ensures read_fault { result ≡ Status.ReadFault → Rose (S.fault_count source.old) (S.fault_count source.new)
         × TakesAtMost (S.left source.old) (S.left source.new) × (K.written sink.new ≡ K.written sink.old) }
@@ -93,18 +98,27 @@ fn run_command<S: Source, K: Sink>(alloc: Global, source: &mut S, sink: &mut K) 
     }
 }
 
-/// Answers an input: with its history, or with one line where it is no script of this version.
+/// Answers an input: with its history, or with one line where it is no script.
 fn answer<K: Sink>(alloc: Global, input: &[u8], sink: &mut K) -> Status
     ensures { AnswerEnds input.now (K.written sink.old) (K.written sink.new) (K.fault_count sink.old) (K.fault_count sink.new) result }
 {
     if input.len() > LIMIT {
-        return tell(sink, REFUSED, Status::Refused);
+        return tell(sink, TOO_LONG, Status::Refused);
     }
     match read_script(alloc, input) {
         Ok(script) => write_run(alloc, &script, sink),
-        Err(ScriptError::NotBuilt) => tell(sink, REFUSED, Status::Refused),
+        Err(ScriptError::Refused { line, kind }) => tell_refusal(line, kind, sink),
         Err(ScriptError::Memory) => Status::NoMemory,
     }
+}
+
+/// Writes the line of a refusal.
+fn tell_refusal<K: Sink>(line: u32, kind: Kind, sink: &mut K) -> Status
+    ensures { TellEnds Status.Refused (refusal_text line kind) (K.written sink.old) (K.written sink.new) (K.fault_count sink.old) (K.fault_count sink.new) result }
+{
+    let mut text = RefusalLine::new();
+    write_refusal(line, kind, &mut text);
+    tell(sink, text.as_slice(), Status::Refused)
 }
 
 /// Runs a script and writes its history.

@@ -1,12 +1,14 @@
-//! The words of a line, read: cuts, numbers, names and lanes.
+//! The words of a line, read: cuts, numbers, names, words of registers and hex.
 
-ghost use Rattle.std.specs.Prelude.{◌≡◌, ℕ, ◌^◌, ◌<◌, ◌≤◌, true, List, ◌∷◌, ◌++◌, decimal, MatchOption};
+ghost use Rattle.std.specs.Prelude.{◌≡◌, ℕ, ◌^◌, ◌<◌, ◌≤◌, true, List, ◌∷◌, ◌++◌, length, decimal, MatchOption};
 ghost use Rattle.std.specs.List.{list_all};
 ghost use Rattle.std.specs.Str.{bytes_eq};
 ghost use Rattle.hex.specs.Hex.{encode_lower};
 ghost use Rattle.xs_model.specs.Script.{is_letter, is_letter_or_digit, is_name};
-ghost use Rattle.xstate.specs.Reads.{Reads, Lacks};
-ghost use Rattle.xstate.specs.Parts.{IsLane};
+ghost use Rattle.xstate.specs.Reads.{Reads, ReadsAs, Lacks};
+ghost use Rattle.xstate.specs.ScriptLine.{is_register_byte, is_register_word, kept_bytes};
+ghost use Rattle.xstate.specs.Parts.{IsLane, IsValue, is_lower_digit, is_hex_text};
+ghost use Rattle.xstate.specs.Refusal.{before};
 
 use std::str;
 use xs_base::Lane;
@@ -23,6 +25,16 @@ pub fn cut_at(byte: u8, bytes: &[u8]) -> Option<(&[u8], &[u8])>
         }
     }
     None
+}
+
+/// The bytes before the first `byte`, and all of them where there is none.
+pub fn before(byte: u8, bytes: &[u8]) -> &[u8]
+    ensures { result.now ≡ before byte bytes.now }
+{
+    match cut_at(byte, bytes) {
+        Some((front, _)) => front,
+        None => bytes,
+    }
 }
 
 /// The bytes after the prefix, if they begin with it.
@@ -63,7 +75,18 @@ fn parse_number(bytes: &[u8]) -> Option<u32>
 pub fn read_name(bytes: &[u8]) -> Option<Name>
     ensures { Reads (λ (name : List ℕ). name) (λ name. is_name name ≡ true) result bytes.now }
 {
-    if is_name(bytes) && bytes.len() <= 16 {
+    if is_name(bytes) {
+        Some(Name::from_slice(bytes))
+    } else {
+        None
+    }
+}
+
+/// The word of a register that the bytes are: 1 to 16 letters, digits and points.
+pub fn read_register(bytes: &[u8]) -> Option<Name>
+    ensures { Reads (λ (reg : List ℕ). reg) (λ reg. is_register_word reg ≡ true) result bytes.now }
+{
+    if is_register_word(bytes) {
         Some(Name::from_slice(bytes))
     } else {
         None
@@ -83,7 +106,8 @@ fn is_letter_or_digit(byte: u8) -> bool
 }
 
 fn is_name(bytes: &[u8]) -> bool
-    ensures { result ≡ is_name bytes.now }
+    ensures name { result ≡ is_name bytes.now }
+    ensures short { result ≡ true → length bytes.now ≤ 16 }
 {
     match bytes.split_first() {
         None => false,
@@ -97,8 +121,63 @@ fn are_letters_or_digits(bytes: &[u8]) -> bool
     bytes.iter().all(|b| is_letter_or_digit(*b))
 }
 
+fn is_register_byte(byte: u8) -> bool
+    ensures { result ≡ is_register_byte byte }
+{
+    is_letter_or_digit(byte) || byte == b'.'
+}
+
+fn are_register_bytes(bytes: &[u8]) -> bool
+    ensures { result ≡ list_all is_register_byte bytes.now }
+{
+    bytes.iter().all(|b| is_register_byte(*b))
+}
+
+fn is_register_word(bytes: &[u8]) -> bool
+    ensures word { result ≡ is_register_word bytes.now }
+    ensures short { result ≡ true → length bytes.now ≤ 16 }
+{
+    are_register_bytes(bytes) && 0 < bytes.len() && bytes.len() <= 16
+}
+
+/// The bytes that the text spells in lower-case hex, at least one: none of them where they are more than 64.
+pub fn read_bytes(text: &[u8]) -> Option<Lane>
+    ensures { ReadsAs encode_lower IsValue kept_bytes result text.now }
+{
+    if text.is_empty() {
+        return None;
+    }
+    if text.len() <= 128 {
+        return read_lane(text.len() / 2, text);
+    }
+    if is_hex_text(text) {
+        Some(Lane::from_slice(b""))
+    } else {
+        None
+    }
+}
+
+/// Whether the text is lower-case hex.
+fn is_hex_text(text: &[u8]) -> bool
+    ensures { result ≡ is_hex_text text.now }
+{
+    are_lower_digits(text) && text.len() % 2 == 0
+}
+
+fn is_lower_digit(byte: u8) -> bool
+    ensures { result ≡ is_lower_digit byte }
+{
+    b'0' <= byte && byte <= b'9' || b'a' <= byte && byte <= b'f'
+}
+
+fn are_lower_digits(bytes: &[u8]) -> bool
+    ensures { result ≡ list_all is_lower_digit bytes.now }
+{
+    bytes.iter().all(|b| is_lower_digit(*b))
+}
+
 /// The lane of `len` bytes, at most 64, that the text spells in lower-case hex.
-pub fn read_lane(len: usize, text: &[u8]) -> Option<Lane>
+fn read_lane(len: usize, text: &[u8]) -> Option<Lane>
     requires { len ≤ 64 }
     ensures { Reads encode_lower (IsLane len) result text.now }
 {

@@ -1,55 +1,83 @@
-//! Which texts are scripts.
+//! Which texts are scripts, and what the others are refused with.
 
 use super::*;
+use crate::refusal::{RefusalLine, write_refusal};
 use std::alloc::AllocError;
+use std::str;
 use std::test::Fail;
-use xs_model::Command;
+use xs_model::{BlockKind, Command, Named};
 
 const HEAD: &str = "xstate 1\nmachine amx\ncpus 1\nquantum 4\nlarge 0\n";
 
-/// Whether the text is read as a script; none for want of memory and for a text that is too long.
-fn is_script(alloc: Global, text: &str) -> Option<bool> {
+const AVX: &str = "xstate 1\nmachine avx\ncpus 1\nquantum 4\nlarge 0\n";
+
+const ROWS: &str = "xstate 1\nmachine rows\n";
+
+const LEGACY: &str = "xstate 1\nmachine rows\nrow 0 160 0 0\nrow 1 256 160 0\n";
+
+/// `script`, or the line that tells the refusal, without its line feed.
+fn told(alloc: Global, text: &str) -> Result<String, AllocError> {
     let bytes = text.as_bytes();
     if bytes.len() > 1048576 {
-        return None;
+        return String::from_str(alloc, "too long");
     }
     match read_script(alloc, bytes) {
-        Ok(_) => Some(true),
-        Err(ScriptError::NotBuilt) => Some(false),
-        Err(ScriptError::Memory) => None,
+        Ok(_) => String::from_str(alloc, "script"),
+        Err(ScriptError::Refused { line, kind }) => {
+            let mut out = RefusalLine::new();
+            write_refusal(line, kind, &mut out);
+            let words = str::from_utf8(out.as_slice()).unwrap_or("?");
+            String::from_str(alloc, words.trim_end())
+        }
+        Err(ScriptError::Memory) => String::from_str(alloc, "no memory"),
     }
 }
 
-/// A script with so many empty blocks.
-fn blocks(alloc: Global, count: u32) -> Result<String, AllocError> {
+/// The head with so many empty blocks, b0 and on, and then the tail.
+fn blocks(alloc: Global, count: u32, tail: &str) -> Result<String, AllocError> {
     let mut text = String::from_str(alloc, HEAD)?;
     for i in 0..count {
         let block = format!(in alloc; "task b{i}\nend\n")?;
         text.push_str(block.as_str())?;
     }
+    text.push_str(tail)?;
     Ok(text)
 }
+
+const SCRIPTS: [(&str, &str); 8] = [
+    (HEAD, "task a\nend\n"),
+    (HEAD, "task abcdefghijklmn12\nend\n"),
+    (HEAD, "task a\nget xmm0\nget xmm15\nend\ntask b\nend\n"),
+    (
+        HEAD,
+        "task a\nset xmm9 000102030405060708090a0b0c0d0eff\nend\n",
+    ),
+    (AVX, "task a\nget xmm7\nend\n"),
+    (
+        LEGACY,
+        "cpus 1\nquantum 1\nlarge 64\ntask a\nget xmm0\nend\n",
+    ),
+    (
+        LEGACY,
+        "row 17 64 576 2\nrow 18 8192 640 6\ncpus 1\nquantum 32\nlarge 0\ntask a\nend\n",
+    ),
+    (
+        LEGACY,
+        "row 2 256 16128 0\ncpus 1\nquantum 32\nlarge 0\ntask a\nend\n",
+    ),
+];
 
 #[test]
 fn reads_scripts(rt: HostRuntime) -> Result<(), Fail> {
     let alloc = rt.alloc();
-    for text in [
-        "task a\nend\n",
-        "task abcdefghijklmn12\nend\n",
-        "task a\nget xmm0\nget xmm15\nend\ntask b\nend\n",
-        "task a\nset xmm9 000102030405060708090a0b0c0d0eff\nend\n",
-    ] {
-        let whole = format!(in alloc; "{}{}", HEAD, text)?;
-        assert_eq!(rt; is_script(alloc, whole.as_str()), Some(true), "{text}");
+    for (head, body) in SCRIPTS {
+        let text = format!(in alloc; "{}{}", head, body)?;
+        let got = told(alloc, text.as_str())?;
+        assert_eq!(rt; got.as_str(), "script", "{body}");
     }
-    for text in [
-        "xstate 1\nmachine amx\ncpus 1\nquantum 1\nlarge 64\ntask a\nend\n",
-        "xstate 1\nmachine amx\ncpus 1\nquantum 32\nlarge 0\ntask a\nend\n",
-    ] {
-        assert_eq!(rt; is_script(alloc, text), Some(true), "{text}");
-    }
-    let most = blocks(alloc, 64)?;
-    assert_eq!(rt; is_script(alloc, most.as_str()), Some(true));
+    let most = blocks(alloc, 64, "")?;
+    let got = told(alloc, most.as_str())?;
+    assert_eq!(rt; got.as_str(), "script");
     Ok(())
 }
 
@@ -58,11 +86,17 @@ fn reads_each_part(rt: HostRuntime) -> Result<(), Fail> {
     let alloc = rt.alloc();
     let text =
         b"xstate 1\nmachine amx\ncpus 1\nquantum 4\nlarge 3\ntask a\nget xmm2\nend\ntask b1\nset xmm0 000102030405060708090a0b0c0d0eff\nget xmm0\nend\n";
-    let script = read_script(alloc, text)?;
+    let Ok(script) = read_script(alloc, text) else {
+        return Err(Fail::from("no script"));
+    };
+    assert_eq!(rt; script.machine, Named::Amx);
+    assert_eq!(rt; script.layout.len(), 9);
     assert_eq!(rt; (script.cpus, script.quantum, script.large), (1, 4, 3));
     assert!(rt; script.sched.is_empty());
     let mut numbers = Vec::new(alloc);
     for block in script.blocks.as_slice() {
+        assert_eq!(rt; block.kind, BlockKind::Task);
+        assert!(rt; block.handler.is_empty());
         for order in block.body.as_slice() {
             numbers.push(order.number)?;
             if let Command::Set { reg, bytes } = &order.command {
@@ -76,57 +110,288 @@ fn reads_each_part(rt: HostRuntime) -> Result<(), Fail> {
 }
 
 #[test]
-fn refuses_what_is_no_script(rt: HostRuntime) -> Result<(), Fail> {
+fn reads_tables(rt: HostRuntime) -> Result<(), Fail> {
     let alloc = rt.alloc();
-    for text in [
-        "",
-        "\n",
-        "xstate 1",
-        "xstate 1\nmachine amx\ncpus 1\nquantum 4\nlarge 0\n",
-        "xstate 1\nmachine amx\ncpus 1\nquantum 4\nlarge 0\ntask a\nend",
-        "xstate 2\nmachine amx\ncpus 1\nquantum 4\nlarge 0\ntask a\nend\n",
-        "xstate 1\r\nmachine amx\ncpus 1\nquantum 4\nlarge 0\ntask a\nend\n",
-        "xstate 1\nmachine avx\ncpus 1\nquantum 4\nlarge 0\ntask a\nend\n",
-        "xstate 1\nmachine amx\ncpus 2\nquantum 4\nlarge 0\ntask a\nend\n",
-        "xstate 1\nmachine amx\ncpus 1\nquantum 0\nlarge 0\ntask a\nend\n",
-        "xstate 1\nmachine amx\ncpus 1\nquantum 33\nlarge 0\ntask a\nend\n",
-        "xstate 1\nmachine amx\ncpus 1\nquantum 08\nlarge 0\ntask a\nend\n",
-        "xstate 1\nmachine amx\ncpus 1\nquantum +8\nlarge 0\ntask a\nend\n",
-        "xstate 1\nmachine amx\ncpus 1\nquantum 4294967300\nlarge 0\ntask a\nend\n",
-        "xstate 1\nmachine amx\ncpus 1\nquantum 4\nlarge 65\ntask a\nend\n",
-        "xstate 1\nmachine amx\ncpus 1\nlarge 0\nquantum 4\ntask a\nend\n",
-    ] {
-        assert_eq!(rt; is_script(alloc, text), Some(false), "{text}");
+    let avx = b"xstate 1\nmachine avx\ncpus 1\nquantum 4\nlarge 0\ntask a\nend\n";
+    let rows =
+        b"xstate 1\nmachine rows\nrow 0 160 0 0\nrow 1 256 160 0\nrow 5 64 1000 2\ncpus 1\nquantum 4\nlarge 0\ntask ab\nget xmm1\nend\n";
+    let (Ok(avx), Ok(rows)) = (read_script(alloc, avx), read_script(alloc, rows)) else {
+        return Err(Fail::from("no script"));
+    };
+    assert_eq!(rt; (avx.machine, avx.layout.len()), (Named::Avx, 3));
+    assert_eq!(rt; (rows.machine, rows.layout.len()), (Named::Rows, 3));
+    if rows.layout.len() == 3 {
+        let last = rows.layout.row_at(2);
+        assert_eq!(rt;
+            (last.comp.0, last.size, last.offset, last.flags),
+            (5, 64, 1000, 2)
+        );
     }
-    for text in [
-        "task a\nget  xmm0\nend\n",
-        "task a\nget xmm0 \nend\n",
-        "task a\nget xmm16\nend\n",
-        "task a\nget xmm00\nend\n",
-        "task a\nget ymm0\nend\n",
+    for block in rows.blocks.as_slice() {
+        assert_eq!(rt; block.name.as_slice(), b"ab".as_slice());
+        for order in block.body.as_slice() {
+            assert_eq!(rt; order.number, 10);
+        }
+    }
+    Ok(())
+}
+
+const SPELLINGS: [(&str, &str); 14] = [
+    ("", "refused 1 bad-line"),
+    ("\n", "refused 1 bad-line"),
+    ("xstate 1", "refused 1 bad-line"),
+    ("xstate 2\n", "refused 1 bad-line"),
+    ("machine amx\n", "refused 1 bad-line"),
+    ("xstate 1\r\n", "refused 1 bad-line"),
+    ("xstate 1\n", "refused 2 bad-line"),
+    ("xstate 1\nxstate 1\n", "refused 2 bad-line"),
+    ("xstate 1\nmachine amx\n", "refused 3 bad-line"),
+    (
+        "xstate 1\nmachine amx\nrow 0 160 0 0\n",
+        "refused 3 bad-line",
+    ),
+    ("xstate 1\nmachine amx\ncpus 01\n", "refused 3 bad-line"),
+    ("xstate 1\nmachine amx\nquantum 4\n", "refused 3 bad-line"),
+    (
+        "xstate 1\nmachine amx\ncpus 1\ncpus 1\n",
+        "refused 4 bad-line",
+    ),
+    (
+        "xstate 1\nmachine amx\ncpus 1\nquantum 4294967296\n",
+        "refused 4 bad-line",
+    ),
+];
+
+#[test]
+fn refuses_by_spelling_and_order(rt: HostRuntime) -> Result<(), Fail> {
+    for (text, want) in SPELLINGS {
+        let got = told(rt.alloc(), text)?;
+        assert_eq!(rt; got.as_str(), want, "{text}");
+    }
+    Ok(())
+}
+
+const BODIES: [(&str, &str); 15] = [
+    ("", "refused 6 bad-line"),
+    ("end\n", "refused 6 bad-line"),
+    ("get xmm0\n", "refused 6 bad-line"),
+    ("large 0\n", "refused 6 bad-line"),
+    ("task A\n", "refused 6 bad-line"),
+    ("task a\n", "refused 7 bad-line"),
+    ("task a\nend", "refused 7 bad-line"),
+    ("task a\ntask b\n", "refused 7 bad-line"),
+    ("task a\nget  xmm0\nend\n", "refused 7 bad-line"),
+    ("task a\nget xmm0\n", "refused 8 bad-line"),
+    ("task a\nend\nend\n", "refused 8 bad-line"),
+    ("task a\nend\n\n", "refused 8 bad-line"),
+    ("task a\nend\nget xmm0\n", "refused 8 bad-line"),
+    ("task a\nend\ntask b\n", "refused 9 bad-line"),
+    ("task a\nend\ntask a\n", "refused 8 repeated"),
+];
+
+#[test]
+fn refuses_blocks(rt: HostRuntime) -> Result<(), Fail> {
+    let alloc = rt.alloc();
+    for (body, want) in BODIES {
+        let text = format!(in alloc; "{}{}", HEAD, body)?;
+        let got = told(alloc, text.as_str())?;
+        assert_eq!(rt; got.as_str(), want, "{body}");
+    }
+    for (tail, want) in [
+        ("task z\n", "refused 134 limit blocks"),
+        ("task b0\n", "refused 134 limit blocks"),
+        ("get xmm0\n", "refused 134 bad-line"),
+        ("sched 0\n", "refused 134 not-built"),
+    ] {
+        let text = blocks(alloc, 64, tail)?;
+        let got = told(alloc, text.as_str())?;
+        assert_eq!(rt; got.as_str(), want, "{tail}");
+    }
+    Ok(())
+}
+
+const LIMITS: [(&str, &str); 14] = [
+    ("sched 0\n", "refused 1 not-built"),
+    ("yield", "refused 1 not-built"),
+    ("perm  what ever \n", "refused 1 not-built"),
+    ("sched0\n", "refused 1 bad-line"),
+    ("cpus 2\n", "refused 1 not-built"),
+    ("cpus 17\n", "refused 1 bad-line"),
+    ("cpus 2 \n", "refused 1 bad-line"),
+    ("xstate 1\nmachine amx\ncpus 2\n", "refused 3 not-built"),
+    ("xstate 1\nmachine amx\ncpus 16", "refused 3 not-built"),
+    ("xstate 1\nmachine amx\ncpus 0\n", "refused 3 limit cpus"),
+    ("xstate 1\nmachine amx\ncpus 17\n", "refused 3 limit cpus"),
+    (
+        "xstate 1\nmachine amx\ncpus 1\nquantum 0\n",
+        "refused 4 limit quantum",
+    ),
+    (
+        "xstate 1\nmachine amx\ncpus 1\nquantum 33\n",
+        "refused 4 limit quantum",
+    ),
+    (
+        "xstate 1\nmachine amx\ncpus 1\nquantum 4\nlarge 65\n",
+        "refused 5 limit large",
+    ),
+];
+
+#[test]
+fn refuses_limits_and_forms(rt: HostRuntime) -> Result<(), Fail> {
+    for (text, want) in LIMITS {
+        let got = told(rt.alloc(), text)?;
+        assert_eq!(rt; got.as_str(), want, "{text}");
+    }
+    Ok(())
+}
+
+const ROW_LINES: [(&str, &str); 20] = [
+    ("", "refused 2 layout legacy-missing"),
+    ("cpus 1\n", "refused 2 layout legacy-missing"),
+    ("cpus 2\n", "refused 2 layout legacy-missing"),
+    ("sched\n", "refused 2 layout legacy-missing"),
+    ("what\n", "refused 2 layout legacy-missing"),
+    ("rows\n", "refused 2 layout legacy-missing"),
+    ("row 0 160 0 0\n", "refused 2 layout legacy-missing"),
+    ("row 0 160 0 0\nwhat\n", "refused 2 layout legacy-missing"),
+    ("row\n", "refused 3 bad-line"),
+    ("row", "refused 3 bad-line"),
+    ("row 0 160 0\n", "refused 3 bad-line"),
+    ("row 0 160 0 0", "refused 3 bad-line"),
+    ("row 3 64 576 0\n", "refused 3 layout unknown-component"),
+    ("row 256 160 0 0\n", "refused 3 layout unknown-component"),
+    (
+        "row 4294967295 0 0 0\n",
+        "refused 3 layout unknown-component",
+    ),
+    ("row 0 0 0 0\n", "refused 3 layout size-zero"),
+    ("row 0 161 0 0\n", "refused 3 layout size-wrong"),
+    ("row 0 160 1 0\n", "refused 3 layout size-wrong"),
+    ("row 0 160 0 1\n", "refused 3 layout flags-wrong"),
+    (
+        "row 1 256 160 0\nrow 0 160 0 0\n",
+        "refused 4 layout repeated",
+    ),
+];
+
+#[test]
+fn refuses_rows(rt: HostRuntime) -> Result<(), Fail> {
+    let alloc = rt.alloc();
+    for (rows, want) in ROW_LINES {
+        let text = format!(in alloc; "{}{}", ROWS, rows)?;
+        let got = told(alloc, text.as_str())?;
+        assert_eq!(rt; got.as_str(), want, "{rows}");
+    }
+    Ok(())
+}
+
+const TABLES: [(&str, &str); 16] = [
+    ("", "refused 5 bad-line"),
+    ("what\n", "refused 5 bad-line"),
+    ("row\n", "refused 5 bad-line"),
+    ("cpus 2\n", "refused 5 not-built"),
+    ("cpus 17\n", "refused 5 limit cpus"),
+    ("cpus 1\nrow 2 256 576 0\n", "refused 6 bad-line"),
+    ("row 1 256 160 0\n", "refused 5 layout repeated"),
+    ("row 2 256 16129 0\n", "refused 5 layout too-large"),
+    ("row 2 256 575 0\n", "refused 5 layout overlap"),
+    (
+        "row 2 256 576 0\nrow 5 64 831 0\n",
+        "refused 6 layout overlap",
+    ),
+    ("row 17 64 576 2\ncpus 1\n", "refused 2 layout tile-alone"),
+    ("row 17 64 576 2\n", "refused 2 layout tile-alone"),
+    ("row 17 64 576 2\nsched 0\n", "refused 2 layout tile-alone"),
+    ("row 17 64 576 2\nrow 17\n", "refused 6 bad-line"),
+    ("row 18 8192 576 6\n\n", "refused 2 layout tile-alone"),
+    ("row 18 8192 576 4\n\n", "refused 2 layout tile-alone"),
+];
+
+#[test]
+fn refuses_tables(rt: HostRuntime) -> Result<(), Fail> {
+    let alloc = rt.alloc();
+    for (rows, want) in TABLES {
+        let text = format!(in alloc; "{}{}", LEGACY, rows)?;
+        let got = told(alloc, text.as_str())?;
+        assert_eq!(rt; got.as_str(), want, "{rows}");
+    }
+    Ok(())
+}
+
+const REGISTERS: [(&str, &str, &str); 15] = [
+    (HEAD, "task a\nget ymm0\nend\n", "refused 7 unknown-name"),
+    (HEAD, "task a\nget xmm16\nend\n", "refused 7 unknown-name"),
+    (HEAD, "task a\nget xmm00\nend\n", "refused 7 unknown-name"),
+    (HEAD, "task a\nget ymmh0\nend\n", "refused 7 not-built"),
+    (HEAD, "task a\nget mxcsr\nend\n", "refused 7 not-built"),
+    (HEAD, "task a\nget tmm7.15\nend\n", "refused 7 not-built"),
+    (AVX, "task a\nget ymmh0\nend\n", "refused 7 not-built"),
+    (AVX, "task a\nget k0\nend\n", "refused 7 unknown-name"),
+    (HEAD, "task a\nset ymm0 00\nend\n", "refused 7 unknown-name"),
+    (HEAD, "task a\nset ymmh0 00\nend\n", "refused 7 not-built"),
+    (HEAD, "task a\nset xmm0 00\nend\n", "refused 7 bad-line"),
+    (
+        HEAD,
         "task a\nset xmm0 000102030405060708090a0b0c0d0e\nend\n",
-        "task a\nset xmm0 000102030405060708090a0b0c0d0e0f10\nend\n",
-        "task a\nset xmm0 000102030405060708090A0B0C0D0E0F\nend\n",
-        "task a\nset xmm0\nend\n",
-        "task a\r\nend\n",
-        "task a\nend\r\n",
-        "task a\n\nend\n",
-        "task 1a\nend\n",
-        "task A\nend\n",
-        "task \nend\n",
-        "task abcdefghijklmn123\nend\n",
-        "task a\nend\ntask a\nend\n",
-        "get xmm0\ntask a\nend\n",
-        "task a\nend\nget xmm0\n",
-        "task a\ntask b\nend\nend\n",
-        "task a\nend\nend\n",
-        "task a\nend\n\n",
-        "task a\nend\ntask b\n",
-    ] {
-        let whole = format!(in alloc; "{}{}", HEAD, text)?;
-        assert_eq!(rt; is_script(alloc, whole.as_str()), Some(false), "{text}");
+        "refused 7 bad-line",
+    ),
+    (
+        HEAD,
+        "task a\nget ymmh0\nget ymm0\nend\n",
+        "refused 7 not-built",
+    ),
+    (
+        HEAD,
+        "task a\nend\ntask b\nget xmm1\nget ymm0\nget ymmh0\nend\n",
+        "refused 10 unknown-name",
+    ),
+    (
+        LEGACY,
+        "cpus 1\nquantum 1\nlarge 0\ntask a\nget ymmh0\nend\n",
+        "refused 9 unknown-name",
+    ),
+];
+
+#[test]
+fn refuses_registers(rt: HostRuntime) -> Result<(), Fail> {
+    let alloc = rt.alloc();
+    for (head, body, want) in REGISTERS {
+        let text = format!(in alloc; "{}{}", head, body)?;
+        let got = told(alloc, text.as_str())?;
+        assert_eq!(rt; got.as_str(), want, "{body}");
     }
-    let many = blocks(alloc, 65)?;
-    assert_eq!(rt; is_script(alloc, many.as_str()), Some(false));
+    Ok(())
+}
+
+#[test]
+fn refuses_by_the_first_pass_first(rt: HostRuntime) -> Result<(), Fail> {
+    let alloc = rt.alloc();
+    for (body, want) in [
+        ("task a\nget ymm0\nend\ntask a\nend\n", "refused 9 repeated"),
+        ("task a\nget ymm0\nend", "refused 8 bad-line"),
+        ("task a\nget ymm0\nyield\nend\n", "refused 8 not-built"),
+        ("task a\nset xmm0 00\nget\n", "refused 8 bad-line"),
+    ] {
+        let text = format!(in alloc; "{}{}", HEAD, body)?;
+        let got = told(alloc, text.as_str())?;
+        assert_eq!(rt; got.as_str(), want, "{body}");
+    }
+    Ok(())
+}
+
+/// A value of more bytes than a register has, and far more than a lane keeps.
+#[test]
+fn refuses_long_values(rt: HostRuntime) -> Result<(), Fail> {
+    let alloc = rt.alloc();
+    for count in [64, 65, 1000] {
+        let mut text = String::from_str(alloc, HEAD)?;
+        text.push_str("task a\nset xmm0 ")?;
+        for _ in 0..count {
+            text.push_str("00")?;
+        }
+        text.push_str("\nend\n")?;
+        let got = told(alloc, text.as_str())?;
+        assert_eq!(rt; got.as_str(), "refused 7 bad-line");
+    }
     Ok(())
 }

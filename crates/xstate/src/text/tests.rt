@@ -7,6 +7,7 @@ use super::*;
 use std::alloc::{AllocError, Global};
 use std::process::Abort;
 use std::test::Fail;
+use xs_layout::Layout;
 use xs_model::{Block, BlockKind, Items, Name, Named};
 
 fn block(alloc: Global, kind: BlockKind, name: &[u8]) -> Block
@@ -31,6 +32,7 @@ fn four_blocks(alloc: Global) -> Result<Script, AllocError>
     blocks.push(block(alloc, BlockKind::Child, b"p"))?;
     Ok(Script {
         machine: Named::Amx,
+        layout: Layout::amx(),
         cpus: 16,
         quantum: 32,
         large: 64,

@@ -26,7 +26,31 @@ const ALONE_HISTORY: &str =
 const KERNEL_THREAD: &str =
     "xstate 1\nmachine amx\ncpus 1\nquantum 2\nlarge 0\ntask a\nset k0 0102030405060708\nyield\nget k0\nend\nkthread k\nyield\nend\n";
 
-const NOT_BUILT: &str = "refused 0 not-built\n";
+const OVERLAPPING_ROWS: &str =
+    "xstate 1\nmachine rows\nrow 0 160 0 0\nrow 1 256 160 0\nrow 2 256 512 0\ncpus 1\nquantum 8\nlarge 0\ntask a\nend\n";
+
+const X87_ALONE: &str = "xstate 1\nmachine rows\nrow 0 160 0 0\ncpus 1\n";
+
+const LONE_TILE: &str =
+    "xstate 1\nmachine rows\nrow 0 160 0 0\nrow 1 256 160 0\nrow 17 64 576 2\ncpus 1\n";
+
+const MASK_ON_AVX: &str =
+    "xstate 1\nmachine avx\ncpus 1\nquantum 8\nlarge 0\ntask a\nget k0\nend\n";
+
+const NO_SUCH_REGISTER: &str =
+    "xstate 1\nmachine amx\ncpus 1\nquantum 8\nlarge 0\ntask a\nget xmm16\nend\n";
+
+const LONG_QUANTUM: &str =
+    "xstate 1\nmachine amx\ncpus 1\nquantum 33\nlarge 0\ntask a\nget xmm0\nend\n";
+
+const SAME_NAME: &str =
+    "xstate 1\nmachine amx\ncpus 1\nquantum 8\nlarge 0\ntask a\nget xmm0\nend\ntask a\nend\n";
+
+const ONE_REGISTER_ON_ROWS: &str =
+    "xstate 1\nmachine rows\nrow 0 160 0 0\nrow 1 256 160 0\nrow 2 256 1024 2\ncpus 1\nquantum 8\nlarge 0\ntask a\nget xmm0\nend\n";
+
+const ONE_REGISTER_ON_ROWS_HISTORY: &str =
+    "start a 0 load -\nlocal a 10 =00000000000000000000000000000000\nend a\n";
 
 const USAGE_LINE: &str = "usage: xstate run [--tasks] | replay | check | gen N | demo N\n";
 
@@ -57,8 +81,56 @@ fn worked_examples(rt: HostRuntime) -> Result<(), Fail> {
         ("run", ONE_REGISTER, Status::Done, ONE_REGISTER_HISTORY),
         ("run", TWO_TASKS, Status::Done, TWO_TASKS_HISTORY),
         ("run", ALONE, Status::Done, ALONE_HISTORY),
-        ("run", "", Status::Refused, NOT_BUILT),
-        ("run", KERNEL_THREAD, Status::Refused, NOT_BUILT),
+        (
+            "run",
+            ONE_REGISTER_ON_ROWS,
+            Status::Done,
+            ONE_REGISTER_ON_ROWS_HISTORY,
+        ),
+        ("run", "", Status::Refused, "refused 1 bad-line\n"),
+        (
+            "run",
+            KERNEL_THREAD,
+            Status::Refused,
+            "refused 8 not-built\n",
+        ),
+        (
+            "run",
+            OVERLAPPING_ROWS,
+            Status::Refused,
+            "refused 5 layout overlap\n",
+        ),
+        (
+            "run",
+            X87_ALONE,
+            Status::Refused,
+            "refused 2 layout legacy-missing\n",
+        ),
+        (
+            "run",
+            LONE_TILE,
+            Status::Refused,
+            "refused 2 layout tile-alone\n",
+        ),
+        (
+            "run",
+            MASK_ON_AVX,
+            Status::Refused,
+            "refused 7 unknown-name\n",
+        ),
+        (
+            "run",
+            NO_SUCH_REGISTER,
+            Status::Refused,
+            "refused 7 unknown-name\n",
+        ),
+        (
+            "run",
+            LONG_QUANTUM,
+            Status::Refused,
+            "refused 4 limit quantum\n",
+        ),
+        ("run", SAME_NAME, Status::Refused, "refused 9 repeated\n"),
         ("run now", ONE_REGISTER, Status::Usage, USAGE_LINE),
         ("run --tasks", ONE_REGISTER, Status::Usage, USAGE_LINE),
         ("", ONE_REGISTER, Status::Usage, USAGE_LINE),
@@ -86,11 +158,13 @@ fn faults_are_told(rt: HostRuntime) -> Result<(), Fail> {
     );
     let refused = call(rt.alloc(), "run", "", &[], &[1])?;
     assert_eq!(rt; refused.0, Status::WriteFault);
+    assert_eq!(rt; refused.1.len(), 0);
     let usage = call(rt.alloc(), "help", "", &[1], &[1])?;
     assert_eq!(rt; usage.0, Status::WriteFault);
     Ok(())
 }
 
+/// A front of a long text is a text that is too long, whatever it spells.
 #[test]
 fn a_longer_input_is_refused(rt: HostRuntime) -> Result<(), Fail> {
     let mut text = String::from_str(rt.alloc(), ONE_REGISTER)?;
@@ -99,6 +173,6 @@ fn a_longer_input_is_refused(rt: HostRuntime) -> Result<(), Fail> {
     }
     let answer = call(rt.alloc(), "run", text.as_str(), &[], &[])?;
     assert_eq!(rt; answer.0, Status::Refused);
-    assert_eq!(rt; answer.1.as_slice(), NOT_BUILT.as_bytes());
+    assert_eq!(rt; answer.1.as_slice(), b"refused 0 too-long\n".as_slice());
     Ok(())
 }

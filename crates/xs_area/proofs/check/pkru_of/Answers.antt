@@ -1,4 +1,4 @@
-use Rattle.std.proofs.Common.{◌+◌, ◌≤◌, true, refl, sym, ap, arith, ◌∙◌}
+use Rattle.std.proofs.Common.{◌+◌, ◌≤◌, true, refl, ap, arith, ◌∙◌}
 use Rattle.xs_base.specs.Component.{component_size}
 use Rattle.xs_base.specs.Layout.{full_size}
 use Rattle.xs_base.proofs.ComponentLemmas.{pkru_size}

@@ -1,4 +1,4 @@
-use Rattle.std.proofs.Common.{◌≡◌, ◌∙◌, ◌<◌, length, sym, refl, arith}
+use Rattle.std.proofs.Common.{◌∙◌, ◌<◌, length, sym, refl, arith}
 use Rattle.std.proofs.lemmas.Option.{slice_get_read}
 use Rattle.xs_base.specs.Header.{xcomp_bv}
 use Rattle.xs_area.proofs.CursorLemmas.{IsBefore, before_first, before_small, before_place}

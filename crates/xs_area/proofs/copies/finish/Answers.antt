@@ -1,5 +1,4 @@
 use Rattle.std.proofs.Common.{arith}
-use Rattle.xs_area.specs.Copy.{IsFinished}
 use Rattle.xs_area.proofs.FinishLemmas.{finished}
 use Rattle.xs_area.proofs.copies.finish.Goals as goal
 

@@ -1,4 +1,4 @@
-use Rattle.std.proofs.Common.{◌≡◌, ◌∙◌, sym, ap, true, false, refl, Bool, ◌&&◌, ◌||◌, ◌==◌}
+use Rattle.std.proofs.Common.{◌≡◌, ◌∙◌, sym, true, false, refl, Bool, ◌&&◌, ◌||◌, ◌==◌}
 use Rattle.xs_base.specs.Sets.{has}
 use Rattle.xs_area.proofs.RoomLemmas.{has_more}
 use Rattle.xs_area.proofs.copies.with.Goals as goal

@@ -1,12 +1,11 @@
-use Rattle.std.proofs.Common.{◌≡◌, ◌∙◌, ◌+◌, ◌<◌, ◌≤◌, length, refl, sym, ap, arith}
+use Rattle.std.proofs.Common.{◌∙◌, ◌+◌, ◌<◌, ◌≤◌, length, refl, sym, ap, arith}
 use Rattle.std.proofs.lemmas.Option.{slice_get_read}
-use Rattle.xs_base.specs.Compact.{place}
 use Rattle.xs_base.specs.Header.{xcomp_bv}
 use Rattle.xs_base.specs.Layout.{standard_size}
 use Rattle.xs_base.specs.Sets.{has}
 use Rattle.xs_base.proofs.SizeLemmas.{end_covers, end_low}
 use Rattle.xs_area.proofs.CursorLemmas.{before_small, before_place}
-use Rattle.xs_area.proofs.HeldLemmas.{held_first, held_written, held_left, held_all}
+use Rattle.xs_area.proofs.HeldLemmas.{held_written, held_left, held_all}
 use Rattle.xs_area.proofs.standard.put_components.Goals as goal
 use Rattle.xs_area.proofs.standard.put_components.Goals.{then-has, else-has}
 

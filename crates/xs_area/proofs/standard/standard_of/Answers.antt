@@ -3,7 +3,7 @@ use Rattle.xs_base.specs.Area.{control_in}
 use Rattle.xs_base.specs.File.{with_pkru}
 use Rattle.xs_base.specs.Sets.{has}
 use Rattle.xs_base.proofs.SizeLemmas.{end_low}
-use Rattle.xs_area.proofs.HeldLemmas.{standard_with, standard_without}
+use Rattle.xs_area.proofs.HeldLemmas.{standard_with}
 use Rattle.xs_area.proofs.standard.standard_of.Goals as goal
 
 pub put_control-requires : goal.put_control-requires

@@ -1,4 +1,4 @@
-use Rattle.xstate.proofs.Scripts.{one_script}
+use Rattle.xstate.proofs.SpelledLines.{one_script}
 use Rattle.xstate.proofs.reader.one_script.Goals as goal
 
 pub returns : goal.returns

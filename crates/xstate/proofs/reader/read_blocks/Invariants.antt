@@ -1,20 +1,17 @@
--- The text is the blocks so far and what is left, and the blocks so far fit.
-use Rattle.std.proofs.Common.{◌≡◌, ◌+◌, ◌≤◌, ◌++◌, length, map}
-use Rattle.xs_model.specs.declared.script.Block.{Block}
-use Rattle.xs_model.specs.Script.{AreDistinct}
-use Rattle.xstate.specs.Parts.{blocks_text, AreBlocks}
-use Rattle.xstate.proofs.Blocks.{line_after}
+-- The blocks have what is kept of the lines so far, and what is left comes after them.
+use Rattle.std.proofs.Common.{◌≡◌, ◌+◌, ◌≤◌, [], length}
+use Rattle.xstate.specs.LineOrder.{AtBlock}
+use Rattle.xstate.specs.Front.{IsKeptFront}
+use Rattle.xstate.specs.Body.{AreBlocks, blocks_of, body_stand, lines_of_body}
 use Rattle.xstate.proofs.reader.read_blocks.Given as goal
 
-abbrev pub invariant-each : goal.invariant-each
-invariant-each l = record {
-  parts : l.text ≡ blocks_text l.blocks ++ l.left;
-  fits : AreBlocks 6 l.blocks;
-  few : length l.blocks ≤ 64;
-  distinct : AreDistinct (map (λ (block : Block). block.name) l.blocks);
-  count : l.number ≡ line_after 6 l.blocks;
-  room : l.number + length l.left ≤ 6 + length l.text;
+abbrev pub invariant-lines : goal.invariant-lines
+invariant-lines l = record {
+  fits : AreBlocks l.first (blocks_of l.body);
+  front : IsKeptFront (AtBlock []) l.text (lines_of_body l.body) (body_stand l.body) l.left;
+  next : l.number ≡ l.first + length (lines_of_body l.body);
+  room : l.number + length l.left ≤ l.first + length l.text;
 }
 
-abbrev pub decreases-each : goal.decreases-each
-decreases-each l = length l.left
+abbrev pub decreases-lines : goal.decreases-lines
+decreases-lines l = length l.left

@@ -1,17 +1,17 @@
-use Rattle.std.proofs.Common.{refl}
-use Rattle.xstate.specs.Parts.{blocks_text}
-use Rattle.xstate.proofs.Scripts.{IsHead-spelled, text_spelled, Spells-parts, no_script}
-use Rattle.xstate.proofs.Blocks.{refused}
+use Rattle.xstate.proofs.WholeScripts.{blocks_refuse, read_spells, read_refuses}
 use Rattle.xstate.proofs.reader.read_script.Goals as goal
 
-pub returns-in-None-clause-not_built : goal.returns-in-None-clause-not_built
-returns-in-None-clause-not_built c is script h =
-    c.in-None.ensures.head script.quantum script.large (blocks_text script.blocks) (IsHead-spelled c.args.text.now script h) (text_spelled c.args.text.now script h)
+pub returns-in-Err-read_blocks-clause-refused : goal.returns-in-Err-read_blocks-clause-refused
+returns-in-Err-read_blocks-clause-refused c =
+    let read = c.in-Ok.read in
+    blocks_refuse c.args.text.now read.2.now read.0 read.1 c.in-Err-read_blocks.e c.in-Ok.ensures.head c.in-Err-read_blocks.ensures.refused
 
-pub returns-in-Ok-clause-spelled : goal.returns-in-Ok-clause-spelled
-returns-in-Ok-clause-spelled c =
-    Spells-parts c.args.text.now c.in-Some.head.2.now c.in-Some.head.0 c.in-Some.head.1 c.new.result c.in-Ok.blocks c.in-Some.ensures.head.0 c.in-Some.ensures.head.1 c.in-Ok.ensures.blocks.0 c.in-Ok.ensures.blocks.1 c.new.ensures
+pub returns-in-Some-clause-refused : goal.returns-in-Some-clause-refused
+returns-in-Some-clause-refused c =
+    let read = c.in-Ok.read in
+    read_refuses c.args.text.now read.2.now read.0 read.1 c.new.result c.in-Ok-read_blocks.blocks c.in-Some.line c.in-Some.kind c.in-Ok.ensures.head c.in-Ok-read_blocks.ensures.blocks (rw c.as_slice.ensures at c.in-Some.ensures)
 
-pub returns-in-Err-clause-not_built : goal.returns-in-Err-clause-not_built
-returns-in-Err-clause-not_built c is =
-    no_script c.args.text.now c.in-Some.head.2.now c.in-Some.head.0 c.in-Some.head.1 c.in-Some.ensures.head.0 c.in-Some.ensures.head.1 (refused _ c.in-Err.e _ refl is c.in-Err.ensures.refused)
+pub returns-in-None-clause-spelled : goal.returns-in-None-clause-spelled
+returns-in-None-clause-spelled c =
+    let read = c.in-Ok.read in
+    read_spells c.args.text.now read.2.now read.0 read.1 c.new.result c.in-Ok-read_blocks.blocks c.new.ensures c.in-Ok.ensures.head c.in-Ok-read_blocks.ensures.blocks (rw c.as_slice.ensures at c.in-None.ensures)

@@ -11,8 +11,8 @@ use Rattle.xs_regs.proofs.file.File.components_into.Goals.{then-has, else-has}
 
 pub put_component-requires-clause-within : goal.put_component-requires-clause-within
 put_component-requires-clause-within c =
-    let rows : c.rows.i < length c.args.self.now.rows = omega (arith, ap length c.layout-layout.ensures) in
-    let row : c.row_at-row.result ≡ get_or c.args.self.now.rows c.rows.i c.row_at-row.result = rw c.layout-layout.ensures at c.row_at-row.ensures.at in
+    let rows : c.rows.i < length c.args.self.now.rows = omega (arith, ap length c.layout-layout.ensures.rows) in
+    let row : c.row_at-row.result ≡ get_or c.args.self.now.rows c.rows.i c.row_at-row.result = rw c.layout-layout.ensures.rows at c.row_at-row.ensures.at in
     let ends = end_covers (has c.args.mask.0) c.args.self.now.rows c.rows.i c.row_at-row.result rows row (sym c.has.ensures ∙ c.if-has.true) in
     let size = c.row_at-row.ensures.sound.size in
     omega arith
@@ -22,8 +22,8 @@ put_component-requires-clause-legacy c = let low = end_low (has c.args.mask.0) c
 
 pub rows-preserved : goal.rows-preserved
 rows-preserved c =
-    let rows : c.rows.i < length c.args.self.now.rows = omega (arith, ap length c.layout-layout.ensures) in
-    let row : c.row_at-row.result ≡ get_or c.args.self.now.rows c.rows.i c.row_at-row.result = rw c.layout-layout.ensures at c.row_at-row.ensures.at in
+    let rows : c.rows.i < length c.args.self.now.rows = omega (arith, ap length c.layout-layout.ensures.rows) in
+    let row : c.row_at-row.result ≡ get_or c.args.self.now.rows c.rows.i c.row_at-row.result = rw c.layout-layout.ensures.rows at c.row_at-row.ensures.at in
     elim c.if-has.branch [
       | then-has w ↦
           let size : c.row_at-row.result.size ≡ length w.part.result.now = c.row_at-row.ensures.sound.size ∙ sym w.part.ensures.len in
@@ -40,5 +40,5 @@ rows-preserved c =
 
 pub returns-clause-each : goal.returns-clause-each
 returns-clause-each c = λ k.
-    let past : length c.args.self.now.rows ≤ c.rows.i = omega (arith, ap length c.layout-layout.ensures) in
+    let past : length c.args.self.now.rows ≤ c.rows.i = omega (arith, ap length c.layout-layout.ensures.rows) in
     sym (component_all (saved_byte c.args.self.now) (λ (r : Row). r.offset) c.args.mask.0 c.args.self.now.rows c.rows.i k _ past) ∙ c.rows.invariant.bytes k

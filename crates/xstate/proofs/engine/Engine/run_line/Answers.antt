@@ -1,5 +1,10 @@
 use Rattle.xstate.proofs.TurnLemmas.{turn_line, body_found}
+use Rattle.xstate.proofs.BuiltRegisters.{built_line}
 use Rattle.xstate.proofs.engine.Engine.run_line.Goals as goal
+
+pub run-reply-requires-clause-built : goal.run-reply-requires-clause-built
+run-reply-requires-clause-built c =
+    built_line c.args.script.now c.args.task c.args.place c.index-lines_of-place.result c.requires.built c.requires.line (rw (← c.lines_of.ensures) c.index-lines_of-place.is)
 
 pub returns-clause-after : goal.returns-clause-after
 returns-clause-after c =

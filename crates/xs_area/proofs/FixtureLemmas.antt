@@ -1,0 +1,51 @@
+-- What the tests' fixtures look at before a call.
+use Rattle.std.proofs.Common.{◌≡◌, ℕ, ◌+◌, ◌<◌, ◌≤◌, ◌==◌, ◌&&◌, ◌||◌, Bool, true, false, true≢false, not, List, length, get_or, Some, refl, sym, ap, ◌∙◌, arith, inl, inr, ◌⊎◌}
+use Rattle.std.proofs.lemmas.Bool.{cases_lt, ne_eqb, eqb-true}
+use Rattle.std.proofs.lemmas.List.{get_or_default}
+use Rattle.std.specs.Prelude.{slice_get}
+use Rattle.xs_base.specs.declared.component.Row.{Row}
+use Rattle.xs_base.specs.Area.{HoldsPlaces, has_room}
+use Rattle.xs_base.specs.Compact.{place}
+use Rattle.xs_base.specs.Header.{xcomp_bv}
+use Rattle.xs_base.specs.Sets.{has}
+use Rattle.xs_area.specs.Copy.{is_copied}
+use Rattle.xs_area.proofs.TakeLemmas.{row_index}
+
+-- With PKRU again, what is copied is all that is wanted: there is room for it.
+pub room_for : (rows : List Row) (area : List ℕ) (wanted copied back c : ℕ) → ((d : ℕ) → has copied d ≡ is_copied rows area wanted d) → ((d : ℕ) → has back d ≡ (has copied d || ((d == 9) && true))) → (back == wanted) ≡ true → (c ≡ 9 → ⊥) → has wanted c ≡ true → has_room rows area c ≡ true
+room_for rows area wanted copied back c copies backs same other bit =
+    let first : has back c ≡ true = ap (λ x. has x c) (eqb-true back wanted same) ∙ bit in
+    third (has wanted c) (c == 9) (has_room rows area c) (sym (copies c) ∙ left (has copied c) (c == 9) (ne_eqb c 9 other) (sym (backs c) ∙ first))
+  where
+    left : (a b : Bool) → b ≡ false → (a || (b && true)) ≡ true → a ≡ true
+    left true b off h = refl
+    left false true off h = absurd (true≢false off)
+    left false false off h = h
+
+    third : (a b r : Bool) → (a && not b && r) ≡ true → r ≡ true
+    third true true r h = absurd (true≢false (sym h))
+    third true false r h = h
+    third false b r h = absurd (true≢false (sym h))
+
+-- a member is a member of a larger set
+pub or_member : (set larger n c : ℕ) → ((d : ℕ) → has larger d ≡ (has set d || ((d == n) && true))) → has set c ≡ true → has larger c ≡ true
+or_member set larger n c bits bit = bits c ∙ ap (λ b. b || ((c == n) && true)) bit
+
+-- The components of the rows before i end within the area.
+abbrev pub AreHeldTo : List Row → List ℕ → ℕ → ℕ → Type 0
+AreHeldTo rows area bits i = (j : ℕ) (r : Row) → j < i → slice_get rows j ≡ Some r → has bits r.comp.0 ≡ true → place rows (xcomp_bv area) r + r.size ≤ length area
+
+pub held_more : (rows : List Row) (area : List ℕ) (bits i : ℕ) (r : Row) → i < length rows → r ≡ get_or rows i r → (has bits r.comp.0 ≡ true → place rows (xcomp_bv area) r + r.size ≤ length area) → AreHeldTo rows area bits i → AreHeldTo rows area bits (i + 1)
+held_more rows area bits i r lt is here before j s early row on = choose (cases_lt j i)
+  where
+    choose : (j < i) ⊎ (i ≤ j) → place rows (xcomp_bv area) s + s.size ≤ length area
+    choose (inl less) = before j s less row on
+    choose (inr more) =
+        let one : j ≡ i = omega arith in
+        let same : s ≡ r = (row_index rows j s row).1 ∙ ap (λ n. get_or rows n s) one ∙ get_or_default rows i s r lt ∙ sym is in
+        let bit : has bits r.comp.0 ≡ true = ap (λ (t : Row). has bits t.comp.0) (sym same) ∙ on in
+        let end = here bit in
+        omega (arith, end, ap (λ (t : Row). place rows (xcomp_bv area) t + t.size) same)
+
+pub held_whole : (rows : List Row) (area : List ℕ) (bits i : ℕ) → length rows ≤ i → AreHeldTo rows area bits i → HoldsPlaces rows area bits
+held_whole rows area bits i past at j r row on = at j r (omega (arith, (row_index rows j r row).0)) row on

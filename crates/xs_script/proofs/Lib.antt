@@ -1,9 +1,0 @@
-mod Numbers
-pub mod Cuts
-pub mod Lanes
-pub mod HexText
-pub mod Spellings
-pub mod FirstLines
-pub mod Kept
-pub mod Readings
-pub mod Unbuilt

@@ -1,7 +1,0 @@
--- The definitions of the script's text, one file a noun.
-pub mod ScriptLine
-pub mod Reads
-pub mod Parts
-pub mod Grammar
-pub mod LineOrder
-pub mod Refusal

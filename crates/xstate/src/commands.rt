@@ -1,0 +1,80 @@
+//! The registers of a script's commands.
+
+ghost use Rattle.std.specs.Prelude.{◌≡◌, MatchOption, IfOk, IfErr};
+ghost use Rattle.std.specs.List.{AllByRecursion};
+ghost use Rattle.xs_model.specs.declared.script.Order.{Order};
+ghost use Rattle.xs_model.specs.declared.script.Block.{Block};
+ghost use Rattle.xs_model.specs.Script.{is_built};
+ghost use Rattle.xstate.specs.Refusal.{CommandFails};
+ghost use Rattle.xstate.specs.Commands.{IsBuiltRegister, RegisterFails, PassesCommand, PassesOrders, FirstOrder, FirstBlock};
+
+use crate::refusal::Kind;
+use xs_base::{Comp, Place};
+use xs_layout::Layout;
+use xs_model::{Block, Command, Order};
+use xs_regs::place_of_bytes;
+
+/// The line of the first command that fails on the machine, and what it is refused with.
+pub(crate) fn first_fault(layout: &Layout, blocks: &[Block]) -> Option<(u32, Kind)>
+    ensures { MatchOption result (AllByRecursion (λ (block : Block). PassesOrders layout.now block.body) blocks.now) (λ x. FirstBlock layout.now blocks.now x.0 x.1) }
+{
+    'each: for block in blocks {
+        if let Some(fault) = first_order_fault(layout, block.body.as_slice()) {
+            return Some(fault);
+        }
+    }
+    None
+}
+
+/// The same of the commands of one body.
+fn first_order_fault(layout: &Layout, orders: &[Order]) -> Option<(u32, Kind)>
+    ensures { MatchOption result (PassesOrders layout.now orders.now) (λ x. FirstOrder layout.now orders.now x.0 x.1) }
+{
+    'each: for order in orders {
+        if let Some(kind) = command_fault(layout, &order.command) {
+            return Some((order.number, kind));
+        }
+    }
+    None
+}
+
+/// What a command is refused with on the machine.
+fn command_fault(layout: &Layout, command: &Command) -> Option<Kind>
+    ensures { MatchOption result (PassesCommand layout.now command.now) (CommandFails layout.now command.now) }
+{
+    match command {
+        Command::Set { reg, bytes } => match find_register(layout, reg.as_slice()) {
+            Ok(place) => {
+                if bytes.as_slice().len() == place.len as usize {
+                    None
+                } else {
+                    Some(Kind::BadLine)
+                }
+            }
+            Err(kind) => Some(kind),
+        },
+        Command::Get { reg } => match find_register(layout, reg.as_slice()) {
+            Ok(_) => None,
+            Err(kind) => Some(kind),
+        },
+    }
+}
+
+/// The place of a register that the program has.
+fn find_register(layout: &Layout, reg: &[u8]) -> Result<Place, Kind>
+    ensures found { IfOk result (IsBuiltRegister layout.now reg.now) }
+    ensures refused { IfErr result (RegisterFails layout.now reg.now) }
+{
+    match place_of_bytes(reg, layout) {
+        Some(place) if is_built(place) => Ok(place),
+        Some(_) => Err(Kind::NotBuilt),
+        None => Err(Kind::UnknownName),
+    }
+}
+
+/// Whether the program has the register.
+fn is_built(place: Place) -> bool
+    ensures { result ≡ is_built place }
+{
+    place.comp == Comp(1) && place.offset < 256
+}
