@@ -7,6 +7,8 @@
 mod area;
 mod check;
 mod copies;
+#[cfg(test)]
+mod copies_tests;
 mod cursor;
 #[cfg(test)]
 mod fixtures;
