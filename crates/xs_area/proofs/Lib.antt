@@ -8,3 +8,4 @@ pub mod TakeLemmas
 pub mod StandLemmas
 pub mod FixtureLemmas
 pub mod HoldingLemmas
+pub mod FileLaws

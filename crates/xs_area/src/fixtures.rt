@@ -42,6 +42,22 @@ pub fn area_of(
     Ok(Area { id, bytes })
 }
 
+/// Whether the bytes from `at` on are these.
+pub fn holds(bytes: &[u8], at: usize, want: &[u8]) -> bool {
+    match bytes.get(at..) {
+        Some(rest) => rest.starts_with(want),
+        None => false,
+    }
+}
+
+/// Whether the form of an area is that which `area_of` gave it.
+pub fn keeps_form(area: &Area, id: u64, len: usize, names: u64, value: u8) -> bool {
+    area.id == id
+        && area.bytes.len() == len
+        && holds(&area.bytes, 520, &names.to_le_bytes())
+        && holds(&area.bytes, 528, &[value; 48])
+}
+
 /// `read_standard`, where the image is long enough.
 pub fn read(
     layout: &Layout,

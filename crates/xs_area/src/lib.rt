@@ -7,12 +7,15 @@
 mod area;
 mod check;
 mod copies;
+#[cfg(test)]
+mod copies_tests;
 mod cursor;
 #[cfg(test)]
 mod fixtures;
 mod holding;
 #[cfg(test)]
 mod holding_tests;
+mod laws;
 mod standard;
 #[cfg(test)]
 mod tests;
@@ -21,5 +24,6 @@ pub use area::{Area, Class, Lease, mxcsr, xcomp_bv, xstate_bv};
 pub use check::read_standard;
 pub use copies::{compact_of, copy_area};
 pub use holding::stands;
+pub use laws::{a_file_can_be_cut, parts_have_a_file};
 pub use standard::standard_of;
 pub use xs_base::{HeaderError, Origin, Parts};

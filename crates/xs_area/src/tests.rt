@@ -1,6 +1,6 @@
 //! Images and areas at worked values.
 
-use crate::fixtures::{area_of, compact, copy, filled, poke, read, standard};
+use crate::fixtures::{area_of, compact, copy, filled, holds, keeps_form, poke, read, standard};
 use crate::{Area, Class, Lease, mxcsr, xcomp_bv, xstate_bv};
 use std::alloc::{AllocError, Global};
 use std::test::Fail;
@@ -150,22 +150,6 @@ fn the_parts_of_an_image(rt: HostRuntime) -> Result<(), Fail> {
         );
     }
     Ok(())
-}
-
-/// Whether the bytes from `at` on are these.
-fn holds(bytes: &[u8], at: usize, want: &[u8]) -> bool {
-    match bytes.get(at..) {
-        Some(rest) => rest.starts_with(want),
-        None => false,
-    }
-}
-
-/// Whether the form of an area is that which `area_of` gave it.
-fn keeps_form(area: &Area, id: u64, len: usize, names: u64, value: u8) -> bool {
-    area.id == id
-        && area.bytes.len() == len
-        && holds(&area.bytes, 520, &names.to_le_bytes())
-        && holds(&area.bytes, 528, &[value; 48])
 }
 
 #[test]
