@@ -1,13 +1,16 @@
 -- The words of the command line, and the lines of a table: this project's own.
-use Rattle.std.specs.Prelude.{◌≡◌, ℕ, List, [], ◌∷◌, ◌++◌, codes, decimal}
+use Rattle.std.specs.Fmt.{digits}
+use Rattle.std.specs.List.{flat_map}
+use Rattle.std.specs.Prelude.{◌≡◌, ℕ, List, [], ◌∷◌, ◌++◌, codes, decimal, false, if◌then◌else◌}
 use Rattle.xs_base.specs.declared.component.Row.{Row}
-use Rattle.xs_base.specs.Layout.{amx_rows, avx_rows}
+use Rattle.xs_base.specs.Compact.{compact_offset, compact_size, is_extended}
+use Rattle.xs_base.specs.Layout.{amx_rows, avx_rows, standard_size}
 use Rattle.xs_bench.specs.declared.command.Machine.{Machine}
 use Rattle.xs_bench.specs.declared.command.Machine.TheVariants.{Amx, Avx}
 use Rattle.xs_bench.specs.declared.command.Command.{Command}
-use Rattle.xs_bench.specs.declared.command.Command.TheVariants.{Layout, Repeat}
+use Rattle.xs_bench.specs.declared.command.Command.TheVariants.{Layout, Places, Repeat}
 use Rattle.xs_bench.specs.declared.command.Call.{Call}
-use Rattle.xs_bench.specs.declared.command.Call.TheVariants.{StandardInto, StandardOf, CompactOf, CopyArea, Copy, Nothing}
+use Rattle.xs_bench.specs.declared.command.Call.TheVariants.{StandardInto, StandardOf, CompactOf, CopyArea, Copy, CopyCompacted, Nothing}
 
 abbrev pub machine_word : Machine → List ℕ
 machine_word Amx = codes "amx"
@@ -23,14 +26,29 @@ call_word StandardOf = codes "standard-of"
 call_word CompactOf = codes "compact-of"
 call_word CopyArea = codes "copy-area"
 call_word Copy = codes "copy"
+call_word CopyCompacted = codes "copy-compacted"
 call_word Nothing = codes "nothing"
 
--- the words of a command; the last of a call is its number of turns
+-- the words of a command; the last of places is the mask, and the last of a call its number of turns
 abbrev pub Spells : List (List ℕ) → Command → Type 0
 Spells words (Layout machine) = words ≡ codes "layout" ∷ machine_word machine ∷ []
+Spells words (Places machine mask) = words ≡ codes "places" ∷ machine_word machine ∷ decimal mask.0 ∷ []
 Spells words (Repeat call turns) = (number : List ℕ) × (words ≡ codes "repeat" ∷ call_word call ∷ number ∷ [])
 
 -- a row's line: number, size, offset and flags
 abbrev pub row_line : Row → List ℕ
 row_line r =
     decimal r.comp.0 ++ (codes " " ++ (decimal r.size ++ (codes " " ++ (decimal r.offset ++ (codes " " ++ decimal r.flags)))))
+
+-- the row's component and its place in the compacted format, where it has one behind the header
+abbrev pub place_text : List Row → ℕ → Row → List ℕ
+place_text rows mask r = if is_extended mask r then codes " " ++ (decimal r.comp.0 ++ (codes ":" ++ decimal (compact_offset rows mask r.comp.0))) else []
+
+abbrev pub places_text : List Row → ℕ → List ℕ
+places_text rows mask = flat_map (place_text rows mask) rows
+
+-- the line of places: machine, mask in hexadecimal, bytes of the standard and of the compacted format, and each place
+abbrev pub places_line : Machine → ℕ → List ℕ
+places_line machine mask =
+    let rows = machine_rows machine in
+    machine_word machine ++ (codes " " ++ (digits 16 false mask ++ (codes " " ++ (decimal (standard_size rows mask) ++ (codes " " ++ (decimal (compact_size rows mask) ++ places_text rows mask))))))

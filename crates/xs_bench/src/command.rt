@@ -1,8 +1,9 @@
 //! The words of the command line.
 
-ghost use Rattle.std.specs.Prelude.{◌≡◌, map, string_bytes, IfSome};
+ghost use Rattle.std.specs.Prelude.{◌≡◌, decimal, map, string_bytes, IfSome};
 ghost use Rattle.xs_bench.specs.Words.{call_word, machine_word, machine_rows, Spells};
 
+use xs_base::Features;
 use xs_layout::Layout;
 
 /// A machine whose table is built in.
@@ -27,6 +28,8 @@ pub enum Call {
     CopyArea,
     /// A plain copy of as many bytes as the standard format has.
     Copy,
+    /// A plain copy of as many bytes as the compacted format has without PKRU.
+    CopyCompacted,
     /// None: the loop alone.
     Nothing,
 }
@@ -36,6 +39,8 @@ pub enum Call {
 pub enum Command {
     /// To print a machine's table.
     Layout(Machine),
+    /// To print the places of these components in the compacted format.
+    Places(Machine, Features),
     /// To make a call so many times.
     Repeat(Call, u64),
 }
@@ -48,6 +53,16 @@ impl Machine {
         match self {
             Machine::Amx => Layout::amx(),
             Machine::Avx => Layout::avx(),
+        }
+    }
+
+    /// The machine's name on the command line.
+    pub fn name(self) -> &'static str
+        ensures { result.now ≡ machine_word self }
+    {
+        match self {
+            Machine::Amx => "amx",
+            Machine::Avx => "avx",
         }
     }
 }
@@ -65,6 +80,10 @@ pub fn parse(words: &[String]) -> Option<Command>
             let turns = turns.as_str().parse::<u64>().ok()?;
             Some(Command::Repeat(call, turns))
         }
+        [command, machine, mask] if command.as_str() == "places" => {
+            let machine = machine_of(machine.as_str())?;
+            Some(Command::Places(machine, mask_of(mask.as_str())?))
+        }
         _ => None,
     }
 }
@@ -80,6 +99,21 @@ fn machine_of(word: &str) -> Option<Machine>
     }
 }
 
+/// The set that a number spells in decimal, with no sign and no needless zero in front.
+fn mask_of(word: &str) -> Option<Features>
+    ensures { IfSome result (λ mask. word.now ≡ decimal mask.0) }
+{
+    let number = word.parse::<u64>().ok()?;
+    let first = *word.as_bytes().first()?;
+    if first == b'+' {
+        return None;
+    }
+    if first == b'0' && word.len() != 1 {
+        return None;
+    }
+    Some(Features(number))
+}
+
 /// The call of this name.
 fn call_of(word: &str) -> Option<Call>
     ensures { IfSome result (λ call. word.now ≡ call_word call) }
@@ -90,6 +124,7 @@ fn call_of(word: &str) -> Option<Call>
         "compact-of" => Some(Call::CompactOf),
         "copy-area" => Some(Call::CopyArea),
         "copy" => Some(Call::Copy),
+        "copy-compacted" => Some(Call::CopyCompacted),
         "nothing" => Some(Call::Nothing),
         _ => None,
     }

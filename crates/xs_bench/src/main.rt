@@ -1,15 +1,17 @@
-//! `xs_bench`: prints the table of a machine, or makes one of the calls of the layers many times so that a clock can
+//! `xs_bench`: prints the table of a machine or the places of its components, or makes one of the calls of the layers many times so that a clock can
 //! tell its time.
 #![tactic(auto)]
 
 mod command;
 mod inputs;
+mod places;
 mod repeats;
 mod table;
 #[cfg(test)]
 mod tests;
 
 use crate::command::{Command, parse};
+use crate::places::places_line;
 use crate::repeats::repeat;
 use crate::table::write_table;
 use std::alloc::AllocError;
@@ -19,7 +21,7 @@ use std::process::ExitCode;
 
 /// The line that answers other words than a command.
 const USAGE: &str =
-    "usage: xs_bench layout amx|avx | repeat standard-into|standard-of|compact-of|copy-area|copy|nothing N";
+    "usage: xs_bench layout amx|avx | places amx|avx MASK | repeat standard-into|standard-of|compact-of|copy-area|copy|copy-compacted|nothing N";
 
 /// Does what the command line asks. The status is 0, 64 for words that are no command, 6 where there was no memory, 5
 /// where standard output failed, and 70 where the inputs of a call don't meet its conditions.
@@ -37,6 +39,10 @@ fn answer(rt: &HostRuntime) -> io::Result<u8> {
     match parse(&words) {
         Some(Command::Layout(machine)) => {
             write_table(rt, &machine.layout())?;
+            Ok(0)
+        }
+        Some(Command::Places(machine, mask)) => {
+            rt.println(places_line(rt.alloc(), machine, mask)?)?;
             Ok(0)
         }
         Some(Command::Repeat(call, turns)) => match repeat(rt.alloc(), call, turns)? {

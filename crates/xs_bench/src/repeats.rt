@@ -33,6 +33,7 @@ pub fn repeat(alloc: Global, call: Call, turns: u64) -> Result<Option<u64>, Allo
         Call::CompactOf => repeat_compact_of(&layout, &mut image, &mut area, turns),
         Call::CopyArea => repeat_copy_area(&layout, &mut area, &mut other, turns),
         Call::Copy => repeat_copy(&mut image, &mut out, turns),
+        Call::CopyCompacted => repeat_copy(&mut area.bytes, &mut other.bytes, turns),
         Call::Nothing => repeat_nothing(&mut image, &out, turns),
     })
 }

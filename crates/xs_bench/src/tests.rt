@@ -1,15 +1,18 @@
-//! The words of the command line, and that the inputs of each call meet its conditions.
+//! The words of the command line, lines of places, and that the inputs of each call meet its conditions.
 
 use crate::command::{Call, Command, Machine, parse};
+use crate::places::places_line;
 use crate::repeats::repeat;
 use std::alloc::{AllocError, Global};
+use xs_base::Features;
 
-const CALLS: [Call; 6] = [
+const CALLS: [Call; 7] = [
     Call::StandardInto,
     Call::StandardOf,
     Call::CompactOf,
     Call::CopyArea,
     Call::Copy,
+    Call::CopyCompacted,
     Call::Nothing,
 ];
 
@@ -58,6 +61,10 @@ fn words_of_commands(rt: HostRuntime) -> Result<(), AllocError> {
         parse(&words(alloc, "repeat copy-area 200000")?),
         Some(Command::Repeat(Call::CopyArea, 200_000))
     );
+    assert_eq!(rt;
+        parse(&words(alloc, "repeat copy-compacted 1")?),
+        Some(Command::Repeat(Call::CopyCompacted, 1))
+    );
     assert_eq!(rt; parse(&words(alloc, "layout")?), None);
     assert_eq!(rt; parse(&words(alloc, "layout amx avx")?), None);
     assert_eq!(rt; parse(&words(alloc, "layout copy")?), None);
@@ -66,6 +73,59 @@ fn words_of_commands(rt: HostRuntime) -> Result<(), AllocError> {
     assert_eq!(rt;
         parse(&words(alloc, "repeat copy 18446744073709551616")?),
         None
+    );
+    Ok(())
+}
+
+#[test]
+fn words_of_places(rt: HostRuntime) -> Result<(), AllocError> {
+    let alloc = rt.alloc();
+    assert_eq!(rt;
+        parse(&words(alloc, "places avx 0")?),
+        Some(Command::Places(Machine::Avx, Features(0)))
+    );
+    assert_eq!(rt;
+        parse(&words(alloc, "places amx 18446744073709551615")?),
+        Some(Command::Places(Machine::Amx, Features(u64::MAX)))
+    );
+    for line in [
+        "places",
+        "places amx",
+        "places amx ",
+        "places amx 7 7",
+        "places copy 7",
+        "places amx +7",
+        "places amx -7",
+        "places amx 07",
+        "places amx 00",
+        "places amx 0x7",
+        "places amx e7",
+        "places amx 18446744073709551616",
+    ] {
+        assert_eq!(rt; parse(&words(alloc, line)?), None);
+    }
+    Ok(())
+}
+
+#[test]
+fn lines_of_places(rt: HostRuntime) -> Result<(), AllocError> {
+    let alloc = rt.alloc();
+    assert_eq!(rt;
+        places_line(alloc, Machine::Amx, Features(0x602e7))?.as_str(),
+        "amx 602e7 11008 10752 2:576 5:832 6:896 7:1408 9:2432 17:2496 18:2560"
+    );
+    assert_eq!(rt;
+        places_line(alloc, Machine::Amx, Features(0x600e7))?.as_str(),
+        "amx 600e7 11008 10688 2:576 5:832 6:896 7:1408 17:2432 18:2496"
+    );
+    assert_eq!(rt;
+        places_line(alloc, Machine::Amx, Features(0))?.as_str(),
+        "amx 0 576 576"
+    );
+    // A machine has no place for the components that it lacks.
+    assert_eq!(rt;
+        places_line(alloc, Machine::Avx, Features(u64::MAX))?.as_str(),
+        "avx ffffffffffffffff 832 832 2:576"
     );
     Ok(())
 }
