@@ -50,7 +50,8 @@ pub fn compact_of(layout: &Layout, bytes: &[u8], parts: &Parts, area: &mut Area)
 /// XSTATE_BV of `to` becomes that of `from` without PKRU and without the components that `to` has no room for, in a
 /// compacted area with room for component 1 with bit 1 also where MXCSR isn't initial. The id, the length, XCOMP_BV and
 /// bytes 528 to 575 of `to` stay. Both areas have at least 576 bytes, and `from` has the place of each component whose
-/// bit in XSTATE_BV is 1.
+/// bit in XSTATE_BV is 1. Where `from` stands for no file, which `stands` tells, nothing is said of what `to` stands
+/// for.
 pub fn copy_area(layout: &Layout, from: &Area, to: &mut Area)
     requires from_header { 576 ≤ length from.now.bytes.items }
     requires to_header { 576 ≤ length to.old.bytes.items }

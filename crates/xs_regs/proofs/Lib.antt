@@ -7,3 +7,4 @@ pub mod Initials
 pub mod Parts
 pub mod InUse
 pub mod StandardBytes
+pub mod Loads

@@ -1,3 +1,4 @@
 -- What the readers of names find.
 pub mod Finds
 pub mod Names
+pub mod Loads

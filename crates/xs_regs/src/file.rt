@@ -10,6 +10,8 @@ ghost use Rattle.xs_base.specs.Register.{IsRegister};
 ghost use Rattle.xs_base.specs.Sets.{has};
 ghost use Rattle.xs_base.specs.Standard.{IsStandard, component_byte, saved_byte, has_control, control_bytes};
 
+mod loading;
+
 use std::alloc::{AllocError, Global};
 use std::marker::Model;
 use xs_base::{Comp, Features, Lane, Place, put, put_component, put_initial};
