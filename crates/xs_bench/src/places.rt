@@ -1,14 +1,12 @@
 //! The places of a machine's components in the compacted format, in one line.
 
-ghost use Rattle.std.specs.Prelude.{◌≡◌, ◌++◌, ◌≤◌, true, IfOk, OnOk, string_bytes};
-ghost use Rattle.xs_base.specs.Sets.{has};
-ghost use Rattle.xs_base.specs.Layout.{has_row};
-ghost use Rattle.xs_bench.specs.Words.{place_text, places_line, places_text};
+ghost use Rattle.std.specs.Prelude.{◌≡◌, IfOk, string_bytes};
+ghost use Rattle.xs_bench.specs.Words.{places_line, places_text};
 
 use crate::command::Machine;
 use std::alloc::{AllocError, Global};
 use xs_base::Features;
-use xs_layout::{Layout, Row};
+use xs_layout::Layout;
 
 /// The machine, the mask in hexadecimal, the bytes of an area of the standard format with the components of the mask,
 /// those of the compacted format, and the place there of each of them from 2 on.
