@@ -1,0 +1,11 @@
+-- Nothing is left out.
+use Rattle.std.proofs.Common.{sym, ◌∙◌}
+use Rattle.std.proofs.lemmas.Bool.{true≢false}
+use Rattle.std.proofs.lemmas.List.{with_items_is}
+use Rattle.xs_bank.proofs.plain.PlainBankBank.xsaves.Goals as goal
+
+pub returns-clause-whole : goal.returns-clause-whole
+returns-clause-whole c = λ sse outside.
+    let len = c.save_compacted.ensures.saved.bytes.len ∙ c.deref_mut.ensures.len in
+    let within = c.save_compacted.ensures.stands (λ i r row wanted saved off. absurd (true≢false (sym wanted ∙ off))) in
+    rw (with_items_is c.args.area.now.bytes c.save_compacted.new.into len) (c.save_compacted.ensures.whole within sse outside)

@@ -1,0 +1,28 @@
+-- What is left out stands in the area.
+use Rattle.std.proofs.Common.{length, ap, ◌∙◌, arith}
+use Rattle.std.proofs.lemmas.List.{with_items_is}
+use Rattle.xs_base.specs.Sets.{has}
+use Rattle.xs_base.proofs.SizeLemmas.{end_low}
+use Rattle.xs_bank.proofs.track.TrackBankBank.xsaveopt.Goals as goal
+
+pub to_save_standard-written-requires : goal.to_save_standard-written-requires
+to_save_standard-written-requires c =
+    let low = end_low (has c.args.mask.0) c.args.self.now.file.rows in
+    omega (arith, ap length c.deref.ensures.value)
+
+pub returns-clause-area : goal.returns-clause-area
+returns-clause-area c =
+    let len = c.save_standard.ensures.saved.bytes.len ∙ c.deref_mut.ensures.len in
+    rw (with_items_is c.args.area.now.bytes c.save_standard.new.into len) (record {
+      written = c.to_save_standard-written.result.0;
+      within = c.to_save_standard-written.ensures.within;
+      left = rw (c.deref.ensures.value) at c.to_save_standard-written.ensures.left;
+      saved = rw (c.deref_mut.ensures.value) at c.save_standard.ensures.saved;
+    })
+
+pub returns-clause-stands : goal.returns-clause-stands
+returns-clause-stands c =
+    let len = c.save_standard.ensures.saved.bytes.len ∙ c.deref_mut.ensures.len in
+    let left = rw (c.deref.ensures.value) at c.to_save_standard-written.ensures.left in
+    let stands = rw (c.deref_mut.ensures.value) at c.save_standard.ensures.stands in
+    rw (with_items_is c.args.area.now.bytes c.save_standard.new.into len) (stands c.requires.standard (λ i r row wanted used off. c.requires.ready i r row wanted (left r.comp.0 wanted used off)))

@@ -1,0 +1,35 @@
+-- What is left out stands in the area.
+use Rattle.std.proofs.Common.{length, ap, ◌∙◌, arith}
+use Rattle.std.proofs.lemmas.List.{with_items_is}
+use Rattle.xs_base.proofs.CompactLemmas.{compact_size_low}
+use Rattle.xs_bank.proofs.track.TrackBankBank.xsaves.Goals as goal
+
+pub to_save_compacted-written-requires : goal.to_save_compacted-written-requires
+to_save_compacted-written-requires c =
+    let low = compact_size_low c.args.self.now.file.rows c.args.mask.0 in
+    omega (arith, ap length c.deref.ensures.value)
+
+pub returns-clause-area : goal.returns-clause-area
+returns-clause-area c =
+    let len = c.save_compacted.ensures.saved.bytes.len ∙ c.deref_mut.ensures.len in
+    rw (with_items_is c.args.area.now.bytes c.save_compacted.new.into len) (record {
+      written = c.to_save_compacted-written.result.0;
+      within = c.to_save_compacted-written.ensures.within;
+      left = rw (c.deref.ensures.value) at c.to_save_compacted-written.ensures.left;
+      saved = rw (c.deref_mut.ensures.value) at c.save_compacted.ensures.saved;
+    })
+
+pub returns-clause-stands : goal.returns-clause-stands
+returns-clause-stands c =
+    let len = c.save_compacted.ensures.saved.bytes.len ∙ c.deref_mut.ensures.len in
+    let left = rw (c.deref.ensures.value) at c.to_save_compacted-written.ensures.left in
+    let stands = rw (c.deref_mut.ensures.value) at c.save_compacted.ensures.stands in
+    rw (with_items_is c.args.area.now.bytes c.save_compacted.new.into len) (stands (λ i r row wanted saved off. let why = left r.comp.0 wanted saved off in (c.requires.ready i r row wanted why.0, why.1)))
+
+pub returns-clause-whole : goal.returns-clause-whole
+returns-clause-whole c = λ sse outside.
+    let len = c.save_compacted.ensures.saved.bytes.len ∙ c.deref_mut.ensures.len in
+    let left = rw (c.deref.ensures.value) at c.to_save_compacted-written.ensures.left in
+    let stands = rw (c.deref_mut.ensures.value) at c.save_compacted.ensures.stands in
+    let within = stands (λ i r row wanted saved off. let why = left r.comp.0 wanted saved off in (c.requires.ready i r row wanted why.0, why.1)) in
+    rw (with_items_is c.args.area.now.bytes c.save_compacted.new.into len) (c.save_compacted.ensures.whole within sse outside)

@@ -1,0 +1,124 @@
+-- A bank: the extended registers of one processor, and what its instructions do (SDM volume 1, chapter 13). The counts and
+-- the trail are this project's own, as is that a trap changes nothing.
+use Rattle.std.specs.Prelude.{◌≡◌, ℕ, ◌^◌, ◌≤◌, Bool, true, false, not, ◌&&◌, ◌||◌, ◌==◌, List, slice_get, take, Option, Some, None, ◌⊎◌, if◌then◌else◌, bit_or}
+use Rattle.std.specs.Int.{from_le_bytes, w32}
+use Rattle.xs_base.specs.declared.component.Row.{Row}
+use Rattle.xs_base.specs.declared.component.Place.{Place}
+use Rattle.xs_bank.specs.declared.instruction.Trap.{Trap}
+use Rattle.xs_bank.specs.declared.instruction.Trap.TheVariants.{Nm}
+use Rattle.xs_bank.specs.declared.instruction.Execs.{Execs}
+use Rattle.xs_base.specs.Sets.{has}
+use Rattle.xs_base.specs.Component.{component_numbers, initial_part}
+use Rattle.xs_base.specs.Layout.{has_row, set_of}
+use Rattle.xs_base.specs.Compact.{place}
+use Rattle.xs_base.specs.File.{File, part, with_part, with_pkru, initial_file, write_place, in_use, is_saved}
+use Rattle.xs_base.specs.Header.{xstate_bv, xcomp_bv}
+use Rattle.xs_base.specs.Area.{StandsAt, control_in}
+use Rattle.xs_bank.specs.Trail.{mixed, read_numbers, write_numbers, release_numbers, counted}
+use Rattle.xs_bank.specs.Load.{tiles}
+use Rattle.xs_bank.specs.Save.{compacted, IsStandardSave, IsCompactedSave}
+
+-- The area that was loaded last: its number, its XCOMP_BV, and the components that were changed since.
+pub record Tracked : Type 0 where
+  pub id : ℕ
+  pub names : ℕ
+  pub modified : ℕ
+
+-- `armed` is the set of IA32_XFD.
+pub record Bank : Type 0 where
+  pub file : File
+  pub armed : ℕ
+  pub tracked : Option Tracked
+  pub execs : Execs
+  pub loads : ℕ
+  pub saves : ℕ
+
+-- ---- what instructions leave
+
+-- the bank after an instruction of these numbers
+abbrev pub executed : Bank → List ℕ → Bank
+executed bank numbers = record bank { execs = record { count = counted bank.execs.count; trail = mixed bank.execs.trail numbers } }
+
+abbrev pub touch : ℕ → Option Tracked → Option Tracked
+touch set None = None
+touch set (Some t) = Some (record t { modified = bit_or t.modified set })
+
+-- the bank with this file, of which these components were changed
+abbrev pub changed : Bank → File → ℕ → Bank
+changed bank file set = record bank { file = file; tracked = touch set bank.tracked }
+
+abbrev pub after_read : Bank → Place → List ℕ → Bank
+after_read bank place bytes = executed bank (read_numbers place bytes)
+
+abbrev pub after_write : Bank → Place → List ℕ → Bank
+after_write bank place bytes = executed (changed bank (write_place bank.file place bytes) (2 ^ place.comp.0)) (write_numbers place bytes)
+
+-- TILECFG and TILEDATA are initial.
+abbrev pub after_release : Bank → Bank
+after_release bank = executed (changed bank (with_part (with_part bank.file 17 (initial_part 17)) 18 (initial_part 18)) 0x60000) release_numbers
+
+abbrev pub pkru_of : Bank → ℕ
+pkru_of bank = from_le_bytes w32 (take 4 (part bank.file 9))
+
+abbrev pub after_wrpkru : Bank → ℕ → Bank
+after_wrpkru bank value = changed bank (with_pkru bank.file value) (2 ^ 9)
+
+-- Arming TILEDATA makes it initial: this is the project's own.
+abbrev pub disarmed_file : File → ℕ → File
+disarmed_file file armed = if has armed 18 then with_part file 18 (initial_part 18) else file
+
+abbrev pub after_xfd : Bank → ℕ → Bank
+after_xfd bank armed = record (changed bank (disarmed_file bank.file armed) armed) { armed = armed }
+
+-- the bank set up for the machine with these rows: the counts stay
+abbrev pub set_up : Bank → List Row → Bank
+set_up bank rows = record bank { file = initial_file rows; armed = if has_row rows 18 then tiles else 0; tracked = None }
+
+-- ---- #NM of an instruction on registers (SDM volume 1, 13.14; that a write of TILECFG traps is this project's own)
+
+abbrev pub read_trap : Bank → Place → Option Trap
+read_trap bank place = if has bank.armed 18 && (place.comp.0 == 18) then Some (Nm (record { 0 = tiles })) else None
+
+abbrev pub write_trap : Bank → Place → Option Trap
+write_trap bank place = if has bank.armed 18 && ((place.comp.0 == 17) || (place.comp.0 == 18)) then Some (Nm (record { 0 = tiles })) else None
+
+-- ---- the tracked area
+
+-- A load tracks this area, or none. The components outside its mask count as changed.
+abbrev pub loaded_from : List Row → ℕ → ℕ → List ℕ → Tracked
+loaded_from rows id mask area = record { id = id; names = xcomp_bv area; modified = set_of (λ c. has_row rows c && not (has mask c)) component_numbers }
+
+abbrev pub TracksAtMost : Option Tracked → Tracked → Type 0
+TracksAtMost tracked area = (tracked ≡ None) ⊎ (tracked ≡ Some area)
+
+-- The bank tracks an area of this number and this XCOMP_BV, and component c wasn't changed since.
+abbrev pub is_unmodified : Option Tracked → ℕ → ℕ → ℕ → Bool
+is_unmodified None id names c = false
+is_unmodified (Some t) id names c = (t.id == id) && (t.names == names) && not (has t.modified c)
+
+-- The row's component stands in the area for the file's: at its place, or initial without its bit.
+pub record IsKept (file : File) (area : List ℕ) (r : Row) : Type 0 where
+  pub present : has (xstate_bv area) r.comp.0 ≡ true → StandsAt area (place file.rows (xcomp_bv area) r) file r.comp.0
+  pub absent : has (xstate_bv area) r.comp.0 ≡ false → part file r.comp.0 ≡ initial_part r.comp.0
+  pub control : r.comp.0 ≡ 1 → file.mxcsr ≡ control_in area
+
+-- What a save may rely on: each component of the mask that the bank holds for unmodified stands in the area.
+abbrev pub IsReady : Bank → ℕ → ℕ → List ℕ → Type 0
+IsReady bank id mask area = (i : ℕ) (r : Row) → slice_get bank.file.rows i ≡ Some r → has mask r.comp.0 ≡ true → is_unmodified bank.tracked id (xcomp_bv area) r.comp.0 ≡ true → IsKept bank.file area r
+
+-- ---- saves with a free choice
+
+-- XSAVEOPT: it writes each component of the mask that is in use, but may leave out those that weren't changed since the
+-- area was loaded.
+pub record SavesStandard (bank : Bank) (id mask : ℕ) (before after : List ℕ) : Type 0 where
+  pub written : ℕ
+  pub within : (c : ℕ) → has written c ≡ true → has mask c ≡ true
+  pub left : (c : ℕ) → has mask c ≡ true → in_use bank.file c ≡ true → has written c ≡ false → is_unmodified bank.tracked id (xcomp_bv before) c ≡ true
+  pub saved : IsStandardSave bank.file mask written before after
+
+-- XSAVES: the same, where the area keeps its XCOMP_BV.
+pub record SavesCompacted (bank : Bank) (id mask : ℕ) (before after : List ℕ) : Type 0 where
+  pub written : ℕ
+  pub within : (c : ℕ) → has written c ≡ true → has mask c ≡ true
+  pub left : (c : ℕ) → has mask c ≡ true → is_saved bank.file c ≡ true → has written c ≡ false → (is_unmodified bank.tracked id (xcomp_bv before) c ≡ true) × (xcomp_bv before ≡ compacted mask)
+  pub saved : IsCompactedSave bank.file mask written before after

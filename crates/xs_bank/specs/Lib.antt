@@ -1,0 +1,7 @@
+-- The definitions of banks, one file a noun, and what the crate's own loops cite.
+pub mod Trail
+pub mod Load
+pub mod Save
+pub mod Bank
+pub mod Rows
+pub mod Tracking

@@ -1,0 +1,20 @@
+//! Banks: the extended registers of one processor, and what its instructions do. The crate's contract is the trait
+//! `Bank`.
+#![tactic(auto)]
+
+mod bank;
+mod checks;
+mod instruction;
+mod loading;
+mod plain;
+mod saving;
+#[cfg(test)]
+mod tests;
+mod track;
+mod tracking;
+mod trail;
+
+pub use bank::Bank;
+pub use instruction::{Execs, Trap};
+pub use plain::PlainBank;
+pub use track::TrackBank;
