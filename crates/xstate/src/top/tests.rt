@@ -168,7 +168,7 @@ fn faults_are_told(rt: HostRuntime) -> Result<(), Fail> {
 #[test]
 fn a_longer_input_is_refused(rt: HostRuntime) -> Result<(), Fail> {
     let mut text = String::from_str(rt.alloc(), ONE_REGISTER)?;
-    for _ in 0..40000 {
+    for _ in 0..41000 {
         text.push_str("task abcdefghijklmnop\nend\n")?;
     }
     let answer = call(rt.alloc(), "run", text.as_str(), &[], &[])?;
