@@ -8,4 +8,5 @@ pub mod TakeLemmas
 pub mod StandLemmas
 pub mod FixtureLemmas
 pub mod HoldingLemmas
+pub mod KernelLemmas
 pub mod FileLaws

@@ -4,6 +4,7 @@ ghost use Rattle.std.specs.Prelude.{◌≡◌, ◌≤◌, length};
 ghost use Rattle.xs_base.specs.Header as header;
 
 use byteorder::{ByteOrder, LittleEndian};
+use xs_base::Class;
 
 /// A save area: its number, by which a bank knows it again, and its bytes. Bytes 0 to 511 are the legacy region and
 /// 512 to 575 the header (SDM volume 1, 13.4).
@@ -13,15 +14,6 @@ pub struct Area {
     pub id: u64,
     /// The area's bytes, at least 576.
     pub bytes: Vec<u8>,
-}
-
-/// The two lengths that a kernel area has: without room for TILEDATA, and with it.
-#[derive(Clone, Copy, PartialEq, Eq, Debug)]
-pub enum Class {
-    /// For a task that hasn't used TILEDATA.
-    Small,
-    /// For one that has.
-    Large,
 }
 
 /// An area that a task has from a pool, and its class.

@@ -15,15 +15,17 @@ mod fixtures;
 mod holding;
 #[cfg(test)]
 mod holding_tests;
+mod kernel;
 mod laws;
 mod standard;
 #[cfg(test)]
 mod tests;
 
-pub use area::{Area, Class, Lease, mxcsr, xcomp_bv, xstate_bv};
+pub use area::{Area, Lease, mxcsr, xcomp_bv, xstate_bv};
 pub use check::read_standard;
 pub use copies::{compact_of, copy_area};
 pub use holding::stands;
+pub use kernel::{class_features, class_size, compacted, make_initial};
 pub use laws::{a_file_can_be_cut, parts_have_a_file};
 pub use standard::standard_of;
-pub use xs_base::{HeaderError, Origin, Parts};
+pub use xs_base::{Class, HeaderError, Origin, Parts};

@@ -1,30 +1,26 @@
 -- What a save writes: room for it, the components with MXCSR, and the header.
-use Rattle.std.proofs.Common.{◌≡◌, ℕ, ◌+◌, ◌-◌, ◌<◌, ◌≤◌, ◌^◌, Bool, true, false, not, ◌&&◌, ◌||◌, List, length, get_or, if◌then◌else◌, refl, sym, ap, subst, ◌∙◌, arith}
-use Rattle.std.proofs.lemmas.Bool.{ne_eqb}
+use Rattle.std.proofs.Common.{◌≡◌, ℕ, ◌+◌, ◌-◌, ◌<◌, ◌≤◌, ◌^◌, Bool, true, false, not, ◌&&◌, List, length, get_or, if◌then◌else◌, refl, sym, ap, subst, ◌∙◌, arith}
 use Rattle.std.proofs.lemmas.Bool.Decides.{nat_tests}
-use Rattle.std.proofs.lemmas.Nat.{from_le_bytes-to_le_bytes_8}
-use Rattle.std.specs.Int.{from_le_bytes, to_le_bytes, w64}
+use Rattle.std.specs.Int.{to_le_bytes, w64}
 use Rattle.std.specs.Prelude.{slice_get, Some}
 use Rattle.xs_base.specs.declared.component.Row.{Row}
 use Rattle.xs_base.specs.Bytes.{splice, is_within}
-use Rattle.xs_base.specs.Compact.{place, has_place, is_compacted, compact_size}
+use Rattle.xs_base.specs.Compact.{place, compacted}
 use Rattle.xs_base.specs.File.{File, part, is_own, in_use, is_saved}
 use Rattle.xs_base.specs.Header.{xstate_bv, xcomp_bv}
-use Rattle.xs_base.specs.Layout.{IsLayout, has_row, standard_size}
-use Rattle.xs_bank.specs.Save.{IsWrittenArea, IsStandardSave, IsCompactedSave, compacted}
+use Rattle.xs_base.specs.Layout.{IsLayout, standard_size}
+use Rattle.xs_bank.specs.Save.{IsWrittenArea, IsStandardSave, IsCompactedSave}
 use Rattle.xs_base.specs.Sets.{has}
 use Rattle.xs_base.specs.Standard.{saved_byte, component_byte, control_bytes, has_control, has_byte, IsWritten}
-use Rattle.xs_base.proofs.ByteLemmas.{length_splice, splice_byte, range_splice, within_above, within_in, within_tells}
-use Rattle.xs_base.proofs.CompactLemmas.{compact_end_same}
-use Rattle.xs_base.proofs.LayoutLemmas.{sound_at, has_row_at}
-use Rattle.xs_base.proofs.PlaceLemmas.{compacted_within}
+use Rattle.xs_base.proofs.ByteLemmas.{length_splice, splice_byte, within_above, within_in, within_tells}
+use Rattle.xs_base.proofs.LayoutLemmas.{sound_at}
 use Rattle.xs_base.proofs.SizeLemmas.{end_covers}
 use Rattle.xs_base.proofs.StandardLemmas.{component_none}
 use Rattle.xs_area.proofs.CopyLemmas.{place_outside}
 use Rattle.xs_area.proofs.FinishLemmas.{xstate_bv_splice, xcomp_bv_same}
 use Rattle.xs_area.proofs.HeldLemmas.{control_eight}
+use Rattle.xs_area.proofs.KernelLemmas.{xcomp_bv_splice}
 use Rattle.xs_area.proofs.TakeLemmas.{row_index}
-use Rattle.xs_bank.proofs.SetBits.{has_compacted}
 
 -- ---- room
 
@@ -33,34 +29,6 @@ standard_room rows mask written len within room i r row on =
     let at = row_index rows i r row in
     let ends = end_covers (has mask) rows i r at.0 at.1 (within r.comp.0 on) in
     omega arith
-
-or_true : (b : Bool) → (b || true) ≡ true
-or_true true = refl
-or_true false = refl
-
-or_false : (b : Bool) → (b || false) ≡ b
-or_false true = refl
-or_false false = refl
-
--- a compacted area's XCOMP_BV has bit 63
-pub compacted_is : (mask : ℕ) → is_compacted (compacted mask) ≡ true
-compacted_is mask = has_compacted mask 63 ∙ or_true (has mask 63)
-
--- and the components of the mask
-pub compacted_has : (mask c : ℕ) → c < 63 → has (compacted mask) c ≡ has mask c
-compacted_has mask c small = has_compacted mask c ∙ ap (λ b. has mask c || b) (ne_eqb c 63 (λ e. omega arith)) ∙ or_false (has mask c)
-
-pub compacted_placed : (rows : List Row) (mask c : ℕ) → c < 63 → has_row rows c ≡ true → has mask c ≡ true → has_place rows (compacted mask) c ≡ true
-compacted_placed rows mask c small there on = rw (there, compacted_is mask, compacted_has mask c small, on) refl
-
-pub compact_room : (rows : List Row) (mask written names len : ℕ) → IsLayout rows → names ≡ compacted mask → ((c : ℕ) → has written c ≡ true → has mask c ≡ true) → compact_size rows mask ≤ len → (i : ℕ) (r : Row) → slice_get rows i ≡ Some r → has written r.comp.0 ≡ true → place rows names r + r.size ≤ len
-compact_room rows mask written names len table are within room i r row on =
-    let at = row_index rows i r row in
-    let number = (sound_at rows table i r at.0 at.1).number in
-    let placed = compacted_placed rows mask r.comp.0 (omega arith) (has_row_at rows i r at.0 at.1) (within r.comp.0 on) in
-    let ends = compacted_within rows table (compacted mask) i r at.0 at.1 (compacted_is mask) placed in
-    let size : compact_size rows (compacted mask) ≡ compact_size rows mask = compact_end_same (compacted mask) mask 576 rows (λ j s lt is. let small = (sound_at rows table j s lt is).number in compacted_has mask s.comp.0 (omega arith)) in
-    rw are (omega arith)
 
 -- ---- the components, and MXCSR
 
@@ -93,12 +61,6 @@ header_beside file mid after room is k inside =
     ap (λ l. get_or l k 0) is ∙ splice_byte 24 (control_bytes file.mxcsr) mid k fits ∙ ap (λ b. if b then get_or (control_bytes file.mxcsr) (k - 24) 0 else get_or mid k 0) (within_above 24 (length (control_bytes file.mxcsr)) k (omega arith))
 
 -- ---- the header
-
--- XCOMP_BV where its bytes were written
-pub xcomp_bv_splice : (area : List ℕ) (names : ℕ) → 528 ≤ length area → names < 2 ^ 64 → xcomp_bv (splice 520 (to_le_bytes w64 names) area) ≡ names
-unfolding xcomp_bv
-xcomp_bv_splice area names long small =
-    ap (from_le_bytes w64) (range_splice 520 528 (to_le_bytes w64 names) area long refl) ∙ from_le_bytes-to_le_bytes_8 names small
 
 -- eight bytes were written, and the others stay
 eight_other : (at n : ℕ) (area : List ℕ) (k : ℕ) → at + 8 ≤ length area → is_within at 8 k ≡ false → get_or (splice at (to_le_bytes w64 n) area) k 0 ≡ get_or area k 0

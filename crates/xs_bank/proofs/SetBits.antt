@@ -1,12 +1,10 @@
 -- Sets by their components: one set where a mask has it, and another elsewhere.
-use Rattle.std.proofs.Common.{◌≡◌, ◌⊎◌, inl, inr, ℕ, ◌+◌, ◌%◌, ◌^◌, ◌<◌, ◌==◌, Bool, true, false, ◌&&◌, ◌||◌, min, bit_and, bit_or, if◌then◌else◌, refl, sym, ap, ◌∙◌, arith}
+use Rattle.std.proofs.Common.{◌≡◌, ◌⊎◌, inl, inr, ℕ, ◌+◌, ◌%◌, ◌<◌, ◌==◌, Bool, true, false, ◌&&◌, ◌||◌, min, bit_and, bit_or, if◌then◌else◌, refl, sym, ap, ◌∙◌, arith}
 use Rattle.std.proofs.lemmas.Bool.{cases_eq}
 use Rattle.std.proofs.lemmas.Nat.Bits.{bit_at_and, bit_at_xor, bit_at-lt}
-use Rattle.std.proofs.lemmas.Nat.{or_comm}
 use Rattle.std.specs.Int.{bit_at}
 use Rattle.std.specs.Int.Bits.{bit_xor}
 use Rattle.xs_base.specs.Sets.{has}
-use Rattle.xs_bank.specs.Save.{compacted}
 use Rattle.xs_area.proofs.RoomLemmas.{has_more}
 
 -- a bit is 0 or 1
@@ -43,7 +41,3 @@ has_sse_more set c wanted on = has_more set 1 c (omega arith) ∙ here (has set 
     here true b w on = refl
     here false true w on = sym on
     here false false w on = refl
-
--- the components of a compacted area
-pub has_compacted : (mask c : ℕ) → has (compacted mask) c ≡ (has mask c || (c == 63))
-has_compacted mask c = ap (λ n. has n c) (or_comm (2 ^ 63) mask) ∙ has_more mask 63 c (omega arith)

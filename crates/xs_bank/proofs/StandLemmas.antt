@@ -9,12 +9,12 @@ use Rattle.xs_base.specs.declared.component.Row.{Row}
 use Rattle.xs_base.specs.Area.{StandsAt, StandsFor, control_in}
 use Rattle.xs_bank.specs.Bank.{IsKept}
 use Rattle.xs_base.specs.Bytes.{splice, is_within}
-use Rattle.xs_base.specs.Compact.{place, has_place, is_compacted}
+use Rattle.xs_base.specs.Compact.{place, has_place, is_compacted, compacted}
 use Rattle.xs_base.specs.Component.{initial_part, initial_mxcsr}
 use Rattle.xs_base.specs.File.{File, IsFile, part, is_own, in_use, is_saved}
 use Rattle.xs_base.specs.Header.{xstate_bv, xcomp_bv, mxcsr}
 use Rattle.xs_base.specs.Layout.{IsLayout, has_row}
-use Rattle.xs_bank.specs.Save.{IsWrittenArea, IsStandardSave, IsCompactedSave, StandsWithin, IsInitialOutside, compacted}
+use Rattle.xs_bank.specs.Save.{IsWrittenArea, IsStandardSave, IsCompactedSave, StandsWithin, IsInitialOutside}
 use Rattle.xs_base.specs.Sets.{has}
 use Rattle.xs_base.specs.Standard.{saved_byte, component_byte, control_bytes, has_control, has_byte}
 use Rattle.xs_base.proofs.ByteLemmas.{length_splice, splice_inside, within_above, within_below, within_in}
@@ -25,7 +25,7 @@ use Rattle.xs_area.proofs.CopyLemmas.{place_sides, own_outside}
 use Rattle.xs_area.proofs.FinishLemmas.{mxcsr_splice, mxcsr_same}
 use Rattle.xs_area.proofs.HeldLemmas.{control_eight}
 use Rattle.xs_area.proofs.TakeLemmas.{row_index}
-use Rattle.xs_bank.proofs.SaveLemmas.{compacted_is, compacted_placed}
+use Rattle.xs_area.proofs.KernelLemmas.{compacted_is, compacted_placed}
 
 -- ---- the bytes of an area that was written
 

@@ -1,6 +1,6 @@
 -- A bank: the extended registers of one processor, and what its instructions do (SDM volume 1, chapter 13). The counts and
 -- the trail are this project's own, as is that a trap changes nothing.
-use Rattle.std.specs.Prelude.{◌≡◌, ℕ, ◌^◌, ◌≤◌, Bool, true, false, not, ◌&&◌, ◌||◌, ◌==◌, List, slice_get, take, Option, Some, None, ◌⊎◌, if◌then◌else◌, bit_or}
+use Rattle.std.specs.Prelude.{◌≡◌, ℕ, ◌^◌, Bool, true, false, not, ◌&&◌, ◌||◌, ◌==◌, List, slice_get, take, Option, Some, None, ◌⊎◌, if◌then◌else◌, bit_or}
 use Rattle.std.specs.Int.{from_le_bytes, w32}
 use Rattle.xs_base.specs.declared.component.Row.{Row}
 use Rattle.xs_base.specs.declared.component.Place.{Place}
@@ -10,13 +10,13 @@ use Rattle.xs_bank.specs.declared.instruction.Execs.{Execs}
 use Rattle.xs_base.specs.Sets.{has}
 use Rattle.xs_base.specs.Component.{component_numbers, initial_part}
 use Rattle.xs_base.specs.Layout.{has_row, set_of}
-use Rattle.xs_base.specs.Compact.{place}
+use Rattle.xs_base.specs.Compact.{place, compacted}
 use Rattle.xs_base.specs.File.{File, part, with_part, with_pkru, initial_file, write_place, in_use, is_saved}
 use Rattle.xs_base.specs.Header.{xstate_bv, xcomp_bv}
 use Rattle.xs_base.specs.Area.{StandsAt, control_in}
 use Rattle.xs_bank.specs.Trail.{mixed, read_numbers, write_numbers, release_numbers, counted}
 use Rattle.xs_bank.specs.Load.{tiles}
-use Rattle.xs_bank.specs.Save.{compacted, IsStandardSave, IsCompactedSave}
+use Rattle.xs_bank.specs.Save.{IsStandardSave, IsCompactedSave}
 
 -- The area that was loaded last: its number, its XCOMP_BV, and the components that were changed since.
 pub record Tracked : Type 0 where

@@ -1,11 +1,11 @@
 -- Saves: XSAVE and XSAVEOPT into the standard format, XSAVES into the compacted one (SDM volume 1, 13.7, 13.9 and 13.11).
 -- Which components a save with an optimisation leaves out is its own choice, within what is said here.
-use Rattle.std.specs.Prelude.{◌≡◌, ℕ, ◌-◌, ◌<◌, ◌^◌, Bool, true, false, ◌&&◌, List, length, slice_index, slice_get, Some, if◌then◌else◌, bit_or}
+use Rattle.std.specs.Prelude.{◌≡◌, ℕ, ◌-◌, Bool, true, false, ◌&&◌, List, length, slice_index, slice_get, Some, if◌then◌else◌}
 use Rattle.xs_base.specs.declared.component.Row.{Row}
 use Rattle.xs_base.specs.Bytes.{is_within}
 use Rattle.xs_base.specs.Sets.{has}
 use Rattle.xs_base.specs.Component.{initial_part}
-use Rattle.xs_base.specs.Compact.{place, has_place}
+use Rattle.xs_base.specs.Compact.{place, has_place, compacted}
 use Rattle.xs_base.specs.File.{File, part, in_use, is_saved}
 use Rattle.xs_base.specs.Standard.{saved_byte, component_byte, control_bytes, has_control}
 use Rattle.xs_base.specs.Header.{xstate_bv, xcomp_bv}
@@ -28,10 +28,6 @@ pub record IsStandardSave (file : File) (mask written : ℕ) (before after : Lis
   pub bits : (c : ℕ) → has (xstate_bv after) c ≡ has_standard_bit file mask before c
   pub names : xcomp_bv after ≡ xcomp_bv before
   pub bytes : IsWrittenArea file 0 (has_control mask) written before after
-
--- XCOMP_BV of a compacted area of these components
-abbrev pub compacted : ℕ → ℕ
-compacted mask = bit_or (2 ^ 63) mask
 
 -- XSAVES, where these components were written: MXCSR goes with SSE.
 pub record IsCompactedSave (file : File) (mask written : ℕ) (before after : List ℕ) : Type 0 where

@@ -4,18 +4,18 @@ ghost use Rattle.std.specs.Prelude.{◌≡◌, ℕ, ◌+◌, ◌<◌, ◌≤◌,
 ghost use Rattle.std.specs.Int.{to_le_bytes, w64};
 ghost use Rattle.xs_base.specs.declared.component.Row.{Row};
 ghost use Rattle.xs_base.specs.Bytes.{splice, is_within};
-ghost use Rattle.xs_base.specs.Compact.{place, compact_size};
+ghost use Rattle.xs_base.specs.Compact.{place, compact_size, compacted};
 ghost use Rattle.xs_base.specs.File.{in_use, is_saved};
 ghost use Rattle.xs_base.specs.Layout.{standard_size, has_row};
 ghost use Rattle.xs_bank.specs.Bank.{IsKept};
 ghost use Rattle.xs_base.specs.Header.{xcomp_bv};
-ghost use Rattle.xs_bank.specs.Save.{IsWrittenArea, IsStandardSave, IsCompactedSave, StandsWithin, IsInitialOutside, compacted};
+ghost use Rattle.xs_bank.specs.Save.{IsWrittenArea, IsStandardSave, IsCompactedSave, StandsWithin, IsInitialOutside};
 ghost use Rattle.xs_base.specs.Area.{StandsFor};
 ghost use Rattle.xs_base.specs.Sets.{has};
 ghost use Rattle.xs_base.specs.Standard.{component_byte, saved_byte};
 
 use crate::checks::has_control;
-use xs_area::xstate_bv;
+use xs_area::{compacted, xstate_bv};
 use xs_base::{Comp, Features, put, put_component, put_control};
 use xs_regs::File;
 
@@ -53,13 +53,6 @@ pub fn save_compacted(file: &File, mask: Features, written: Features, into: &mut
     put_area(file, names, written.has(Comp(1)), written, into);
     put_number(into, 520, names.0);
     put_number(into, 512, saved_bits(file, mask).0);
-}
-
-/// XCOMP_BV of a compacted area with the components of the mask (SDM volume 1, 13.4.3).
-pub fn compacted(mask: Features) -> Features
-    ensures { result.0 ≡ compacted mask.0 }
-{
-    Features(0x8000_0000_0000_0000 | mask.0)
 }
 
 /// The components of the mask that a save with the init optimisation gives the bit 1: those in use, and SSE also where

@@ -3,13 +3,13 @@
 ghost use Rattle.std.specs.Prelude.{◌≡◌, ℕ, ◌≤◌, ◌<◌, ◌^◌, ◌&&◌, true, false, not, length, Some, []};
 ghost use Rattle.xs_bank.specs.Bank as banks;
 ghost use Rattle.xs_base.specs.Header as header;
-ghost use Rattle.xs_bank.specs.Save.{compacted};
+ghost use Rattle.xs_base.specs.Compact.{compacted};
 ghost use Rattle.xs_base.specs.File.{in_use, is_saved};
 ghost use Rattle.xs_base.specs.Sets.{has};
 ghost use Rattle.xs_bank.specs.Tracking.{shown};
 
-use crate::saving::{compacted, saved_bits};
-use xs_area::xcomp_bv;
+use crate::saving::saved_bits;
+use xs_area::{compacted, xcomp_bv};
 use xs_base::{Comp, Features};
 use xs_layout::Layout;
 use xs_regs::File;

@@ -1,11 +1,11 @@
 -- An area each of whose XSTATE_BV bits has a place stands for a file: what the bits name stands in its place, and the
 -- rest is initial.
-use Rattle.std.proofs.Common.{◌≡◌, ◌⊎◌, ℕ, ◌+◌, ◌^◌, ◌<◌, Bool, true, false, not, ◌&&◌, ◌||◌, ◌==◌, List, [], ◌∷◌, length, map, get_or, Option, Some, None, if◌then◌else◌, refl, sym, ap, ◌∙◌, inl, inr, arith, lit<}
-use Rattle.std.proofs.lemmas.Bool.{cases_lt, cases_Bool, false≢true, true≢false, ne_eqb}
-use Rattle.std.proofs.lemmas.List.{get_or_past, get_or_default}
+use Rattle.std.proofs.Common.{◌≡◌, ◌⊎◌, ℕ, ◌+◌, ◌^◌, ◌<◌, Bool, true, false, not, ◌&&◌, ◌==◌, List, [], length, map, get_or, Option, Some, None, if◌then◌else◌, refl, sym, ap, ◌∙◌, inl, inr, arith, lit<}
+use Rattle.std.proofs.lemmas.Bool.{cases_lt, cases_Bool, false≢true, ne_eqb}
+use Rattle.std.proofs.lemmas.List.{get_or_past}
 use Rattle.std.proofs.lemmas.List.FromFn.{length-map-range_with_len, get_or-map-range_with_len}
 use Rattle.std.proofs.lemmas.Option.{slice_get_within, get_or_from_slice_get}
-use Rattle.std.specs.List.{list_any, range_with_len}
+use Rattle.std.specs.List.{range_with_len}
 use Rattle.std.specs.Prelude.{slice_get, slice_range}
 use Rattle.std.proofs.lemmas.List.Edits.{get_or-between}
 use Rattle.xs_base.specs.declared.component.Row.{Row}
@@ -18,7 +18,7 @@ use Rattle.xs_base.specs.Layout.{IsLayout, has_row, row_of}
 use Rattle.xs_base.specs.Sets.{has}
 use Rattle.xs_base.proofs.ComponentLemmas.{length_initial}
 use Rattle.xs_base.proofs.FileLemmas.{initial_clean}
-use Rattle.xs_base.proofs.LayoutLemmas.{sound_at, same_index, has_row_at}
+use Rattle.xs_base.proofs.LayoutLemmas.{sound_at}
 use Rattle.xs_base.proofs.RowLemmas.{row_of_at}
 
 -- ---- the file of an area

@@ -1,7 +1,7 @@
 -- Places in the compacted format (SDM volume 1, 13.4.3): each component of the mask from 2 on follows the one before,
 -- and begins at a multiple of 64 where its row asks for it. The legacy region and the header are those of the
 -- standard format.
-use Rattle.std.specs.Prelude.{ℕ, ◌+◌, ◌*◌, ◌/◌, Bool, not, ◌&&◌, ◌||◌, ◌==◌, nat_le, List, [], ◌∷◌, if◌then◌else◌}
+use Rattle.std.specs.Prelude.{ℕ, ◌+◌, ◌*◌, ◌/◌, ◌^◌, Bool, not, ◌&&◌, ◌||◌, ◌==◌, nat_le, List, [], ◌∷◌, if◌then◌else◌, bit_or}
 use Rattle.xs_base.specs.declared.component.Row.{Row}
 use Rattle.xs_base.specs.Sets.{has}
 use Rattle.xs_base.specs.Layout.{has_row}
@@ -38,6 +38,10 @@ compact_offset rows mask c = compact_from mask c 576 rows
 
 abbrev pub is_compacted : ℕ → Bool
 is_compacted xcomp = has xcomp 63
+
+-- XCOMP_BV of a compacted area with a place for each of these components
+abbrev pub compacted : ℕ → ℕ
+compacted mask = bit_or (2 ^ 63) mask
 
 -- where the row's component stands
 abbrev pub place : List Row → ℕ → Row → ℕ

@@ -74,3 +74,9 @@ in_use file c = has_row file.rows c && not (bytes_eq (part file c) (initial_part
 -- in its initial configuration (SDM volume 1, 13.10 and 13.11).
 abbrev pub is_saved : File → ℕ → Bool
 is_saved file c = in_use file c || (c == 1 && not (file.mxcsr == initial_mxcsr))
+
+-- The files are the same, PKRU aside.
+pub record AreSameButPkru (file other : File) : Type 0 where
+  pub rows_are : other.rows ≡ file.rows
+  pub parts : (c : ℕ) → (c ≡ 9 → ⊥) → part other c ≡ part file c
+  pub control : other.mxcsr ≡ file.mxcsr

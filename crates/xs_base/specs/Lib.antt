@@ -11,4 +11,5 @@ pub mod Register
 pub mod Header
 pub mod HeaderCheck
 pub mod Area
+pub mod KernelArea
 pub mod Task

@@ -4,6 +4,7 @@
 #![tactic(auto)]
 
 mod bytes;
+mod class;
 mod component;
 mod header;
 mod lane;
@@ -16,6 +17,7 @@ mod words;
 pub use bytes::{
     clean, clear, put, put_component, put_control, put_initial, put_initial_component,
 };
+pub use class::Class;
 pub use component::{Comp, Features, Place, Row};
 pub use header::{HeaderError, Origin, Parts};
 pub use lane::Lane;

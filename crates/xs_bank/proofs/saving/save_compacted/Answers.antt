@@ -1,7 +1,8 @@
 -- The area has room, and the header beside the components.
 use Rattle.std.proofs.Common.{◌≤◌, length, arith}
 use Rattle.xs_base.proofs.CompactLemmas.{compact_size_low}
-use Rattle.xs_bank.proofs.SaveLemmas.{compact_room, compacted_saved}
+use Rattle.xs_area.proofs.KernelLemmas.{compact_room}
+use Rattle.xs_bank.proofs.SaveLemmas.{compacted_saved}
 use Rattle.xs_bank.proofs.StandLemmas.{compacted_stands, stands_whole}
 use Rattle.xs_bank.proofs.saving.save_compacted.Goals as goal
 
