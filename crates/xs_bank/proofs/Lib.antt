@@ -6,3 +6,4 @@ pub mod StandLemmas
 pub mod TrapLemmas
 pub mod ReadyLemmas
 pub mod ChangeLemmas
+pub mod WholeLemmas

@@ -9,13 +9,13 @@ use Rattle.xs_bank.specs.declared.instruction.Trap.TheVariants.{Gp, Nm}
 use Rattle.xs_base.specs.First.{first_of}
 use Rattle.xs_base.specs.Sets.{has}
 use Rattle.xs_base.specs.Component.{initial_part, initial_mxcsr}
-use Rattle.xs_base.specs.Layout.{features}
+use Rattle.xs_base.specs.Layout.{features, has_row}
 use Rattle.xs_base.specs.Compact.{is_compacted, place}
-use Rattle.xs_base.specs.File.{File, part}
+use Rattle.xs_base.specs.File.{File, IsFile, AreSameButPkru, part}
 use Rattle.xs_base.specs.Standard.{has_control}
 use Rattle.xs_base.specs.Header.{xstate_bv, xcomp_bv, mxcsr}
 use Rattle.xs_base.specs.HeaderCheck.{has_outside, has_reserved, is_wrong_mxcsr}
-use Rattle.xs_base.specs.Area.{StandsAt}
+use Rattle.xs_base.specs.Area.{StandsAt, StandsFor}
 
 -- the set of TILEDATA alone
 abbrev pub tiles : ℕ
@@ -64,3 +64,8 @@ pub record IsLoaded (mask : ℕ) (area : List ℕ) (control : ℕ) (before after
   pub absent : (i : ℕ) (r : Row) → slice_get before.rows i ≡ Some r → has mask r.comp.0 ≡ true → has (xstate_bv area) r.comp.0 ≡ false → part after r.comp.0 ≡ initial_part r.comp.0
   pub others : (c : ℕ) → has mask c ≡ false → part after c ≡ part before c
   pub control_is : after.mxcsr ≡ control
+
+-- A load of every component of the machine but PKRU, from an area that stands for a file, gives the registers of that file, PKRU
+-- aside: what the area has no state of is initial.
+abbrev pub IsWholeLoad : ℕ → List ℕ → List Row → File → Type 0
+IsWholeLoad mask area rows after = (file : File) → IsFile file → StandsFor rows area file → ((c : ℕ) → has_row rows c ≡ true → (c ≡ 9 → ⊥) → has mask c ≡ true) → AreSameButPkru file after

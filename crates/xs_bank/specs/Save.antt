@@ -1,6 +1,7 @@
 -- Saves: XSAVE and XSAVEOPT into the standard format, XSAVES into the compacted one (SDM volume 1, 13.7, 13.9 and 13.11).
 -- Which components a save with an optimisation leaves out is its own choice, within what is said here.
-use Rattle.std.specs.Prelude.{◌≡◌, ℕ, ◌-◌, Bool, true, false, ◌&&◌, List, length, slice_index, slice_get, Some, if◌then◌else◌}
+use Rattle.std.specs.Prelude.{◌≡◌, ℕ, ◌<◌, ◌^◌, ◌-◌, Bool, true, false, ◌&&◌, List, length, slice_index, slice_get, Some, if◌then◌else◌}
+use Rattle.xs_base.specs.declared.class.Class.{Class}
 use Rattle.xs_base.specs.declared.component.Row.{Row}
 use Rattle.xs_base.specs.Bytes.{is_within}
 use Rattle.xs_base.specs.Sets.{has}
@@ -10,6 +11,8 @@ use Rattle.xs_base.specs.File.{File, part, in_use, is_saved}
 use Rattle.xs_base.specs.Standard.{saved_byte, component_byte, control_bytes, has_control}
 use Rattle.xs_base.specs.Header.{xstate_bv, xcomp_bv}
 use Rattle.xs_base.specs.Area.{StandsAt, control_in}
+use Rattle.xs_base.specs.HeaderCheck.{has_reserved}
+use Rattle.xs_base.specs.KernelArea.{class_features}
 
 -- Every byte of the area but those of XSTATE_BV and XCOMP_BV: the components that were written stand at their places by
 -- this XCOMP_BV, MXCSR and its mask where they were written, and every other byte is as before.
@@ -48,3 +51,12 @@ pub record StandsWithin (mask : ℕ) (area : List ℕ) (file : File) : Type 0 wh
 -- The file is initial outside the mask, PKRU aside.
 abbrev pub IsInitialOutside : ℕ → File → Type 0
 IsInitialOutside mask file = (i : ℕ) (r : Row) → slice_get file.rows i ≡ Some r → (r.comp.0 ≡ 9 → ⊥) → has mask r.comp.0 ≡ false → part file r.comp.0 ≡ initial_part r.comp.0
+
+-- A save of a mask into an area of a class that can be loaded after it: the mask has the components of the class, outside it the
+-- file is initial, its MXCSR has no bit above 15, and the area's reserved bytes are zero and its number is one that a pool gives.
+pub record IsLoadableSave (file : File) (mask : ℕ) (class : Class) (id : ℕ) (before : List ℕ) : Type 0 where
+  pub features : mask ≡ class_features file.rows class
+  pub outside : IsInitialOutside mask file
+  pub control : file.mxcsr < 2 ^ 16
+  pub reserved : has_reserved before ≡ false
+  pub numbered : id ≡ 0 → ⊥

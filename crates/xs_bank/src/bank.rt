@@ -1,12 +1,14 @@
 //! The instructions of a bank.
 
-ghost use Rattle.std.specs.Prelude.{◌≡◌, ℕ, ◌⊎◌, List, ◌+◌, ◌≤◌, true, length, slice_index, slice_get, Some, None, IfOk, IfErr, MatchResult};
+ghost use Rattle.std.specs.Prelude.{◌≡◌, ℕ, ◌⊎◌, List, ◌+◌, ◌≤◌, true, false, length, slice_index, slice_get, Some, None, IfOk, IfErr, MatchResult};
+ghost use Rattle.xs_base.specs.declared.class.Class.{Class};
 ghost use Rattle.xs_base.specs.declared.component.Row.{Row};
 ghost use Rattle.xs_bank.specs.Bank as banks;
 ghost use Rattle.xs_base.specs.Area.{StandsFor, HoldsPlaces};
 ghost use Rattle.xs_base.specs.Compact.{is_compacted, compact_size};
 ghost use Rattle.xs_base.specs.File.{IsFile, read_place, is_mxcsr};
 ghost use Rattle.xs_base.specs.Header.{xstate_bv, xcomp_bv};
+ghost use Rattle.xs_base.specs.KernelArea.{IsLoadable};
 ghost use Rattle.xs_base.specs.Layout.{has_row, standard_size};
 ghost use Rattle.xs_bank.specs.Load as load;
 ghost use Rattle.xs_base.specs.Register.{IsRegister};
@@ -75,7 +77,8 @@ pub trait Bank: Drop {
         ensures bank { state self.new ≡ record (state self.old) { saves = trail.counted (state self.old).saves } }
         ensures area { banks.SavesStandard (state self.old) area.old.id mask.0 area.old.bytes.items area.new.bytes.items }
         ensures id { area.new.id ≡ area.old.id }
-        ensures stands { save.StandsWithin mask.0 area.new.bytes.items (state self.old).file };
+        ensures stands { save.StandsWithin mask.0 area.new.bytes.items (state self.old).file }
+        ensures ready { banks.IsReady (state self.new) area.new.id mask.0 area.new.bytes.items };
 
     /// Saves the components of the mask in the compacted format, but may leave out those that are initial, and those that
     /// weren't changed since this area was loaded (SDM volume 1, 13.11). The area has at least `compact_size(mask)` bytes. It
@@ -88,7 +91,9 @@ pub trait Bank: Drop {
         ensures area { banks.SavesCompacted (state self.old) area.old.id mask.0 area.old.bytes.items area.new.bytes.items }
         ensures id { area.new.id ≡ area.old.id }
         ensures stands { save.StandsWithin mask.0 area.new.bytes.items (state self.old).file }
-        ensures whole { has mask.0 1 ≡ true → save.IsInitialOutside mask.0 (state self.old).file → StandsFor (state self.old).file.rows area.new.bytes.items (state self.old).file };
+        ensures whole { has mask.0 1 ≡ true → save.IsInitialOutside mask.0 (state self.old).file → StandsFor (state self.old).file.rows area.new.bytes.items (state self.old).file }
+        ensures loadable { (class : Class) → save.IsLoadableSave (state self.old).file mask.0 class area.old.id area.old.bytes.items → IsLoadable (state self.old).file.rows class area.new.id area.new.bytes.items }
+        ensures ready { banks.IsReady (state self.new) area.new.id mask.0 area.new.bytes.items };
 
     /// Loads the components of the mask from an area in the standard format (SDM volume 1, 13.8). The area has at least 576
     /// bytes, and the standard place of each component of the mask that its XSTATE_BV names. Refused by the first reason
@@ -102,7 +107,9 @@ pub trait Bank: Drop {
         ensures tracked { IfOk result (λ _. banks.TracksAtMost (state self.new).tracked (banks.loaded_from (state self.old).file.rows area.now.id mask.0 area.now.bytes.items)) }
         ensures bank { IfOk result (λ _. state self.new ≡ record (state self.old) { file = (state self.new).file; tracked = (state self.new).tracked; loads = trail.counted (state self.old).loads }) }
         ensures kept { IfErr result (λ _. state self.new ≡ state self.old) }
-        ensures ready { IfOk result (λ _. (m : ℕ) → banks.IsReady (state self.new) area.now.id m area.now.bytes.items) };
+        ensures ready { IfOk result (λ _. (m : ℕ) → banks.IsReady (state self.new) area.now.id m area.now.bytes.items) }
+        ensures whole { IfOk result (λ _. load.IsWholeLoad mask.0 area.now.bytes.items (state self.old).file.rows (state self.new).file) }
+        ensures accepted { (class : Class) → IsLoadable (state self.old).file.rows class area.now.id area.now.bytes.items → xcomp_bv area.now.bytes.items ≡ 0 → load.stops_tiles (state self.old).armed mask.0 area.now.bytes.items ≡ false → IfErr result (λ _. ⊥) };
 
     /// Loads the components of the mask from an area in the compacted format (SDM volume 1, 13.12). The area has at least
     /// 576 bytes, and the compacted place of each component of the machine that its XCOMP_BV names. Refused by the first
@@ -116,7 +123,9 @@ pub trait Bank: Drop {
         ensures tracked { IfOk result (λ _. banks.TracksAtMost (state self.new).tracked (banks.loaded_from (state self.old).file.rows area.now.id mask.0 area.now.bytes.items)) }
         ensures bank { IfOk result (λ _. state self.new ≡ record (state self.old) { file = (state self.new).file; tracked = (state self.new).tracked; loads = trail.counted (state self.old).loads }) }
         ensures kept { IfErr result (λ _. state self.new ≡ state self.old) }
-        ensures ready { IfOk result (λ _. (m : ℕ) → banks.IsReady (state self.new) area.now.id m area.now.bytes.items) };
+        ensures ready { IfOk result (λ _. (m : ℕ) → banks.IsReady (state self.new) area.now.id m area.now.bytes.items) }
+        ensures whole { IfOk result (λ _. load.IsWholeLoad mask.0 area.now.bytes.items (state self.old).file.rows (state self.new).file) }
+        ensures accepted { (class : Class) → IsLoadable (state self.old).file.rows class area.now.id area.now.bytes.items → is_compacted (xcomp_bv area.now.bytes.items) ≡ true → load.stops_tiles (state self.old).armed mask.0 area.now.bytes.items ≡ false → IfErr result (λ _. ⊥) };
 
     /// PKRU (SDM volume 2, RDPKRU). It isn't counted.
     fn rdpkru(&self) -> u32

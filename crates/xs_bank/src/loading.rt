@@ -1,6 +1,6 @@
 //! Loads: what any bank takes of an area.
 
-ghost use Rattle.std.specs.Prelude.{◌≡◌, ℕ, ◌+◌, ◌≤◌, true, length, slice_get, Some, None, IfOk, IfErr, MatchResult};
+ghost use Rattle.std.specs.Prelude.{◌≡◌, ℕ, ◌+◌, ◌≤◌, true, false, length, slice_get, Some, None, IfOk, IfErr, MatchResult};
 ghost use Rattle.xs_base.specs.declared.component.Row.{Row};
 ghost use Rattle.xs_base.specs.Compact.{place, is_compacted};
 ghost use Rattle.xs_base.specs.Area.{HoldsPlaces};
@@ -8,7 +8,9 @@ ghost use Rattle.xs_bank.specs.Bank.{disarmed_file};
 ghost use Rattle.xs_base.specs.Header as header;
 ghost use Rattle.xs_base.specs.Layout.{IsSound, has_row};
 ghost use Rattle.xs_bank.specs.Load as load;
-ghost use Rattle.xs_bank.specs.Load.{IsLoaded};
+ghost use Rattle.xs_bank.specs.Load.{IsLoaded, IsWholeLoad};
+ghost use Rattle.xs_base.specs.KernelArea.{IsLoadable};
+ghost use Rattle.xs_base.specs.declared.class.Class.{Class};
 ghost use Rattle.xs_base.specs.Sets.{has};
 ghost use Rattle.xs_bank.specs.Rows.{IsRowLoaded};
 
@@ -32,6 +34,8 @@ pub fn load_standard(
     requires places { (i : ℕ) (r : Row) → slice_get file.old.rows i ≡ Some r → has mask.0 r.comp.0 ≡ true → has (header.xstate_bv area.now) r.comp.0 ≡ true → r.offset + r.size ≤ length area.now }
     ensures trap { MatchResult result (λ _. load.standard_trap file.old.rows armed.0 mask.0 area.now ≡ None) (λ t. load.standard_trap file.old.rows armed.0 mask.0 area.now ≡ Some t) }
     ensures loaded { IfOk result (λ _. IsLoaded mask.0 area.now (load.standard_control mask.0 area.now file.old.mxcsr) file.old file.new) }
+    ensures whole { IfOk result (λ _. IsWholeLoad mask.0 area.now file.old.rows file.new) }
+    ensures accepted { (class : Class) (id : ℕ) → IsLoadable file.old.rows class id area.now → header.xcomp_bv area.now ≡ 0 → load.stops_tiles armed.0 mask.0 area.now ≡ false → IfErr result (λ _. ⊥) }
     ensures kept { IfErr result (λ _. file.new ≡ file.old) }
 {
     let trap = standard_trap(file.layout(), armed, mask, area);
@@ -40,6 +44,8 @@ pub fn load_standard(
     }
     let control = standard_control(mask, area, file.mxcsr());
     load(file, mask, area, control);
+    // The file is one of its machine.
+    let _ = file.layout();
     Ok(())
 }
 
@@ -56,6 +62,8 @@ pub fn load_compacted(
     requires places { is_compacted (header.xcomp_bv area.now) ≡ true → HoldsPlaces file.old.rows area.now (header.xcomp_bv area.now) }
     ensures trap { MatchResult result (λ _. load.compacted_trap file.old.rows armed.0 mask.0 area.now ≡ None) (λ t. load.compacted_trap file.old.rows armed.0 mask.0 area.now ≡ Some t) }
     ensures loaded { IfOk result (λ _. IsLoaded mask.0 area.now (load.compacted_control mask.0 area.now file.old.mxcsr) file.old file.new) }
+    ensures whole { IfOk result (λ _. IsWholeLoad mask.0 area.now file.old.rows file.new) }
+    ensures accepted { (class : Class) (id : ℕ) → IsLoadable file.old.rows class id area.now → is_compacted (header.xcomp_bv area.now) ≡ true → load.stops_tiles armed.0 mask.0 area.now ≡ false → IfErr result (λ _. ⊥) }
     ensures kept { IfErr result (λ _. file.new ≡ file.old) }
 {
     let trap = compacted_trap(file.layout(), armed, mask, area);
@@ -64,6 +72,8 @@ pub fn load_compacted(
     }
     let control = compacted_control(mask, area, file.mxcsr());
     load(file, mask, area, control);
+    // The file is one of its machine.
+    let _ = file.layout();
     Ok(())
 }
 

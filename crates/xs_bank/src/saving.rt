@@ -9,7 +9,9 @@ ghost use Rattle.xs_base.specs.File.{in_use, is_saved};
 ghost use Rattle.xs_base.specs.Layout.{standard_size, has_row};
 ghost use Rattle.xs_bank.specs.Bank.{IsKept};
 ghost use Rattle.xs_base.specs.Header.{xcomp_bv};
-ghost use Rattle.xs_bank.specs.Save.{IsWrittenArea, IsStandardSave, IsCompactedSave, StandsWithin, IsInitialOutside};
+ghost use Rattle.xs_bank.specs.Save.{IsWrittenArea, IsStandardSave, IsCompactedSave, StandsWithin, IsInitialOutside, IsLoadableSave};
+ghost use Rattle.xs_base.specs.KernelArea.{IsLoadable};
+ghost use Rattle.xs_base.specs.declared.class.Class.{Class};
 ghost use Rattle.xs_base.specs.Area.{StandsFor};
 ghost use Rattle.xs_base.specs.Sets.{has};
 ghost use Rattle.xs_base.specs.Standard.{component_byte, saved_byte};
@@ -46,6 +48,7 @@ pub fn save_compacted(file: &File, mask: Features, written: Features, into: &mut
     ensures saved { IsCompactedSave file.now mask.0 written.0 into.old into.new }
     ensures stands { ((i : ℕ) (r : Row) → slice_get file.now.rows i ≡ Some r → has mask.0 r.comp.0 ≡ true → is_saved file.now r.comp.0 ≡ true → has written.0 r.comp.0 ≡ false → IsKept file.now into.old r × (xcomp_bv into.old ≡ compacted mask.0)) → StandsWithin mask.0 into.new file.now }
     ensures whole { StandsWithin mask.0 into.new file.now → has mask.0 1 ≡ true → IsInitialOutside mask.0 file.now → StandsFor file.now.rows into.new file.now }
+    ensures loadable { (class : Class) (id : ℕ) → IsLoadableSave file.now mask.0 class id into.old → StandsWithin mask.0 into.new file.now → IsLoadable file.now.rows class id into.new }
 {
     // The rows pass every test of a table.
     let _ = file.layout();

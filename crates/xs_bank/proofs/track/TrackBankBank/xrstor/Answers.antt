@@ -17,3 +17,6 @@ returns-clause-ready c = λ m i r row wanted unmodified.
     let tracked = rw (c.layout.ensures.rows, c.deref-2.ensures.value) at c.track-self.ensures in
     let control = standard_control_is mask area file.mxcsr (standard_format file.rows c.args.self.now.armed.0 mask area none) in
     ready_loaded file c.load_standard.new.file mask area (standard_control mask area file.mxcsr) c.args.area.now.id (shown c.track-self.result) c.layout.ensures.file.layout loaded control tracked i r row unmodified
+
+pub returns-in_err-load_standard-clause-accepted : goal.returns-in_err-load_standard-clause-accepted
+returns-in_err-load_standard-clause-accepted c = λ class loadable format tiles. absurd ((rw (c.deref.ensures.value) at c.in_err-load_standard.ensures.accepted) class c.args.area.now.id loadable format tiles)

@@ -17,3 +17,6 @@ returns-clause-ready c = λ m i r row wanted unmodified.
     let tracked = rw (c.layout.ensures.rows, c.deref-2.ensures.value) at c.track-self.ensures in
     let control = compacted_control_is mask area file.mxcsr (compacted_format file.rows c.args.self.now.armed.0 mask area none).0 in
     ready_loaded file c.load_compacted.new.file mask area (compacted_control mask area file.mxcsr) c.args.area.now.id (shown c.track-self.result) c.layout.ensures.file.layout loaded control tracked i r row unmodified
+
+pub returns-in_err-load_compacted-clause-accepted : goal.returns-in_err-load_compacted-clause-accepted
+returns-in_err-load_compacted-clause-accepted c = λ class loadable format tiles. absurd ((rw (c.deref.ensures.value) at c.in_err-load_compacted.ensures.accepted) class c.args.area.now.id loadable format tiles)

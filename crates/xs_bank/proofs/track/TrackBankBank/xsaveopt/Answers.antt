@@ -3,6 +3,8 @@ use Rattle.std.proofs.Common.{length, ap, ◌∙◌, arith}
 use Rattle.std.proofs.lemmas.List.{with_items_is}
 use Rattle.xs_base.specs.Sets.{has}
 use Rattle.xs_base.proofs.SizeLemmas.{end_low}
+use Rattle.xs_bank.specs.Save.{StandsWithin}
+use Rattle.xs_bank.proofs.WholeLemmas.{ready_stands}
 use Rattle.xs_bank.proofs.track.TrackBankBank.xsaveopt.Goals as goal
 
 pub to_save_standard-written-requires : goal.to_save_standard-written-requires
@@ -20,9 +22,19 @@ returns-clause-area c =
       saved = rw (c.deref_mut.ensures.value) at c.save_standard.ensures.saved;
     })
 
+-- what is left out stands in the area
+stands_is : (c : goal.After-self-1) → StandsWithin c.args.mask.0 c.save_standard.new.into c.args.self.now.file
+stands_is c =
+    let left = rw (c.deref.ensures.value) at c.to_save_standard-written.ensures.left in
+    let stands = rw (c.deref_mut.ensures.value) at c.save_standard.ensures.stands in
+    stands c.requires.standard (λ i r row wanted used off. c.requires.ready i r row wanted (left r.comp.0 wanted used off))
+
 pub returns-clause-stands : goal.returns-clause-stands
 returns-clause-stands c =
     let len = c.save_standard.ensures.saved.bytes.len ∙ c.deref_mut.ensures.len in
-    let left = rw (c.deref.ensures.value) at c.to_save_standard-written.ensures.left in
-    let stands = rw (c.deref_mut.ensures.value) at c.save_standard.ensures.stands in
-    rw (with_items_is c.args.area.now.bytes c.save_standard.new.into len) (stands c.requires.standard (λ i r row wanted used off. c.requires.ready i r row wanted (left r.comp.0 wanted used off)))
+    rw (with_items_is c.args.area.now.bytes c.save_standard.new.into len) (stands_is c)
+
+pub returns-clause-ready : goal.returns-clause-ready
+returns-clause-ready c = λ i r row wanted unmodified.
+    let len = c.save_standard.ensures.saved.bytes.len ∙ c.deref_mut.ensures.len in
+    rw (with_items_is c.args.area.now.bytes c.save_standard.new.into len) (ready_stands c.args.mask.0 c.save_standard.new.into c.args.self.now.file (stands_is c) i r row wanted)
