@@ -5,3 +5,4 @@ pub mod Save
 pub mod Bank
 pub mod Rows
 pub mod Tracking
+pub mod Holds

@@ -4,6 +4,7 @@
 
 mod bank;
 mod checks;
+mod cpu;
 mod instruction;
 mod loading;
 mod plain;
@@ -15,6 +16,7 @@ mod tracking;
 mod trail;
 
 pub use bank::Bank;
+pub use cpu::Cpu;
 pub use instruction::{Execs, Trap};
 pub use plain::PlainBank;
 pub use track::TrackBank;

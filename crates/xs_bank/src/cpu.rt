@@ -1,0 +1,82 @@
+//! A processor: its bank, and what the kernel keeps for it.
+
+ghost use Rattle.std.specs.Prelude.{◌≡◌, ℕ, length, None, IfOk};
+ghost use Rattle.xs_base.specs.Area.{StandsFor};
+ghost use Rattle.xs_base.specs.File.{initial_file};
+ghost use Rattle.xs_base.specs.KernelArea.{IsLoadable};
+ghost use Rattle.xs_base.specs.Layout.{avx_rows};
+ghost use Rattle.xs_base.specs.declared.class.Class.TheVariants.{Small};
+ghost use Rattle.xs_bank.specs.Bank as banks;
+
+use crate::bank::Bank;
+use std::alloc::{AllocError, Global};
+use xs_area::{Area, Class, make_initial};
+use xs_layout::Layout;
+
+/// The bytes of a processor's initial area: those of the greatest area of any machine.
+const INITIAL_BYTES: usize = 16384;
+
+/// A processor with its bank. Beside it the kernel keeps the owner mark, which is the block whose registers the bank may
+/// still hold (Linux 6.6, arch/x86/include/asm/fpu/api.h, fpu_fpregs_owner_ctx), and an area in the initial configuration,
+/// from which every register is made initial (arch/x86/kernel/fpu/core.c, init_fpstate).
+#[derive(Drop)]
+pub struct Cpu<B: Bank> {
+    /// The processor's number.
+    pub number: u32,
+    /// The machine, which is the bank's from the set-up on.
+    pub layout: Layout,
+    /// The registers.
+    pub bank: B,
+    /// The owner mark.
+    pub mark: Option<u32>,
+    /// A Small area without state, of 16,384 bytes and number 0.
+    pub initial: Area,
+}
+
+impl<B: Bank> Cpu<B> {
+    /// A processor that isn't set up: its machine is the one with x87, SSE and AVX alone, and its mark is none. The bank stays
+    /// as it is. Fails for want of memory alone, and then the bank is dropped.
+    pub fn new(alloc: Global, number: u32, bank: B) -> Result<Cpu<B>, AllocError>
+        ensures number { IfOk result (λ cpu. cpu.number ≡ number) }
+        ensures layout { IfOk result (λ cpu. cpu.layout ≡ avx_rows) }
+        ensures bank { IfOk result (λ cpu. cpu.bank ≡ bank) }
+        ensures mark { IfOk result (λ cpu. cpu.mark ≡ None) }
+        ensures id { IfOk result (λ cpu. cpu.initial.id ≡ 0) }
+        ensures room { IfOk result (λ cpu. length cpu.initial.bytes.items ≡ 16384) }
+    {
+        let bytes = zeros_of(alloc, INITIAL_BYTES)?;
+        Ok(Cpu {
+            number,
+            layout: Layout::avx(),
+            bank,
+            mark: None,
+            initial: Area { id: 0, bytes },
+        })
+    }
+
+    /// Sets the processor up for a machine: the bank is set up, the mark is none, and the initial area, of 16,384 bytes, is a
+    /// Small one in the compacted format that stands for the initial file. Takes no memory.
+    pub fn set_up(&mut self, layout: &Layout)
+        requires { length self.old.initial.bytes.items ≡ 16384 }
+        ensures number { self.new.number ≡ self.old.number }
+        ensures layout { self.new.layout ≡ layout.now }
+        ensures bank { B.state self.new.bank ≡ banks.set_up (B.state self.old.bank) layout.now }
+        ensures mark { self.new.mark ≡ None }
+        ensures id { self.new.initial.id ≡ self.old.initial.id }
+        ensures room { length self.new.initial.bytes.items ≡ 16384 }
+        ensures stands { StandsFor layout.now self.new.initial.bytes.items (initial_file layout.now) }
+        ensures loadable { (id : ℕ) → (id ≡ 0 → ⊥) → IsLoadable layout.now Small id self.new.initial.bytes.items }
+    {
+        self.bank.set_up(layout);
+        self.layout = *layout;
+        self.mark = None;
+        make_initial(layout, Class::Small, &mut self.initial.bytes);
+    }
+}
+
+/// A vector of `len` zeros.
+fn zeros_of(alloc: Global, len: usize) -> Result<Vec<u8>, AllocError>
+    ensures { IfOk result (λ v. length v.items ≡ len) }
+{
+    vec![in alloc; 0u8; len]
+}
