@@ -1,6 +1,6 @@
 //! A processor: its bank, and what the kernel keeps for it.
 
-ghost use Rattle.std.specs.Prelude.{◌≡◌, ℕ, length, None, IfOk};
+ghost use Rattle.std.specs.Prelude.{◌≡◌, ℕ, None, IfOk};
 ghost use Rattle.xs_base.specs.Area.{StandsFor};
 ghost use Rattle.xs_base.specs.File.{initial_file};
 ghost use Rattle.xs_base.specs.KernelArea.{IsLoadable};
@@ -9,12 +9,9 @@ ghost use Rattle.xs_base.specs.declared.class.Class.TheVariants.{Small};
 ghost use Rattle.xs_bank.specs.Bank as banks;
 
 use crate::bank::Bank;
+use crate::initial_area::InitialArea;
 use std::alloc::{AllocError, Global};
-use xs_area::{Area, Class, make_initial};
 use xs_layout::Layout;
-
-/// The bytes of a processor's initial area: those of the greatest area of any machine.
-const INITIAL_BYTES: usize = 16384;
 
 /// A processor with its bank. Beside it the kernel keeps the owner mark, which is the block whose registers the bank may
 /// still hold (Linux 6.6, arch/x86/include/asm/fpu/api.h, fpu_fpregs_owner_ctx), and an area in the initial configuration,
@@ -29,8 +26,8 @@ pub struct Cpu<B: Bank> {
     pub bank: B,
     /// The owner mark.
     pub mark: Option<u32>,
-    /// A Small area without state, of 16,384 bytes and number 0.
-    pub initial: Area,
+    /// A Small area without state, of number 0.
+    pub initial: InitialArea,
 }
 
 impl<B: Bank> Cpu<B> {
@@ -41,42 +38,30 @@ impl<B: Bank> Cpu<B> {
         ensures layout { IfOk result (λ cpu. cpu.layout ≡ avx_rows) }
         ensures bank { IfOk result (λ cpu. cpu.bank ≡ bank) }
         ensures mark { IfOk result (λ cpu. cpu.mark ≡ None) }
-        ensures id { IfOk result (λ cpu. cpu.initial.id ≡ 0) }
-        ensures room { IfOk result (λ cpu. length cpu.initial.bytes.items ≡ 16384) }
     {
-        let bytes = zeros_of(alloc, INITIAL_BYTES)?;
+        let initial = InitialArea::new(alloc)?;
         Ok(Cpu {
             number,
             layout: Layout::avx(),
             bank,
             mark: None,
-            initial: Area { id: 0, bytes },
+            initial,
         })
     }
 
-    /// Sets the processor up for a machine: the bank is set up, the mark is none, and the initial area, of 16,384 bytes, is a
-    /// Small one in the compacted format that stands for the initial file. Takes no memory.
+    /// Sets the processor up for a machine: the bank is set up, the mark is none, and the initial area is a Small one in the
+    /// compacted format that stands for the initial file. Takes no memory.
     pub fn set_up(&mut self, layout: &Layout)
-        requires { length self.old.initial.bytes.items ≡ 16384 }
         ensures number { self.new.number ≡ self.old.number }
         ensures layout { self.new.layout ≡ layout.now }
         ensures bank { B.state self.new.bank ≡ banks.set_up (B.state self.old.bank) layout.now }
         ensures mark { self.new.mark ≡ None }
-        ensures id { self.new.initial.id ≡ self.old.initial.id }
-        ensures room { length self.new.initial.bytes.items ≡ 16384 }
-        ensures stands { StandsFor layout.now self.new.initial.bytes.items (initial_file layout.now) }
-        ensures loadable { (id : ℕ) → (id ≡ 0 → ⊥) → IsLoadable layout.now Small id self.new.initial.bytes.items }
+        ensures stands { StandsFor layout.now self.new.initial (initial_file layout.now) }
+        ensures loadable { (id : ℕ) → (id ≡ 0 → ⊥) → IsLoadable layout.now Small id self.new.initial }
     {
         self.bank.set_up(layout);
         self.layout = *layout;
         self.mark = None;
-        make_initial(layout, Class::Small, &mut self.initial.bytes);
+        self.initial.set_up(layout);
     }
-}
-
-/// A vector of `len` zeros.
-fn zeros_of(alloc: Global, len: usize) -> Result<Vec<u8>, AllocError>
-    ensures { IfOk result (λ v. length v.items ≡ len) }
-{
-    vec![in alloc; 0u8; len]
 }

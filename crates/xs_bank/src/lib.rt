@@ -5,6 +5,7 @@
 mod bank;
 mod checks;
 mod cpu;
+mod initial_area;
 mod instruction;
 mod loading;
 mod plain;
@@ -17,6 +18,7 @@ mod trail;
 
 pub use bank::Bank;
 pub use cpu::Cpu;
+pub use initial_area::InitialArea;
 pub use instruction::{Execs, Trap};
 pub use plain::PlainBank;
 pub use track::TrackBank;

@@ -1,0 +1,67 @@
+//! A processor's area in the initial configuration.
+
+ghost use Rattle.std.specs.Prelude.{◌≡◌, ℕ, length, IfOk};
+ghost use Rattle.xs_base.specs.Area.{StandsFor};
+ghost use Rattle.xs_base.specs.File.{initial_file};
+ghost use Rattle.xs_base.specs.KernelArea.{IsLoadable};
+ghost use Rattle.xs_base.specs.declared.class.Class.TheVariants.{Small};
+
+use std::alloc::{AllocError, Global};
+use std::marker::Model;
+use xs_area::{Area, Class, make_initial};
+use xs_layout::Layout;
+
+/// The bytes of an initial area: those of the greatest area of any machine.
+const INITIAL_BYTES: usize = 16384;
+
+/// An area of 16,384 bytes and number 0, which no pool gives. Contracts see the list of its bytes.
+#[derive(Drop)]
+pub struct InitialArea {
+    area: Area,
+}
+
+impl Model for InitialArea {
+    ghost use Rattle.std.specs.Prelude.{◌≡◌, List, ℕ, vec_len};
+
+    ghost Value = { List ℕ };
+
+    ghost view = { λ i. i.area.bytes.items };
+
+    ghost invariant = { λ i. (i.area.id ≡ 0) × (vec_len i.area.bytes ≡ 16384) };
+}
+
+impl InitialArea {
+    /// An area of zeros. Fails for want of memory alone.
+    pub fn new(alloc: Global) -> Result<InitialArea, AllocError>
+        ensures { IfOk result (λ initial. length initial ≡ 16384) }
+    {
+        let bytes = zeros_of(alloc, INITIAL_BYTES)?;
+        Ok(InitialArea {
+            area: Area { id: 0, bytes },
+        })
+    }
+
+    /// The area.
+    pub fn area(&self) -> &Area
+        ensures bytes { result.now.bytes.items ≡ self.now }
+        ensures id { result.now.id ≡ 0 }
+        ensures len { length self.now ≡ 16384 }
+    {
+        &self.area
+    }
+
+    /// Makes it a Small area of the machine without state, in the compacted format. But for its number it can be loaded.
+    pub fn set_up(&mut self, layout: &Layout)
+        ensures stands { StandsFor layout.now self.new (initial_file layout.now) }
+        ensures loadable { (id : ℕ) → (id ≡ 0 → ⊥) → IsLoadable layout.now Small id self.new }
+    {
+        make_initial(layout, Class::Small, &mut self.area.bytes);
+    }
+}
+
+/// A vector of `len` zeros.
+fn zeros_of(alloc: Global, len: usize) -> Result<Vec<u8>, AllocError>
+    ensures { IfOk result (λ v. length v.items ≡ len) }
+{
+    vec![in alloc; 0u8; len]
+}
