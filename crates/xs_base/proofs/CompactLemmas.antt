@@ -1,12 +1,15 @@
 -- Places in the compacted format.
-use Rattle.std.proofs.Common.{◌≡◌, ◌≢◌, ◌⊎◌, inl, inr, ℕ, zero, suc, ◌+◌, ◌*◌, ◌/◌, ◌^◌, ◌<◌, ◌≤◌, Bool, true, false, ◌&&◌, ◌==◌, nat_le, List, [], ◌∷◌, length, get_or, drop, Option, Some, None, if◌then◌else◌, refl, sym, ap, subst, ◌∙◌, arith}
-use Rattle.std.proofs.lemmas.Bool.{cases_order, eq-eqb, ne_eqb}
+use Rattle.std.proofs.Common.{◌≡◌, ◌≢◌, ◌⊎◌, inl, inr, ℕ, zero, suc, ◌+◌, ◌*◌, ◌/◌, ◌^◌, ◌<◌, ◌≤◌, Bool, true, false, ◌&&◌, ◌||◌, ◌==◌, nat_le, List, [], ◌∷◌, length, get_or, drop, Option, Some, None, if◌then◌else◌, refl, sym, ap, subst, ◌∙◌, arith}
+use Rattle.std.proofs.lemmas.Bool.{cases_order, eq-eqb, ne_eqb, eqb-true}
+use Rattle.std.proofs.lemmas.Bool.Decides.{nat_tests}
+use Rattle.std.specs.List.{list_any}
 use Rattle.std.proofs.lemmas.List.{at_drop_more, at_drop_all}
 use Rattle.xs_base.specs.declared.component.Row.{Row}
 use Rattle.xs_base.specs.Sets.{has}
-use Rattle.xs_base.specs.Layout.{IsLayout, IsSound, most_rows, first_row_fault}
+use Rattle.xs_base.specs.Component.{component_numbers, component_size, sizes}
+use Rattle.xs_base.specs.Layout.{IsLayout, IsSound, most_rows, first_row_fault, row_error}
 use Rattle.xs_base.specs.Compact.{aligned, is_extended, compact_after, compact_end, compact_from, compact_size, compact_offset}
-use Rattle.xs_base.proofs.LayoutLemmas.{AreApart, rise_from, row_fault_none, layout_parts}
+use Rattle.xs_base.proofs.LayoutLemmas.{AreApart, rise_from, row_fault_none, layout_parts, passes, passes_sound, number_after}
 
 -- ---- one row on, from row i
 
@@ -228,3 +231,76 @@ sought_here mask c rows i end r lt is same h = sym (h.rest ∙ compact_from_here
 
 pub sought_all : (mask c : ℕ) (rows : List Row) (i end : ℕ) → length rows ≤ i → IsSought mask c rows i end → end ≡ compact_offset rows mask c
 sought_all mask c rows i end le h = sym (h.rest ∙ compact_from_all mask c end rows i le)
+
+-- ---- no size is above 16384
+
+-- what the components of the list from number k on can add to an end, each aligned
+unfoldable left_from : ℕ → List ℕ → ℕ
+left_from k [] = 0
+left_from k (c ∷ cs) = (if nat_le k c then 63 + component_size c else 0) + left_from k cs
+
+left_grows : (k m : ℕ) (cs : List ℕ) → k ≤ m → left_from m cs ≤ left_from k cs
+unfolding left_from
+left_grows k m [] le = omega arith
+left_grows k m (c ∷ cs) le = one (nat_le m c) refl (nat_le k c) refl (left_grows k m cs le)
+  where
+    one : (a : Bool) → nat_le m c ≡ a → (b : Bool) → nat_le k c ≡ b → left_from m cs ≤ left_from k cs → (if a then 63 + component_size c else 0) + left_from m cs ≤ (if b then 63 + component_size c else 0) + left_from k cs
+    one true is true it rest = omega arith
+    one true is false it rest = absurd (grind (arith, nat_tests))
+    one false is true it rest = omega arith
+    one false is false it rest = omega arith
+
+-- a component of the list takes its own
+left_falls : (k n : ℕ) (cs : List ℕ) → k ≤ n → list_any (λ c. c == n) cs ≡ true → left_from (suc n) cs + (63 + component_size n) ≤ left_from k cs
+unfolding left_from
+left_falls k n [] le h = cc
+left_falls k n (c ∷ cs) le h = one (c == n) refl (nat_le (suc n) c) refl (nat_le k c) refl h (left_grows k (suc n) cs (omega arith)) (left_falls k n cs le)
+  where
+    one : (e : Bool) → (c == n) ≡ e → (a : Bool) → nat_le (suc n) c ≡ a → (b : Bool) → nat_le k c ≡ b → (e || list_any (λ d. d == n) cs) ≡ true → left_from (suc n) cs ≤ left_from k cs → (list_any (λ d. d == n) cs ≡ true → left_from (suc n) cs + (63 + component_size n) ≤ left_from k cs) → (if a then 63 + component_size c else 0) + left_from (suc n) cs + (63 + component_size n) ≤ (if b then 63 + component_size c else 0) + left_from k cs
+    one true at true is b it any grows falls = absurd (grind (arith, nat_tests))
+    one true at false is true it any grows falls = let same : component_size c ≡ component_size n = ap component_size (eqb-true c n at) in omega arith
+    one true at false is false it any grows falls = absurd (grind (arith, nat_tests))
+    one false at true is true it any grows falls = let rest = falls any in omega arith
+    one false at true is false it any grows falls = absurd (grind (arith, nat_tests))
+    one false at false is true it any grows falls = let rest = falls any in omega arith
+    one false at false is false it any grows falls = let rest = falls any in omega arith
+
+-- what the rows behind a row can add
+left_after : Option Row → ℕ
+left_after None = left_from 0 component_numbers
+left_after (Some b) = left_from (suc b.comp.0) component_numbers
+
+left_most : left_after None ≤ 15808
+unfolding left_after left_from component_size sizes
+left_most = omega arith
+
+left_less : (before : Option Row) (r : Row) → row_error before r ≡ None → left_after (Some r) + (63 + r.size) ≤ left_after before
+unfolding left_after
+left_less None r e =
+    let s = passes_sound None r (passes None r e) in
+    let size = s.size in
+    let falls = left_falls 0 r.comp.0 component_numbers (omega arith) s.known in
+    omega arith
+left_less (Some b) r e =
+    let p = passes (Some b) r e in
+    let s = passes_sound (Some b) r p in
+    let size = s.size in
+    let rise = number_after b r p in
+    let falls = left_falls (suc b.comp.0) r.comp.0 component_numbers (omega arith) s.known in
+    omega arith
+
+compact_end_most : (mask n : ℕ) (before : Option Row) (at : ℕ) (rows : List Row) → first_row_fault before at rows ≡ None → compact_end mask n rows ≤ n + left_after before
+compact_end_most mask n before at [] h = let none = end_none mask n in omega arith
+compact_end_most mask n before at (r ∷ rows) h =
+    let f = row_fault_none before at r rows h in
+    let step = end_step mask n r rows in
+    let high = after_high mask n r in
+    let less = left_less before r f.0 in
+    let rest = compact_end_most mask (compact_after mask n r) (Some r) (at + 1) rows f.1 in
+    omega arith
+
+pub compact_size_most : (rows : List Row) → IsLayout rows → (mask : ℕ) → compact_size rows mask ≤ 16384
+compact_size_most rows table mask =
+    let most = compact_end_most mask 576 None 0 rows (layout_parts rows table).0 in
+    let all = left_most in
+    omega arith
