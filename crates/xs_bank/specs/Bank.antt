@@ -33,6 +33,12 @@ pub record Bank : Type 0 where
   pub loads : ℕ
   pub saves : ℕ
 
+-- The bank has counted no instruction, no load and no save.
+pub record HasCountedNothing (bank : Bank) : Type 0 where
+  pub execs : bank.execs ≡ record { count = 0; trail = 0 }
+  pub loads : bank.loads ≡ 0
+  pub saves : bank.saves ≡ 0
+
 -- ---- what instructions leave
 
 -- the bank after an instruction of these numbers

@@ -1,8 +1,9 @@
 -- Scripts: which values are scripts. Every limit and every rule of names here is this project's own.
-use Rattle.std.specs.Prelude.{◌≡◌, ℕ, ◌+◌, ◌<◌, ◌≤◌, Bool, true, false, ◌&&◌, ◌||◌, ◌==◌, nat_le, nat_lt, List, [], ◌∷◌, length, map}
-use Rattle.std.specs.List.{list_all, flat_map, AllByRecursion}
+use Rattle.std.specs.Prelude.{◌≡◌, ℕ, ◌+◌, ◌<◌, ◌≤◌, Bool, true, false, not, ◌&&◌, ◌||◌, ◌==◌, nat_le, List, [], ◌∷◌, length, map, drop}
+use Rattle.std.specs.List.{list_all, list_any, flat_map, AllByRecursion}
 use Rattle.xs_base.specs.declared.component.Row.{Row}
 use Rattle.xs_base.specs.declared.component.Place.{Place}
+use Rattle.xs_base.specs.File.{is_mxcsr}
 use Rattle.xs_base.specs.Layout.{IsLayout, amx_rows, avx_rows}
 use Rattle.xs_base.specs.Register.{IsNamed, IsRegister}
 use Rattle.xs_model.specs.declared.script.Named.{Named}
@@ -37,9 +38,14 @@ abbrev pub register_of : Command → List ℕ
 register_of (Set reg bytes) = reg
 register_of (Get reg) = reg
 
--- A command names a register of the machine, and sets it to as many bytes as it has.
+-- The register can be set to these bytes: they are as many as it has, and of MXCSR bits 16 to 31 are zero, which are
+-- reserved (SDM volume 1, 10.2.3).
+abbrev pub fits_register : Place → List ℕ → Bool
+fits_register place bytes = (length bytes == place.len) && (not (is_mxcsr place) || list_all (λ byte. byte == 0) (drop 2 bytes))
+
+-- A command names a register of the machine, and sets it to bytes that fit it.
 abbrev pub IsCommand : List Row → Command → Type 0
-IsCommand rows (Set reg bytes) = (place : Place) × IsRegister rows reg place × (length bytes ≡ place.len) × AllByRecursion (λ byte. byte < 256) bytes
+IsCommand rows (Set reg bytes) = (place : Place) × IsRegister rows reg place × (fits_register place bytes ≡ true) × AllByRecursion (λ byte. byte < 256) bytes
 IsCommand rows (Get reg) = (place : Place) × IsRegister rows reg place
 
 -- each name is another
@@ -67,7 +73,7 @@ abbrev pub order_numbers : List Block → List ℕ
 order_numbers blocks = flat_map (λ (block : Block). map (λ (order : Order). order.number) block.body) blocks
 
 -- A script whose parts are within their limits. A form that this version doesn't have has no part here yet: schedules,
--- children, kernel threads, handlers, and MXCSR's upper bytes.
+-- children, kernel threads and handlers.
 pub record IsValid (script : Script) : Type 0 where
   pub layout : IsLayout script.layout
   pub machine : IsTableOf script.machine script.layout
@@ -81,15 +87,20 @@ pub record IsValid (script : Script) : Type 0 where
   pub rising : AreRising 0 (order_numbers script.blocks)
   pub commands : AllByRecursion (λ (block : Block). AllByRecursion (λ (order : Order). IsCommand script.layout order.command) block.body) script.blocks
 
--- A register that the program has: XMM alone.
+-- the components whose registers the program has: x87, SSE, AVX, opmask, ZMM_Hi256, Hi16_ZMM
+abbrev pub built_components : List ℕ
+built_components = 0 ∷ 1 ∷ 2 ∷ 5 ∷ 6 ∷ 7 ∷ []
+
+-- A register that the program has. MXCSR's place is in component 1.
 abbrev pub is_built : Place → Bool
-is_built place = (place.comp.0 == 1) && nat_lt place.offset 256
+is_built place = list_any (λ c. c == place.comp.0) built_components
 
 -- The command's register is one that the program has.
 abbrev pub IsBuiltCommand : Command → Type 0
 IsBuiltCommand command = (place : Place) × IsNamed (register_of command) place × (is_built place ≡ true)
 
--- A script of the forms of this version: one processor, no schedule, tasks without handlers, and XMM registers.
+-- A script of the forms of this version: one processor, no schedule, tasks without handlers, and registers that the
+-- program has.
 pub record IsBuilt (script : Script) : Type 0 where
   pub one : script.cpus ≡ 1
   pub unscheduled : script.sched ≡ []

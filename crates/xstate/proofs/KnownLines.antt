@@ -1,24 +1,20 @@
 -- The lines of blocks, of which the second pass has what was kept.
-use Rattle.std.proofs.Common.{◌≡◌, ℕ, ◌+◌, true, List, [], ◌∷◌, ◌++◌, length, map, refl, sym, ◌∙◌, ap, subst, arith, length-append, inl, inr}
+use Rattle.std.proofs.Common.{◌≡◌, ℕ, ◌+◌, true, List, [], ◌∷◌, ◌++◌, length, map, refl, ap, subst, arith, length-append}
 use Rattle.std.specs.List.{AllByRecursion, flat_map}
-use Rattle.std.proofs.lemmas.Bool.{cases_lt}
 use Rattle.xs_base.specs.declared.component.Row.{Row}
-use Rattle.xs_base.specs.declared.component.Place.{Place}
-use Rattle.xs_base.specs.Register.{IsRegister}
-use Rattle.xs_base.proofs.Registers.{place_length}
 use Rattle.xs_model.specs.declared.script.Command.{Command}
 use Rattle.xs_model.specs.declared.script.Command.TheVariants as commands
 use Rattle.xs_model.specs.declared.script.Order.{Order}
 use Rattle.xs_model.specs.declared.script.Block.{Block}
-use Rattle.xs_model.specs.Script.{is_name, IsCommand, IsBuiltCommand, AreNumbered, AreBlocksNumbered}
+use Rattle.xs_model.specs.Script.{is_name, fits_register, IsCommand, IsBuiltCommand, AreNumbered, AreBlocksNumbered}
 use Rattle.xstate.specs.declared.line.Line.{Line}
 use Rattle.xstate.specs.declared.line.Line.TheVariants as lines
 use Rattle.xstate.specs.declared.refusal.Kind.{Kind}
-use Rattle.xstate.specs.ScriptLine.{IsLine, IsCommandLine, kept_line, kept_command, kept_bytes}
+use Rattle.xstate.specs.ScriptLine.{IsLine, IsCommandLine, kept_line, kept_command}
 use Rattle.xstate.specs.Grammar.{order_lines, block_lines}
-use Rattle.xstate.specs.Refusal.{AreLines, IsKnown, IsKnownCommand, CommandFails, Unknown, Unbuilt, Length}
+use Rattle.xstate.specs.Refusal.{AreLines, IsKnown, IsKnownCommand, CommandFails, Unknown, Unbuilt, Misfit}
 use Rattle.xstate.specs.Commands.{PassesCommand, PassesOrders}
-use Rattle.xstate.proofs.Kept.{kept_same_bytes, kept_long}
+use Rattle.xstate.proofs.CommandFaults.{kept_whole, kept_misfit}
 use Rattle.xstate.proofs.Fronts.{all_join}
 use Rattle.xstate.proofs.BodyLines.{length_block}
 
@@ -61,20 +57,11 @@ PassesLine rows (lines.Task name) = Unit {0}
 PassesLine rows (lines.Order command) = PassesCommand rows command
 PassesLine rows lines.End = Unit {0}
 
--- a value of which as many bytes are kept as its register has is kept whole
-pub kept_whole : (rows : List Row) (reg bytes : List ℕ) (place : Place) → IsRegister rows reg place → length (kept_bytes bytes) ≡ place.len → kept_bytes bytes ≡ bytes
-kept_whole rows reg bytes place here e =
-    let size = place_length reg place here.0 in
-    elim (cases_lt 64 (length bytes)) [
-      | inl long ↦ let none = ap length (kept_long bytes long) in absurd (omega (arith, size.0, e, none))
-      | inr short ↦ kept_same_bytes bytes short
-    ]
-
 pub known_command : (rows : List Row) (command : Command) → IsCommandLine command → PassesCommand rows (kept_command command) → (kept_command command ≡ command) × IsKnownCommand rows command
-known_command rows (commands.Set reg bytes) fits (place, found, len) =
-    let whole = kept_whole rows reg bytes place found.here len in
-    (ap (λ (bs : List ℕ). commands.Set reg bs) whole, ((place, found.here, sym (ap length whole) ∙ len, fits.2), (place, found.here.0, found.built)))
-known_command rows (commands.Get reg) fits (place, found) = (refl, ((place, found.here), (place, found.here.0, found.built)))
+known_command rows (commands.Set reg bytes) spelled (place, found, fits) =
+    let whole = kept_whole rows reg bytes place found.here fits in
+    (ap (λ (bs : List ℕ). commands.Set reg bs) whole, ((place, found.here, subst (λ (bs : List ℕ). fits_register place bs ≡ true) whole fits, spelled.2), (place, found.here.0, found.built)))
+known_command rows (commands.Get reg) spelled (place, found) = (refl, ((place, found.here), (place, found.here.0, found.built)))
 
 pub known_line : (rows : List Row) (l : Line) → IsLine l → PassesLine rows (kept_line l) → (kept_line l ≡ l) × IsKnown rows l
 known_line rows lines.Version fits h = (refl, tt)
@@ -98,9 +85,7 @@ known_lines rows (l ∷ ls) fits h =
 pub kept_fails : (rows : List Row) (command : Command) (kind : Kind) → CommandFails rows (kept_command command) kind → CommandFails rows command kind
 kept_fails rows (commands.Set reg bytes) _ (Unknown _ none) = Unknown (commands.Set reg bytes) none
 kept_fails rows (commands.Set reg bytes) _ (Unbuilt _ place here unready) = Unbuilt (commands.Set reg bytes) place here unready
-kept_fails rows (commands.Set reg bytes) _ (Length _ _ place here built other) =
-    let size = place_length reg place here.0 in
-    Length reg bytes place here built (λ e. other (ap length (kept_same_bytes bytes (omega (arith, size.1))) ∙ e))
+kept_fails rows (commands.Set reg bytes) _ (Misfit _ _ place here built wrong) = Misfit reg bytes place here built (kept_misfit rows reg bytes place here wrong)
 kept_fails rows (commands.Get reg) _ (Unknown _ none) = Unknown (commands.Get reg) none
 kept_fails rows (commands.Get reg) _ (Unbuilt _ place here unready) = Unbuilt (commands.Get reg) place here unready
 

@@ -1,6 +1,4 @@
 -- Lemmas of the engine, one file a noun.
-pub mod SpliceLemmas
-pub mod AreaLemmas
 pub mod Stepping
 pub mod HeldLemmas
 pub mod TaskLemmas
@@ -41,3 +39,7 @@ pub mod Numbering
 pub mod WholeScripts
 pub mod OneRefusal
 pub mod SpelledLines
+pub mod SwitchLemmas
+pub mod BankLemmas
+pub mod EngineLemmas
+pub mod NewProcessors

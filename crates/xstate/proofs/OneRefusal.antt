@@ -10,7 +10,7 @@ use Rattle.xs_base.specs.Layout.{table_error}
 use Rattle.xs_base.proofs.Registers.{one_place}
 use Rattle.xs_model.specs.declared.script.Command.{Command}
 use Rattle.xs_model.specs.declared.script.Command.TheVariants as commands
-use Rattle.xs_model.specs.Script.{is_built}
+use Rattle.xs_model.specs.Script.{fits_register, is_built}
 use Rattle.xstate.specs.declared.line.Line.{Line}
 use Rattle.xstate.specs.declared.line.Line.TheVariants as lines
 use Rattle.xstate.specs.declared.refusal.Kind.{Kind}
@@ -192,12 +192,12 @@ one_lines (l ∷ a) (l' ∷ b) fa fb e =
 
 -- a known command doesn't fail
 pub known_not_fails : (rows : List Row) (command : Command) (kind : Kind) → IsKnownCommand rows command → CommandFails rows command kind → ⊥
-known_not_fails rows (commands.Set reg bytes) _ ((place, here, len, fits), (other, named, built)) (refusals.Unknown _ none) = none place here
-known_not_fails rows (commands.Set reg bytes) _ ((place, here, len, fits), (other, named, built)) (refusals.Unbuilt _ q there unready) =
+known_not_fails rows (commands.Set reg bytes) _ ((place, here, fits, bytes_are), (other, named, built)) (refusals.Unknown _ none) = none place here
+known_not_fails rows (commands.Set reg bytes) _ ((place, here, fits, bytes_are), (other, named, built)) (refusals.Unbuilt _ q there unready) =
     let same = one_place reg other q named there.0 in
     cc (sym built ∙ ap is_built same ∙ unready)
-known_not_fails rows (commands.Set reg bytes) _ ((place, here, len, fits), (other, named, built)) (refusals.Length _ _ q there ready wrong) =
-    wrong (len ∙ ap (λ (p : Place). p.len) (one_place reg place q here.0 there.0))
+known_not_fails rows (commands.Set reg bytes) _ ((place, here, fits, bytes_are), (other, named, built)) (refusals.Misfit _ _ q there ready wrong) =
+    cc (sym fits ∙ ap (λ (p : Place). fits_register p bytes) (one_place reg place q here.0 there.0) ∙ wrong)
 known_not_fails rows (commands.Get reg) _ ((place, here), (other, named, built)) (refusals.Unknown _ none) = none place here
 known_not_fails rows (commands.Get reg) _ ((place, here), (other, named, built)) (refusals.Unbuilt _ q there unready) =
     let same = one_place reg other q named there.0 in
@@ -207,17 +207,17 @@ known_not_fails rows (commands.Get reg) _ ((place, here), (other, named, built))
 one_command_cause : (rows : List Row) (command : Command) (k j : Kind) → CommandFails rows command k → CommandFails rows command j → k ≡ j
 one_command_cause rows command _ _ (refusals.Unknown _ none) (refusals.Unknown _ none') = refl
 one_command_cause rows command _ _ (refusals.Unknown _ none) (refusals.Unbuilt _ q there unready) = absurd (none q there)
-one_command_cause rows command _ _ (refusals.Unknown _ none) (refusals.Length reg bytes q there ready wrong) = absurd (none q there)
+one_command_cause rows command _ _ (refusals.Unknown _ none) (refusals.Misfit reg bytes q there ready wrong) = absurd (none q there)
 one_command_cause rows command _ _ (refusals.Unbuilt _ p here unready) (refusals.Unknown _ none) = absurd (none p here)
 one_command_cause rows command _ _ (refusals.Unbuilt _ p here unready) (refusals.Unbuilt _ q there unready') = refl
-one_command_cause rows command _ _ (refusals.Unbuilt _ p here unready) (refusals.Length reg bytes q there ready wrong) =
+one_command_cause rows command _ _ (refusals.Unbuilt _ p here unready) (refusals.Misfit reg bytes q there ready wrong) =
     let same = one_place reg p q here.0 there.0 in
     absurd (cc (sym ready ∙ ap is_built (sym same) ∙ unready))
-one_command_cause rows command _ _ (refusals.Length reg bytes p here ready wrong) (refusals.Unknown _ none) = absurd (none p here)
-one_command_cause rows command _ _ (refusals.Length reg bytes p here ready wrong) (refusals.Unbuilt _ q there unready) =
+one_command_cause rows command _ _ (refusals.Misfit reg bytes p here ready wrong) (refusals.Unknown _ none) = absurd (none p here)
+one_command_cause rows command _ _ (refusals.Misfit reg bytes p here ready wrong) (refusals.Unbuilt _ q there unready) =
     let same = one_place reg p q here.0 there.0 in
     absurd (cc (sym ready ∙ ap is_built same ∙ unready))
-one_command_cause rows command _ _ (refusals.Length reg bytes p here ready wrong) (refusals.Length _ _ q there ready' wrong') = refl
+one_command_cause rows command _ _ (refusals.Misfit reg bytes p here ready wrong) (refusals.Misfit _ _ q there ready' wrong') = refl
 
 -- among lines the first command that fails is one
 first_command : (rows : List Row) (a b la lb : List Line) (c d : Command) (k j : Kind) → a ++ lines.Order c ∷ la ≡ b ++ lines.Order d ∷ lb → AllByRecursion (IsKnown rows) a → AllByRecursion (IsKnown rows) b → CommandFails rows c k → CommandFails rows d j → (length a ≡ length b) × (k ≡ j)

@@ -29,6 +29,7 @@ use Rattle.xstate.specs.Grammar.{order_lines, block_lines, row_lines, head_lines
 use Rattle.xstate.specs.LineOrder.{Stand, AtVersion, AtMachine, AtRow, AtCpus, AtQuantum, AtLarge, AtBlock, InBlock, next, last_row, after_machine, Leads}
 use Rattle.xstate.specs.Refusal.{AreLines, Passes, table_of, IsKnown, CommandFails, Refuses, ByLine, ByCommand}
 use Rattle.xstate.specs.Body.{names_of}
+use Rattle.xstate.proofs.CommandFaults.{fits_length}
 use Rattle.xstate.proofs.HeadRows.{row_leads, rows_over}
 use Rattle.xstate.proofs.Fronts.{all_join, leads_join}
 use Rattle.xstate.proofs.KnownLines.{all_parts}
@@ -72,9 +73,10 @@ register_word reg place named =
     rw (bytes, some, few) refl
 
 command_fits : (rows : List Row) (command : Command) → IsCommand rows command → IsCommandLine command
-command_fits rows (commands.Set reg bytes) (place, here, len, fits) =
+command_fits rows (commands.Set reg bytes) (place, here, fits, bytes_are) =
     let size = place_length reg place here.0 in
-    (register_word reg place here.0, omega (arith, size.0, len), fits)
+    let len = fits_length place bytes fits in
+    (register_word reg place here.0, omega (arith, size.0, len), bytes_are)
 command_fits rows (commands.Get reg) (place, here) = register_word reg place here.0
 
 orders_fit : (rows : List Row) (orders : List Order) → AllByRecursion (λ (order : Order). IsCommand rows order.command) orders → AreLines (order_lines orders)

@@ -1,5 +1,5 @@
 -- What a reader's second pass finds among the commands of a script, of each of which it has what was kept.
-use Rattle.std.specs.Prelude.{◌≡◌, ℕ, true, false, List, ◌∷◌, ◌++◌, length}
+use Rattle.std.specs.Prelude.{◌≡◌, ℕ, true, false, List, ◌∷◌, ◌++◌}
 use Rattle.std.specs.List.{AllByRecursion}
 use Rattle.xs_base.specs.declared.component.Row.{Row}
 use Rattle.xs_base.specs.declared.component.Place.{Place}
@@ -8,7 +8,7 @@ use Rattle.xs_model.specs.declared.script.Command.{Command}
 use Rattle.xs_model.specs.declared.script.Command.TheVariants.{Set, Get}
 use Rattle.xs_model.specs.declared.script.Order.{Order}
 use Rattle.xs_model.specs.declared.script.Block.{Block}
-use Rattle.xs_model.specs.Script.{is_built}
+use Rattle.xs_model.specs.Script.{fits_register, is_built}
 use Rattle.xstate.specs.declared.refusal.Kind.{Kind}
 use Rattle.xstate.specs.declared.refusal.Kind.TheVariants.{NotBuilt, UnknownName}
 use Rattle.xstate.specs.Refusal.{CommandFails}
@@ -25,7 +25,7 @@ pub data RegisterFails (rows : List Row) (reg : List ℕ) : Kind → Type 0 wher
 
 -- Nothing is wrong with the command.
 abbrev pub PassesCommand : List Row → Command → Type 0
-PassesCommand rows (Set reg bytes) = (place : Place) × IsBuiltRegister rows reg place × (length bytes ≡ place.len)
+PassesCommand rows (Set reg bytes) = (place : Place) × IsBuiltRegister rows reg place × (fits_register place bytes ≡ true)
 PassesCommand rows (Get reg) = (place : Place) × IsBuiltRegister rows reg place
 
 abbrev pub PassesOrders : List Row → List Order → Type 0

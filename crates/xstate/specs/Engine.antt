@@ -1,151 +1,172 @@
--- The engine's state, as it stands for a state of the private machine: at rest between two turns, and in a turn.
--- A task that no turn runs is seen as its saved registers (the bytes of component 1), its place, and whether it has
--- ended; the task in a turn has its registers in the bank.
-use Rattle.std.specs.Prelude.{◌≡◌, ℕ, ◌+◌, ◌-◌, ◌<◌, ◌≤◌, Bool, true, false, ◌==◌, List, [], ◌∷◌, length, map, replicate, slice_get, slice_index_or, slice_range, slice_set, Option, Some, None, ◌⊎◌, if◌then◌else◌}
+-- The engine's own state, and how it stands for a state of the private machine: each task's registers are in its save area,
+-- or in the bank of the one processor.
+use Rattle.std.specs.Prelude.{◌≡◌, ℕ, ◌+◌, ◌-◌, ◌<◌, ◌≤◌, ◌^◌, Bool, true, false, List, [], ◌∷◌, length, slice_index_or, Option, Some, None, ◌⊎◌, if◌then◌else◌}
+use Rattle.xs_base.specs.declared.class.Class.TheVariants.{Small}
 use Rattle.xs_base.specs.declared.component.Row.{Row}
 use Rattle.xs_base.specs.declared.component.Place.{Place}
-use Rattle.xs_base.specs.Bytes.{zeros, splice}
-use Rattle.xs_base.specs.Sets.{has}
-use Rattle.xs_base.specs.Header.{xstate_bv}
-use Rattle.xs_base.specs.File.{with_part}
+use Rattle.xs_base.specs.Area.{StandsFor, HoldsPlaces}
+use Rattle.xs_base.specs.Compact.{compacted}
+use Rattle.xs_base.specs.Component.{initial_part}
+use Rattle.xs_base.specs.File.{File, IsFile, AreSameButPkru, part, read_place}
+use Rattle.xs_base.specs.Header.{xcomp_bv}
+use Rattle.xs_base.specs.KernelArea.{class_features, class_size, IsLoadable}
+use Rattle.xs_base.specs.Layout.{has_row}
 use Rattle.xs_base.specs.Register.{IsRegister}
-use Rattle.xs_base.specs.Task.{PrivateTask, root_task, parked}
+use Rattle.xs_area.specs.declared.area.Lease.{Lease}
+use Rattle.xs_bank.specs.Bank as banks
+use Rattle.xs_bank.specs.Load.{tiles}
+use Rattle.xs_pool.specs.Pool.{Pool}
 use Rattle.xs_model.specs.declared.script.Command.{Command}
 use Rattle.xs_model.specs.declared.script.Command.TheVariants as commands
-use Rattle.xs_model.specs.declared.script.Order.{Order}
 use Rattle.xs_model.specs.declared.script.Block.{Block}
 use Rattle.xs_model.specs.declared.script.Script.{Script}
-use Rattle.xs_model.specs.declared.event.Event.{Event}
 use Rattle.xs_model.specs.declared.event.Reply.{Reply}
 use Rattle.xs_model.specs.declared.event.Reply.TheVariants as replies
 use Rattle.xs_model.specs.declared.stage.Stage.{Stage}
 use Rattle.xs_model.specs.declared.stage.Stage.TheVariants as stages
 use Rattle.xs_model.specs.Script.{is_built}
-use Rattle.xs_model.specs.Held.{held}
-use Rattle.xs_model.specs.Machine.{BlockState, Machine, opening, may_act}
-use Rattle.xs_model.specs.History.{Run}
+use Rattle.xstate.specs.declared.engine.Engine.{Engine}
+use Rattle.xstate.specs.declared.parked.Parked.{Parked}
+use Rattle.xstate.specs.Turns.{SavedTask, fresh, task_at, with_task, body_at, IsAtRest, IsInTurn}
 
--- a task between its turns
-pub record SavedTask : Type 0 where
-  pub registers : List ℕ
-  pub place : ℕ
-  pub ended : Bool
+-- ---- the processor
 
--- The XMM registers that a save area in the standard format stands for (SDM volume 1, 13.4 and 13.8).
-unfoldable pub registers_in : List ℕ → List ℕ
-registers_in area = if has (xstate_bv area) 1 then slice_range area 160 416 else zeros 256
+-- The bank is set up for the machine: TILEDATA is armed where the machine has it.
+pub record IsSetUp (rows : List Row) (bank : banks.Bank) : Type 0 where
+  pub rows_are : bank.file.rows ≡ rows
+  pub armed : bank.armed ≡ (if has_row rows 18 then tiles else 0)
 
--- the bytes of an XSTATE_BV that has component 1 alone
-abbrev pub sse_alone : List ℕ
-sse_alone = 2 ∷ 0 ∷ 0 ∷ 0 ∷ 0 ∷ 0 ∷ 0 ∷ 0 ∷ []
+-- What a command does to the bank, and its reply. No built register traps.
+abbrev pub BankRuns : List Row → banks.Bank → Command → Reply → banks.Bank → Type 0
+BankRuns rows old (commands.Set reg bytes) reply new = (place : Place) × IsRegister rows reg place × (is_built place ≡ true) × (reply ≡ replies.Done) × (new ≡ banks.after_write old place bytes)
+BankRuns rows old (commands.Get reg) reply new = (place : Place) × IsRegister rows reg place × (is_built place ≡ true) × (reply ≡ replies.Bytes (read_place old.file place)) × (new ≡ banks.after_read old place (read_place old.file place))
 
--- a task that has had no turn
-abbrev pub fresh : SavedTask
-fresh = record { registers = zeros 256; place = 0; ended = false }
+-- ---- tasks between their turns
+
+-- The file is one that a task may have: MXCSR has no bit above 15, and TILEDATA, which no built register is of, is initial.
+pub record IsTaskFile (rows : List Row) (file : File) : Type 0 where
+  pub is_file : IsFile file
+  pub rows_are : file.rows ≡ rows
+  pub control : file.mxcsr < 2 ^ 16
+  pub tiles_are : part file 18 ≡ initial_part 18
+
+-- The area is a Small one of the compacted format, which can be loaded.
+pub record IsTaskArea (rows : List Row) (lease : Lease) : Type 0 where
+  pub class : lease.class ≡ Small
+  pub loadable : IsLoadable rows Small lease.area.id lease.area.bytes.items
+  pub names : xcomp_bv lease.area.bytes.items ≡ compacted (class_features rows Small)
+  pub len : length lease.area.bytes.items ≡ class_size rows Small
+  pub places : HoldsPlaces rows lease.area.bytes.items (xcomp_bv lease.area.bytes.items)
+
+-- A task has an area until it has ended.
+abbrev pub has_ended : Option Lease → Bool
+has_ended None = true
+has_ended (Some lease) = false
 
 -- the task's entry, and one that has ended where there is none
-abbrev pub task_at : List SavedTask → ℕ → SavedTask
-task_at tasks t = slice_index_or tasks t (record { registers = []; place = 0; ended = true })
+abbrev pub parked_at : List Parked → ℕ → Parked
+parked_at tasks t = slice_index_or tasks t (record { lease = None; place = 0 })
 
--- What a command does to the bank, and its reply, on the machine with these rows.
-abbrev pub BankRuns : List Row → List ℕ → Command → Reply → List ℕ → Type 0
-BankRuns rows old (commands.Set reg bytes) reply new = (place : Place) × IsRegister rows reg place × (is_built place ≡ true) × (reply ≡ replies.Done) × (new ≡ splice place.offset bytes old)
-BankRuns rows old (commands.Get reg) reply new = (place : Place) × IsRegister rows reg place × (is_built place ≡ true) × (reply ≡ replies.Bytes (slice_range old place.offset (place.offset + place.len))) × (new ≡ old)
+pub record IsParked (rows : List Row) (parked : Parked) (task : SavedTask) : Type 0 where
+  pub ended : has_ended parked.lease ≡ task.ended
+  pub place : parked.place ≡ task.place
+  pub file : IsTaskFile rows task.file
+  pub area : (lease : Lease) → parked.lease ≡ Some lease → IsTaskArea rows lease × StandsFor rows lease.area.bytes.items task.file
 
--- the private task with these registers, place and marks: all else is as at the opening
-abbrev pub task_with : List Row → List ℕ → ℕ → ℕ → PrivateTask
-task_with rows registers place marks = record (root_task rows) { file = with_part (root_task rows).file 1 registers; place = place; marks = marks }
+pub record AreParked (rows : List Row) (tasks : List Parked) (saved : List SavedTask) : Type 0 where
+  pub count : length tasks ≡ length saved
+  pub each : (t : ℕ) → t < length tasks → IsParked rows (parked_at tasks t) (task_at saved t)
 
-abbrev pub block_at_rest : List Row → SavedTask → BlockState
-block_at_rest rows task = record { stage = if task.ended then stages.Ended else stages.Ready; task = parked (task_with rows task.registers task.place 0); parent = None; pending = [] }
+-- as many tasks that have had no turn, each with an area without state
+pub record AreOpened (rows : List Row) (tasks : List Parked) (count : ℕ) : Type 0 where
+  pub many : length tasks ≡ count
+  pub each : (t : ℕ) → t < length tasks → IsParked rows (parked_at tasks t) (fresh rows)
 
-abbrev pub block_in_turn : List Row → List ℕ → ℕ → ℕ → ℕ → BlockState
-block_in_turn rows registers place marks ran = record { stage = stages.Turn 0 ran; task = task_with rows registers place marks; parent = None; pending = [] }
+-- how many tasks have an area
+unfoldable pub living : List Parked → ℕ
+living [] = 0
+living (task ∷ tasks) = (if has_ended task.lease then 0 else 1) + living tasks
 
-abbrev pub machine_at_rest : Script → List SavedTask → List Event → Machine
-machine_at_rest script tasks history = record { script = script; blocks = map (block_at_rest script.layout) tasks; committing = None; history = history }
+-- The areas are of this pool.
+pub record IsPoolOf (rows : List Row) (pool : Pool) (tasks : List Parked) : Type 0 where
+  pub rows_are : pool.rows ≡ rows
+  pub out : living tasks ≤ pool.small.out
 
-abbrev pub machine_in_turn : Script → List SavedTask → List Event → ℕ → BlockState → Option ℕ → Machine
-machine_in_turn script tasks history t block committing = record { script = script; blocks = slice_set (map (block_at_rest script.layout) tasks) t block; committing = committing; history = history }
+-- ---- the engine
 
--- the block was started last
-abbrev pub is_last : Option ℕ → ℕ → Bool
-is_last None t = false
-is_last (Some last) t = last == t
+-- The bank holds the file, which is that of block t, and a save into its area may leave out what wasn't changed.
+pub record IsHeld (rows : List Row) (bank : banks.Bank) (file : File) (tasks : List Parked) (t : ℕ) : Type 0 where
+  pub same : AreSameButPkru file bank.file
+  pub ready : (lease : Lease) → (parked_at tasks t).lease ≡ Some lease → banks.IsReady bank lease.area.id (class_features rows Small) lease.area.bytes.items
 
--- Between two turns: the history leads to the machine of the saved tasks, the block that was started last is the
--- one whose state the bank holds, and the bank has its registers.
-pub record IsAtRest (script : Script) (bank : List ℕ) (last : Option ℕ) (tasks : List SavedTask) (history : List Event) : Type 0 where
-  pub run : Run (opening script) history (machine_at_rest script tasks history)
-  pub marked : (t : ℕ) → held history 0 t ≡ is_last last t
-  pub kept : (t : ℕ) → last ≡ Some t → bank ≡ (task_at tasks t).registers
-  pub known : length tasks ≡ length script.blocks
-  pub places : (t : ℕ) (block : Block) → slice_get script.blocks t ≡ Some block → (task_at tasks t).place ≤ length block.body
+-- Between two turns: each task's area stands for its file, and the bank holds that of the block that the mark names.
+pub record IsResting (script : Script) (bank : banks.Bank) (mark : Option ℕ) (engine : Engine) : Type 0 where
+  pub file : File
+  pub saved : List SavedTask
+  pub rest : IsAtRest script file mark saved engine.history
+  pub parked : AreParked script.layout engine.tasks.items saved
+  pub machine : IsSetUp script.layout bank
+  pub held : (t : ℕ) → mark ≡ Some t → IsHeld script.layout bank file engine.tasks.items t
+  pub pool : IsPoolOf script.layout engine.pool engine.tasks.items
 
--- In a turn of block t, which has made `ran` Local events: the history leads to the machine in which t has the
--- registers of the bank.
-pub record IsInTurn (script : Script) (bank : List ℕ) (last : Option ℕ) (tasks : List SavedTask) (history : List Event) (t place ran : ℕ) : Type 0 where
-  pub marks : ℕ
-  pub committing : Option ℕ
-  pub run : Run (opening script) history (machine_in_turn script tasks history t (block_in_turn script.layout bank place marks ran) committing)
-  pub acts : may_act committing t ≡ true
-  pub last_is : last ≡ Some t
-  pub marked : (u : ℕ) → held history 0 u ≡ is_last last u
-  pub known : length tasks ≡ length script.blocks
-  pub here : t < length tasks
-  pub places : (u : ℕ) (block : Block) → slice_get script.blocks u ≡ Some block → (task_at tasks u).place ≤ length block.body
+-- In a turn of block t, which has an area: the bank holds its file.
+pub record IsTurning (script : Script) (bank : banks.Bank) (mark : Option ℕ) (engine : Engine) (t place ran : ℕ) : Type 0 where
+  pub file : File
+  pub saved : List SavedTask
+  pub turn : IsInTurn script file mark saved engine.history t place ran
+  pub parked : AreParked script.layout engine.tasks.items saved
+  pub machine : IsSetUp script.layout bank
+  pub held : IsHeld script.layout bank file engine.tasks.items t
+  pub good : IsTaskFile script.layout file
+  pub pool : IsPoolOf script.layout engine.pool engine.tasks.items
+  pub lives : has_ended (parked_at engine.tasks.items t).lease ≡ false
 
--- the tasks, where t has these registers and this place
-abbrev pub with_task : List SavedTask → ℕ → List ℕ → ℕ → Bool → List SavedTask
-with_task tasks t registers place ended = slice_set tasks t (record { registers = registers; place = place; ended = ended })
+-- After the events of a turn of block t, before its registers are saved: the history has left the turn.
+pub record IsPaused (script : Script) (bank : banks.Bank) (mark : Option ℕ) (engine : Engine) (t place : ℕ) (ended : Bool) : Type 0 where
+  pub file : File
+  pub saved : List SavedTask
+  pub rest : IsAtRest script file mark (with_task saved t file place ended) engine.history
+  pub parked : AreParked script.layout engine.tasks.items saved
+  pub machine : IsSetUp script.layout bank
+  pub held : IsHeld script.layout bank file engine.tasks.items t
+  pub good : IsTaskFile script.layout file
+  pub pool : IsPoolOf script.layout engine.pool engine.tasks.items
+  pub lives : has_ended (parked_at engine.tasks.items t).lease ≡ false
+  pub last_is : mark ≡ Some t
+  pub here : t < length engine.tasks.items
 
--- After a line the turn goes on, or it is over and the task is as if it were saved.
-abbrev pub AfterLine : Script → List ℕ → Option ℕ → List SavedTask → List Event → ℕ → ℕ → ℕ → Stage → Type 0
-AfterLine script bank last tasks history t place ran (stages.Turn cpu more) = (more ≡ ran + 1) × (more < script.quantum) × IsInTurn script bank last tasks history t place more
-AfterLine script bank last tasks history t place ran stages.Ready = IsAtRest script bank last (with_task tasks t bank place false) history
-AfterLine script bank last tasks history t place ran stages.Unborn = ⊥
-AfterLine script bank last tasks history t place ran stages.Stopped = ⊥
-AfterLine script bank last tasks history t place ran (stages.Waiting child) = ⊥
-AfterLine script bank last tasks history t place ran stages.Ended = ⊥
-
--- what is left to do: the lines that a task hasn't run, and its end
-abbrev pub work_of : ℕ → SavedTask → ℕ
-work_of lines task = if task.ended then 0 else (lines - task.place) + 1
-
-abbrev pub work : List Block → List SavedTask → ℕ
-work [] tasks = 0
-work (block ∷ blocks) [] = 0
-work (block ∷ blocks) (task ∷ tasks) = work_of (length block.body) task + work blocks tasks
-
--- the lines of a block
-abbrev pub body_of : Option Block → List Order
-body_of None = []
-body_of (Some block) = block.body
-
-abbrev pub body_at : Script → ℕ → List Order
-body_at script t = body_of (slice_get script.blocks t)
+-- After a line the turn goes on, or it is over.
+abbrev pub EngineAfterLine : Script → banks.Bank → Option ℕ → Engine → ℕ → ℕ → ℕ → Stage → Type 0
+EngineAfterLine script bank mark engine t place ran (stages.Turn cpu more) = (more ≡ ran + 1) × (more < script.quantum) × IsTurning script bank mark engine t place more
+EngineAfterLine script bank mark engine t place ran stages.Ready = IsPaused script bank mark engine t place false
+EngineAfterLine script bank mark engine t place ran stages.Unborn = ⊥
+EngineAfterLine script bank mark engine t place ran stages.Stopped = ⊥
+EngineAfterLine script bank mark engine t place ran (stages.Waiting child) = ⊥
+EngineAfterLine script bank mark engine t place ran stages.Ended = ⊥
 
 -- After the lines of a turn: the quantum is used up and the task is past the place where it began, or it is at the end
 -- of its body with the turn open.
-abbrev pub AfterLines : Script → List ℕ → Option ℕ → List SavedTask → List Event → ℕ → ℕ → ℕ → Bool → Type 0
-AfterLines script bank last tasks history t from place true =
-    IsAtRest script bank last (with_task tasks t bank place false) history × (from < place) × (place ≤ length (body_at script t))
-AfterLines script bank last tasks history t from place false =
-    (ran : ℕ) × IsInTurn script bank last tasks history t place ran × (ran < script.quantum) × (place ≡ length (body_at script t))
+abbrev pub EngineAfterLines : Script → banks.Bank → Option ℕ → Engine → ℕ → ℕ → ℕ → Bool → Type 0
+EngineAfterLines script bank mark engine t from place true =
+    IsPaused script bank mark engine t place false × (from < place) × (place ≤ length (body_at script t))
+EngineAfterLines script bank mark engine t from place false =
+    (ran : ℕ) × IsTurning script bank mark engine t place ran × (ran < script.quantum) × (place ≡ length (body_at script t))
+
+-- ---- whose turn is next
 
 -- a task that hasn't ended
-abbrev pub IsNext : List SavedTask → ℕ → Type 0
-IsNext tasks t = (t < length tasks) × ((task_at tasks t).ended ≡ false)
+abbrev pub IsNext : List Parked → ℕ → Type 0
+IsNext tasks t = (t < length tasks) × (has_ended (parked_at tasks t).lease ≡ false)
 
 -- no task from a place on is left
-abbrev pub NoneFrom : List SavedTask → ℕ → Type 0
-NoneFrom tasks from = (t : ℕ) → from ≤ t → t < length tasks → (task_at tasks t).ended ≡ true
+abbrev pub NoneFrom : List Parked → ℕ → Type 0
+NoneFrom tasks from = (t : ℕ) → from ≤ t → t < length tasks → has_ended (parked_at tasks t).lease ≡ true
 
 -- the first task from a place on that hasn't ended
-pub record IsFirst (tasks : List SavedTask) (from t : ℕ) : Type 0 where
+pub record IsFirst (tasks : List Parked) (from t : ℕ) : Type 0 where
   pub after : from ≤ t
   pub lives : IsNext tasks t
-  pub first : (u : ℕ) → from ≤ u → u < t → (task_at tasks u).ended ≡ true
+  pub first : (u : ℕ) → from ≤ u → u < t → has_ended (parked_at tasks u).lease ≡ true
 
 -- the place behind the task that was started last
 abbrev pub behind : Option ℕ → ℕ
@@ -153,13 +174,19 @@ behind None = 0
 behind (Some last) = last + 1
 
 -- The tasks have their turns round and round, in the order of their blocks.
-abbrev pub IsInOrder : List SavedTask → Option ℕ → ℕ → Type 0
+abbrev pub IsInOrder : List Parked → Option ℕ → ℕ → Type 0
 IsInOrder tasks last t = IsFirst tasks (behind last) t ⊎ (NoneFrom tasks (behind last) × IsFirst tasks 0 t)
 
 -- every task has ended
-abbrev pub NoneLives : List SavedTask → Type 0
-NoneLives tasks = (t : ℕ) → t < length tasks → (task_at tasks t).ended ≡ true
+abbrev pub NoneLives : List Parked → Type 0
+NoneLives tasks = (t : ℕ) → t < length tasks → has_ended (parked_at tasks t).lease ≡ true
 
--- as many tasks that have had no turn
-abbrev pub fresh_tasks : ℕ → List SavedTask
-fresh_tasks n = replicate n fresh
+-- ---- what is left to do: the lines that a task hasn't run, and its end
+
+abbrev pub work_of : ℕ → Parked → ℕ
+work_of lines task = if has_ended task.lease then 0 else (lines - task.place) + 1
+
+abbrev pub work : List Block → List Parked → ℕ
+work [] tasks = 0
+work (block ∷ blocks) [] = 0
+work (block ∷ blocks) (task ∷ tasks) = work_of (length block.body) task + work blocks tasks

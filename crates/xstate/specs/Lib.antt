@@ -11,6 +11,7 @@ pub mod Body
 pub mod Commands
 pub mod RefusalText
 pub mod Text
+pub mod Turns
 pub mod Engine
 pub mod Writing
 pub mod Statuses

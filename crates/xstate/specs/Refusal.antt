@@ -12,7 +12,7 @@ use Rattle.xs_model.specs.declared.script.Named.{Named}
 use Rattle.xs_model.specs.declared.script.Named.TheVariants as machines
 use Rattle.xs_model.specs.declared.script.Command.{Command}
 use Rattle.xs_model.specs.declared.script.Command.TheVariants as commands
-use Rattle.xs_model.specs.Script.{IsCommand, IsBuiltCommand, register_of, is_built}
+use Rattle.xs_model.specs.Script.{IsCommand, IsBuiltCommand, register_of, fits_register, is_built}
 use Rattle.xstate.specs.declared.line.Line.{Line}
 use Rattle.xstate.specs.declared.line.Line.TheVariants as lines
 use Rattle.xstate.specs.declared.refusal.Kind.{Kind}
@@ -125,7 +125,7 @@ rows_of_line lines.End = []
 abbrev pub table_of : List Line → List Row
 table_of ls = flat_map rows_of_line ls
 
--- A command's register is one of the machine and of those that are built, and a value has as many bytes as it.
+-- A command's register is one of the machine and of those that are built, and a value fits it.
 abbrev pub IsKnownCommand : List Row → Command → Type 0
 IsKnownCommand rows command = IsCommand rows command × IsBuiltCommand command
 
@@ -133,7 +133,7 @@ IsKnownCommand rows command = IsCommand rows command × IsBuiltCommand command
 pub data CommandFails (rows : List Row) : Command → Kind → Type 0 where
   Unknown : (command : Command) → ((place : Place) → IsRegister rows (register_of command) place → ⊥) → CommandFails rows command UnknownName
   Unbuilt : (command : Command) (place : Place) → IsRegister rows (register_of command) place → is_built place ≡ false → CommandFails rows command NotBuilt
-  Length : (reg bytes : List ℕ) (place : Place) → IsRegister rows reg place → is_built place ≡ true → (length bytes ≡ place.len → ⊥) → CommandFails rows (commands.Set reg bytes) BadLine
+  Misfit : (reg bytes : List ℕ) (place : Place) → IsRegister rows reg place → is_built place ≡ true → fits_register place bytes ≡ false → CommandFails rows (commands.Set reg bytes) BadLine
 
 abbrev pub IsKnown : List Row → Line → Type 0
 IsKnown rows lines.Version = Unit {0}

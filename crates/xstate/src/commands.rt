@@ -1,15 +1,16 @@
 //! The registers of a script's commands.
 
-ghost use Rattle.std.specs.Prelude.{◌≡◌, MatchOption, IfOk, IfErr};
-ghost use Rattle.std.specs.List.{AllByRecursion};
+ghost use Rattle.std.specs.Prelude.{◌≡◌, ◌==◌, drop, MatchOption, IfOk, IfErr};
+ghost use Rattle.std.specs.List.{list_all, AllByRecursion};
+ghost use Rattle.xs_base.specs.File.{is_mxcsr};
 ghost use Rattle.xs_model.specs.declared.script.Order.{Order};
 ghost use Rattle.xs_model.specs.declared.script.Block.{Block};
-ghost use Rattle.xs_model.specs.Script.{is_built};
+ghost use Rattle.xs_model.specs.Script.{fits_register, is_built};
 ghost use Rattle.xstate.specs.Refusal.{CommandFails};
 ghost use Rattle.xstate.specs.Commands.{IsBuiltRegister, RegisterFails, PassesCommand, PassesOrders, FirstOrder, FirstBlock};
 
 use crate::refusal::Kind;
-use xs_base::{Comp, Place};
+use xs_base::{Comp, Lane, Place};
 use xs_layout::Layout;
 use xs_model::{Block, Command, Order};
 use xs_regs::place_of_bytes;
@@ -44,13 +45,8 @@ fn command_fault(layout: &Layout, command: &Command) -> Option<Kind>
 {
     match command {
         Command::Set { reg, bytes } => match find_register(layout, reg.as_slice()) {
-            Ok(place) => {
-                if bytes.as_slice().len() == place.len as usize {
-                    None
-                } else {
-                    Some(Kind::BadLine)
-                }
-            }
+            Ok(place) if fits_register(place, bytes) => None,
+            Ok(_) => Some(Kind::BadLine),
             Err(kind) => Some(kind),
         },
         Command::Get { reg } => match find_register(layout, reg.as_slice()) {
@@ -72,9 +68,32 @@ fn find_register(layout: &Layout, reg: &[u8]) -> Result<Place, Kind>
     }
 }
 
-/// Whether the program has the register.
+/// Whether the program has the register: one of x87, SSE with MXCSR, AVX and AVX-512.
 fn is_built(place: Place) -> bool
     ensures { result ≡ is_built place }
 {
-    place.comp == Comp(1) && place.offset < 256
+    matches!(place.comp.0, 0 | 1 | 2 | 5 | 6 | 7)
+}
+
+/// Whether the register can be set to these bytes: as many as it has, and for MXCSR with bits 16 to 31 zero, which are
+/// reserved (SDM volume 1, 10.2.3).
+fn fits_register(place: Place, bytes: &Lane) -> bool
+    ensures { result ≡ fits_register place bytes.now }
+{
+    let bytes = bytes.as_slice();
+    bytes.len() == place.len as usize && (!is_mxcsr(place) || are_zero_from(2, bytes))
+}
+
+/// Whether the place is that of MXCSR.
+fn is_mxcsr(place: Place) -> bool
+    ensures { result ≡ is_mxcsr place }
+{
+    place.comp == Comp(1) && place.offset == 256
+}
+
+/// Whether the bytes from this one on are zero.
+fn are_zero_from(first: usize, bytes: &[u8]) -> bool
+    ensures { result ≡ list_all (λ byte. byte == 0) (drop first bytes.now) }
+{
+    bytes.iter().skip(first).all(|byte| *byte == 0)
 }

@@ -1,26 +1,32 @@
 //! The engine of one processor: it runs the tasks of a script by turns, and keeps their registers apart.
 
-ghost use Rattle.std.specs.Prelude.{◌≡◌, ◌+◌, ◌<◌, ◌≤◌, length, vec_len, IfOk, OnOk, IfSome, IfNone, Some};
+ghost use Rattle.std.specs.Prelude.{◌≡◌, ℕ, ◌+◌, ◌<◌, ◌≤◌, List, false, true, length, vec_len, slice_set, IfOk, OnOk, IfSome, IfNone, Some, None};
+ghost use Rattle.xs_area.specs.declared.area.Lease.{Lease};
 ghost use Rattle.xs_model.specs.Machine.{how_of};
 ghost use Rattle.xs_model.specs.Script.{IsValid, IsBuilt};
 ghost use Rattle.xs_model.specs.History.{IsWhole};
-ghost use Rattle.xstate.specs.Engine.{IsAtRest, IsInTurn, AfterLine, AfterLines, task_at, is_last, fresh_tasks, body_at, IsFirst, IsInOrder, IsNext, NoneFrom, NoneLives, work};
+ghost use Rattle.xstate.specs.Turns.{task_at, body_at, is_last};
+ghost use Rattle.xstate.specs.Engine.{IsSetUp, IsResting, IsTurning, IsPaused, IsHeld, EngineAfterLine, EngineAfterLines, AreOpened, IsPoolOf, parked_at, IsFirst, IsInOrder, IsNext, NoneFrom, NoneLives, work};
 
 #[cfg(test)]
 mod tests;
 
-use crate::bank::Bank;
+use crate::instructions::run_command;
 use crate::parked::Parked;
+use crate::switching::{restore, save};
 use std::alloc::{AllocError, Global};
+use xs_area::Class;
+use xs_bank::{Bank, Cpu};
 use xs_base::How;
 use xs_model::{BlockKind, Event, History, Order, Script, Stage};
+use xs_pool::AreaPool;
 
-/// The processor's bank, the block that was started last, the tasks between their turns, and the history so far.
+/// The tasks between their turns, the pool of their areas, and the history so far. Which block's registers the bank holds is
+/// the owner mark of the processor.
 #[derive(Drop)]
 struct Engine {
-    bank: Bank,
-    last: Option<u32>,
     tasks: Vec<Parked>,
+    pool: AreaPool,
     history: History,
 }
 
@@ -31,55 +37,69 @@ struct Pause {
     over: bool,
 }
 
-/// Runs a script of one processor, and answers its whole history.
-pub fn run(alloc: Global, script: &Script) -> Result<History, AllocError>
+/// Runs a script on one processor, and answers its whole history.
+pub fn run<B: Bank>(alloc: Global, script: &Script, cpu: &mut Cpu<B>) -> Result<History, AllocError>
     requires valid { IsValid script.now }
     requires built { IsBuilt script.now }
     ensures { IfOk result (IsWhole script.now) }
 {
-    let mut engine = Engine::open(alloc, script)?;
-    while let Some(task) = engine.next_task() {
-        engine.turn(script, task)?;
+    let mut engine = Engine::open(alloc, script, cpu)?;
+    while let Some(task) = engine.next_task(cpu.mark) {
+        engine.turn(script, cpu, task)?;
     }
     let Engine { history, .. } = engine;
     Ok(history)
 }
 
-/// So many tasks that have had no turn, each with an area of its own.
-fn open_tasks(alloc: Global, count: usize) -> Result<Vec<Parked>, AllocError>
-    ensures { IfOk result (λ tasks. tasks.items ≡ fresh_tasks count) }
+/// So many tasks that have had no turn, each with a Small area of its own.
+fn open_tasks(alloc: Global, pool: &mut AreaPool, count: usize) -> Result<Vec<Parked>, AllocError>
+    requires few { count ≤ 64 }
+    requires room { pool.old.small ≡ record { out = 0; capacity = count } }
+    requires new { pool.old.given ≡ 0 }
+    ensures tasks { IfOk result (λ tasks. AreOpened pool.old.rows tasks.items count) }
+    ensures pool { IfOk result (λ tasks. IsPoolOf pool.old.rows pool.new tasks.items) }
 {
     let mut tasks = Vec::new(alloc);
     'each: while tasks.len() < count {
-        tasks.push(Parked::new(alloc)?)?;
+        let Ok(lease) = pool.lease(Class::Small) else {
+            unreachable!()
+        };
+        tasks.push(Parked {
+            lease: Some(lease),
+            place: 0,
+        })?;
     }
     Ok(tasks)
 }
 
 impl Engine {
-    /// The engine before the first event, with a new area for each task.
-    fn open(alloc: Global, script: &Script) -> Result<Engine, AllocError>
-        requires { IsBuilt script.now }
-        ensures { IfOk result (λ engine. IsAtRest script.now engine.bank.registers engine.last engine.tasks.items engine.history) }
+    /// The engine before the first event, with a new area for each task. The processor is set up for the script's machine once
+    /// all memory is found.
+    fn open<B: Bank>(alloc: Global, script: &Script, cpu: &mut Cpu<B>) -> Result<Engine, AllocError>
+        requires valid { IsValid script.now }
+        requires built { IsBuilt script.now }
+        ensures { IfOk result (IsResting script.now (B.state cpu.new.bank) cpu.new.mark) }
     {
-        let tasks = open_tasks(alloc, script.blocks.len())?;
+        let count = script.blocks.len();
+        let mut pool = AreaPool::open(alloc, &script.layout, count as u32, script.large)?;
+        let tasks = open_tasks(alloc, &mut pool, count)?;
+        cpu.set_up(&script.layout);
         Ok(Engine {
-            bank: Bank::new(),
-            last: None,
             tasks,
+            pool,
             history: History::new(alloc),
         })
     }
 
     /// The task whose turn is next: the first from the one after the last started on that hasn't ended, and else the
     /// first of all. None where every task has ended.
-    fn next_task(&self) -> Option<u32>
+    fn next_task(&self, last: Option<u32>) -> Option<u32>
         requires { vec_len self.now.tasks ≤ 64 }
         ensures some { IfSome result (λ t. IsNext self.now.tasks.items t) }
-        ensures order { IfSome result (λ t. IsInOrder self.now.tasks.items self.now.last t) }
+        ensures order { IfSome result (λ t. IsInOrder self.now.tasks.items last t) }
         ensures none { IfNone result (NoneLives self.now.tasks.items) }
     {
-        let first = match self.last {
+        let first = match last {
             Some(last) => last as usize + 1,
             None => 0,
         };
@@ -89,40 +109,70 @@ impl Engine {
         }
     }
 
-    /// Gives the bank the task's registers. The restore is left out where the task is the one that was started last,
+    /// Gives the bank the task's registers. The restore is left out where the task is the one that the owner mark names,
     /// whose registers the bank still has.
-    fn restore(&mut self, task: u32) -> How
-        requires here { task < vec_len self.old.tasks }
-        requires kept { self.old.last ≡ Some task → self.old.bank.registers ≡ (task_at self.old.tasks.items task).registers }
-        ensures how { result ≡ how_of BlockKind.Task (is_last self.old.last task) }
-        ensures bank { self.new.bank.registers ≡ (task_at self.old.tasks.items task).registers }
-        ensures others { self.new ≡ record self.old { bank = self.new.bank } }
+    fn restore<B: Bank>(&self, script: &Script, cpu: &mut Cpu<B>, task: u32) -> How
+        requires rest { IsResting script.now (B.state cpu.old.bank) cpu.old.mark self.now }
+        requires next { IsNext self.now.tasks.items task }
+        ensures how { result ≡ how_of BlockKind.Task (is_last cpu.old.mark task) }
+        ensures held { (rest : IsResting script.now (B.state cpu.old.bank) cpu.old.mark self.now) → IsHeld script.now.layout (B.state cpu.new.bank) (task_at rest.saved task).file self.now.tasks.items task }
+        ensures machine { IsSetUp script.now.layout (B.state cpu.new.bank) }
+        ensures mark { cpu.new.mark ≡ cpu.old.mark }
     {
-        if self.last == Some(task) {
+        if cpu.mark == Some(task) {
             return How::Skip;
         }
-        self.tasks[task as usize].restore(&mut self.bank);
+        let Some(lease) = &self.tasks[task as usize].lease else {
+            unreachable!()
+        };
+        restore(&mut cpu.bank, &script.layout, lease);
         How::Load
     }
 
-    /// Runs the line at the task's place, and answers what the block does then.
-    fn run_line(
+    /// Begins a turn: the bank gets the task's registers, and the owner mark is the task.
+    fn start<B: Bank>(
         &mut self,
         script: &Script,
+        cpu: &mut Cpu<B>,
+        task: u32,
+    ) -> Result<(), AllocError>
+        requires valid { IsValid script.now }
+        requires built { IsBuilt script.now }
+        requires rest { IsResting script.now (B.state cpu.old.bank) cpu.old.mark self.old }
+        requires next { IsNext self.old.tasks.items task }
+        ensures turn { OnOk result (IsTurning script.now (B.state cpu.new.bank) cpu.new.mark self.new task (parked_at self.old.tasks.items task).place 0) }
+        ensures tasks { self.new.tasks.items ≡ self.old.tasks.items }
+    {
+        let how = self.restore(script, cpu, task);
+        cpu.mark = Some(task);
+        self.history.push(Event::Start {
+            task,
+            cpu: 0,
+            how,
+            signal: None,
+        })?;
+        Ok(())
+    }
+
+    /// Runs the line at the task's place, and answers what the block does then.
+    fn run_line<B: Bank>(
+        &mut self,
+        script: &Script,
+        cpu: &mut Cpu<B>,
         task: u32,
         place: usize,
         ran: u32,
     ) -> Result<Stage, AllocError>
         requires valid { IsValid script.now }
         requires built { IsBuilt script.now }
-        requires turn { IsInTurn script.now self.old.bank.registers self.old.last self.old.tasks.items self.old.history task place ran }
+        requires turn { IsTurning script.now (B.state cpu.old.bank) cpu.old.mark self.old task place ran }
         requires line { place < length (body_at script.now task) }
         requires within { ran < script.now.quantum }
-        ensures after { IfOk result (AfterLine script.now self.new.bank.registers self.new.last self.new.tasks.items self.new.history task (place + 1) ran) }
+        ensures after { IfOk result (EngineAfterLine script.now (B.state cpu.new.bank) cpu.new.mark self.new task (place + 1) ran) }
         ensures tasks { self.new.tasks.items ≡ self.old.tasks.items }
     {
         let order = &lines_of(script, task)[place];
-        let reply = self.bank.run(&script.layout, &order.command);
+        let reply = run_command(&mut cpu.bank, &script.layout, &order.command);
         self.history.push(Event::Local {
             task,
             line: order.number,
@@ -132,19 +182,25 @@ impl Engine {
     }
 
     /// Runs the lines of a turn from a place on, until the quantum is used up or the body ends.
-    fn run_lines(&mut self, script: &Script, task: u32, from: usize) -> Result<Pause, AllocError>
+    fn run_lines<B: Bank>(
+        &mut self,
+        script: &Script,
+        cpu: &mut Cpu<B>,
+        task: u32,
+        from: usize,
+    ) -> Result<Pause, AllocError>
         requires valid { IsValid script.now }
         requires built { IsBuilt script.now }
-        requires turn { IsInTurn script.now self.old.bank.registers self.old.last self.old.tasks.items self.old.history task from 0 }
+        requires turn { IsTurning script.now (B.state cpu.old.bank) cpu.old.mark self.old task from 0 }
         requires start { from ≤ length (body_at script.now task) }
-        ensures after { IfOk result (λ pause. AfterLines script.now self.new.bank.registers self.new.last self.new.tasks.items self.new.history task from pause.place pause.over) }
+        ensures after { IfOk result (λ pause. EngineAfterLines script.now (B.state cpu.new.bank) cpu.new.mark self.new task from pause.place pause.over) }
         ensures tasks { self.new.tasks.items ≡ self.old.tasks.items }
     {
         let end = lines_of(script, task).len();
         let mut place = from;
         let mut ran = 0;
         while place < end {
-            match self.run_line(script, task, place, ran)? {
+            match self.run_line(script, cpu, task, place, ran)? {
                 Stage::Turn { ran: more, .. } => ran = more,
                 _ => {
                     return Ok(Pause {
@@ -158,30 +214,59 @@ impl Engine {
         Ok(Pause { place, over: false })
     }
 
-    /// One turn of a task: its Start, its lines, the save of its registers, and its end where its body has ended.
-    fn turn(&mut self, script: &Script, task: u32) -> Result<(), AllocError>
+    /// Saves the registers of a task whose turn is over, and its place.
+    fn park<B: Bank>(&mut self, script: &Script, cpu: &mut Cpu<B>, task: u32, place: usize)
+        requires { IsPaused script.now (B.state cpu.old.bank) cpu.old.mark self.old task place false }
+        ensures rest { IsResting script.now (B.state cpu.new.bank) cpu.new.mark self.new }
+        ensures tasks { (lease : Lease) × (self.new.tasks.items ≡ slice_set self.old.tasks.items task (record { lease = Some lease; place = place })) }
+    {
+        let Some(mut lease) = self.tasks[task as usize].lease.take() else {
+            unreachable!()
+        };
+        save(&mut cpu.bank, &script.layout, &mut lease);
+        self.tasks[task as usize] = Parked {
+            lease: Some(lease),
+            place,
+        };
+    }
+
+    /// Saves the registers of a task that has ended, and gives its area back.
+    fn end<B: Bank>(&mut self, script: &Script, cpu: &mut Cpu<B>, task: u32, place: usize)
+        requires { IsPaused script.now (B.state cpu.old.bank) cpu.old.mark self.old task place true }
+        ensures rest { IsResting script.now (B.state cpu.new.bank) cpu.new.mark self.new }
+        ensures tasks { self.new.tasks.items ≡ slice_set self.old.tasks.items task (record { lease = None; place = place }) }
+    {
+        let Some(mut lease) = self.tasks[task as usize].lease.take() else {
+            unreachable!()
+        };
+        save(&mut cpu.bank, &script.layout, &mut lease);
+        self.pool.give_back(lease);
+        self.tasks[task as usize] = Parked { lease: None, place };
+    }
+
+    /// One turn of a task: its Start, its lines, its end where its body has ended, and the save of its registers.
+    fn turn<B: Bank>(
+        &mut self,
+        script: &Script,
+        cpu: &mut Cpu<B>,
+        task: u32,
+    ) -> Result<(), AllocError>
         requires valid { IsValid script.now }
         requires built { IsBuilt script.now }
-        requires rest { IsAtRest script.now self.old.bank.registers self.old.last self.old.tasks.items self.old.history }
+        requires rest { IsResting script.now (B.state cpu.old.bank) cpu.old.mark self.old }
         requires next { IsNext self.old.tasks.items task }
-        ensures rest { OnOk result (IsAtRest script.now self.new.bank.registers self.new.last self.new.tasks.items self.new.history) }
+        ensures rest { OnOk result (IsResting script.now (B.state cpu.new.bank) cpu.new.mark self.new) }
         ensures progress { OnOk result (work script.now.blocks self.new.tasks.items < work script.now.blocks self.old.tasks.items) }
     {
-        let from = self.tasks[task as usize].place();
-        let how = self.restore(task);
-        self.last = Some(task);
-        self.history.push(Event::Start {
-            task,
-            cpu: 0,
-            how,
-            signal: None,
-        })?;
-        let pause = self.run_lines(script, task, from)?;
-        self.tasks[task as usize].save(&self.bank, pause.place, !pause.over);
+        let from = self.tasks[task as usize].place;
+        self.start(script, cpu, task)?;
+        let pause = self.run_lines(script, cpu, task, from)?;
         if pause.over {
+            self.park(script, cpu, task, pause.place);
             return Ok(());
         }
         self.history.push(Event::End { task })?;
+        self.end(script, cpu, task, pause.place);
         Ok(())
     }
 }
@@ -202,7 +287,7 @@ fn first_living(tasks: &[Parked], from: usize) -> Option<u32>
 {
     let mut at = from;
     while at < tasks.len() {
-        if !tasks[at].has_ended() {
+        if tasks[at].lease.is_some() {
             return Some(at as u32);
         }
         at += 1;

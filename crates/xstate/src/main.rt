@@ -1,12 +1,12 @@
 //! `xstate`: runs a script of tasks on processors and writes its history.
 #![tactic(auto)]
 
-mod bank;
 mod body;
 mod commands;
 mod engine;
 mod front;
 mod head;
+mod instructions;
 mod line;
 mod line_reader;
 mod parked;
@@ -16,18 +16,28 @@ mod reading;
 mod reading_tests;
 mod refusal;
 mod status;
+mod switching;
 mod text;
 mod top;
 mod words;
 mod writing;
 
+ghost use Rattle.std.specs.Prelude.{◌≡◌, ℕ, length, slice_get, Some, IfOk};
+ghost use Rattle.xs_bank.specs.declared.cpu.Cpu.{Cpu};
+ghost use Rattle.xs_bank.specs.declared.track.TrackBank.{TrackBank};
+ghost use Rattle.xs_bank.specs.Bank.{HasCountedNothing};
+
 use crate::status::Status;
 use crate::top::top;
-use std::alloc::AllocError;
+use std::alloc::{AllocError, Global};
 use std::env;
 use std::io::{self, BufWriter, ErrorKind};
 use std::process::ExitCode;
+use xs_bank::{Bank, Cpu, TrackBank};
 use xs_io::{StdSink, StdSource};
+
+/// The most processors that a script may name.
+const PROCESSORS: u32 = 16;
 
 /// Takes the command line, standard input and a buffer over standard output, and ends with the status of the top call.
 /// The last flush is made here, since a buffer that is dropped loses its error: where it fails the output was not all
@@ -45,13 +55,29 @@ fn answer(rt: &HostRuntime) -> Status {
     let Ok(writer) = BufWriter::new(alloc, io::writer(rt)) else {
         return Status::NoMemory;
     };
+    let Ok(mut cpus) = processors(alloc) else {
+        return Status::NoMemory;
+    };
     let mut source = StdSource::new(rt.reader());
     let mut sink = StdSink::new(writer);
-    let status = top(alloc, &words, &mut source, &mut sink);
+    let status = top(alloc, &words, &mut source, &mut sink, &mut cpus);
     match sink.flush() {
         Ok(()) => status,
         Err(_) => Status::WriteFault,
     }
+}
+
+/// The processors, numbered from 0 in order, whose banks save only what may have changed.
+fn processors(alloc: Global) -> Result<Vec<Cpu<TrackBank>>, AllocError>
+    ensures many { IfOk result (λ cpus. length cpus.items ≡ 16) }
+    ensures numbers { IfOk result (λ cpus. (i : ℕ) (cpu : Cpu TrackBank) → slice_get cpus.items i ≡ Some cpu → cpu.number ≡ i) }
+    ensures counts { IfOk result (λ cpus. (i : ℕ) (cpu : Cpu TrackBank) → slice_get cpus.items i ≡ Some cpu → HasCountedNothing (⟦<TrackBank as Bank>⟧.state cpu.bank)) }
+{
+    let mut cpus = Vec::new(alloc);
+    'each: for number in 0..PROCESSORS {
+        cpus.push(Cpu::new(alloc, number, TrackBank::new(alloc)?)?)?;
+    }
+    Ok(cpus)
 }
 
 /// The words of the command line, without the program's name: none where one of them is no text, so that they are no

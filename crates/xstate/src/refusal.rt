@@ -26,8 +26,8 @@ pub enum LimitName {
 pub enum Kind {
     /// The line is that of a form that this version doesn't have yet.
     NotBuilt,
-    /// The line isn't spelled by the grammar, or doesn't stand where the grammar allows it, or its bytes aren't as
-    /// many as its register has. Where the text ends too early it is the line after the last one.
+    /// The line isn't spelled by the grammar, or doesn't stand where the grammar allows it, or its register can't be
+    /// set to its bytes. Where the text ends too early it is the line after the last one.
     BadLine,
     /// A number is out of its limit.
     Limit(LimitName),

@@ -1,6 +1,8 @@
 //! The top call: all that the program does, over any source and sink.
 
-ghost use Rattle.std.specs.Prelude.{◌≡◌, ℕ, List, ◌⊎◌, ◌↔◌, map, string_bytes, IsTrue, Some};
+ghost use Rattle.std.specs.Prelude.{◌≡◌, ℕ, ◌<◌, List, ◌⊎◌, ◌↔◌, length, map, slice_get, string_bytes, IsTrue, Some};
+ghost use Rattle.xs_bank.specs.declared.cpu.Cpu.{Cpu};
+ghost use Rattle.xs_bank.specs.Bank.{HasCountedNothing};
 ghost use Rattle.std.specs.Io.KnownBytes.{Appends};
 ghost use Rattle.xs_io.specs.Causes.{Rose};
 ghost use Rattle.xs_model.specs.Script.{IsValid, IsBuilt};
@@ -21,6 +23,7 @@ use crate::status::Status;
 use crate::text::write_history;
 use crate::writing::write_all;
 use std::alloc::Global;
+use xs_bank::{Bank, Cpu};
 use xs_io::{Sink, Source};
 use xs_model::{Event, Script};
 
@@ -34,13 +37,19 @@ const USAGE: &[u8] = b"usage: xstate run [--tasks] | replay | check | gen N | de
 const TOO_LONG: &[u8] = b"refused 0 too-long\n";
 
 /// Does what the words of the command line ask: `run` reads a script from the source and writes its history to the
-/// sink. `words` is the command line without the program's name.
-pub fn top<S: Source, K: Sink>(
+/// sink. `words` is the command line without the program's name. The processors are sixteen, numbered from 0 in order, whose
+/// banks have counted nothing; those of the script are set up once all memory is found.
+pub fn top<S: Source, K: Sink, B: Bank>(
     alloc: Global,
     words: &[String],
     source: &mut S,
     sink: &mut K,
+    cpus: &mut [Cpu<B>],
 ) -> Status
+    requires many { length cpus.old ≡ 16 }
+    requires numbers { (i : ℕ) (cpu : Cpu B) → slice_get cpus.old i ≡ Some cpu → cpu.number ≡ i }
+    requires counts { (i : ℕ) (cpu : Cpu B) → slice_get cpus.old i ≡ Some cpu → HasCountedNothing (B.state cpu.bank) }
+
     // 64: the words are no command, and the usage line was written. Nothing was read.
     ensures usage { result ≡ Status.Usage → (IsRun (map string_bytes words.now) → ⊥)
         × Appends (K.written sink.old) (K.written sink.new) usage_text × (S.left source.new ≡ S.left source.old) }
@@ -70,7 +79,7 @@ pub fn top<S: Source, K: Sink>(
     ensures unfailed { Unfailed (S.fault_count source.old) (S.fault_count source.new) (K.fault_count sink.old) (K.fault_count sink.new) result }
 {
     if is_run(words) {
-        run_command(alloc, source, sink)
+        run_command(alloc, source, sink, cpus)
     } else {
         tell(sink, USAGE, Status::Usage)
     }
@@ -87,26 +96,38 @@ fn is_run(words: &[String]) -> bool
 }
 
 /// Reads a script and writes its history.
-fn run_command<S: Source, K: Sink>(alloc: Global, source: &mut S, sink: &mut K) -> Status
+fn run_command<S: Source, K: Sink, B: Bank>(
+    alloc: Global,
+    source: &mut S,
+    sink: &mut K,
+    cpus: &mut [Cpu<B>],
+) -> Status
+    requires { 0 < length cpus.old }
     ensures { RunEnds (S.left source.old) (S.left source.new) (S.fault_count source.old) (S.fault_count source.new)
         (K.written sink.old) (K.written sink.new) (K.fault_count sink.old) (K.fault_count sink.new) result }
 {
     match read_up_to(alloc, LIMIT, source) {
-        Ok(input) => answer(alloc, input.as_slice(), sink),
+        Ok(input) => answer(alloc, input.as_slice(), sink, cpus),
         Err(ReadError::Fault) => Status::ReadFault,
         Err(ReadError::Memory) => Status::NoMemory,
     }
 }
 
 /// Answers an input: with its history, or with one line where it is no script.
-fn answer<K: Sink>(alloc: Global, input: &[u8], sink: &mut K) -> Status
+fn answer<K: Sink, B: Bank>(
+    alloc: Global,
+    input: &[u8],
+    sink: &mut K,
+    cpus: &mut [Cpu<B>],
+) -> Status
+    requires { 0 < length cpus.old }
     ensures { AnswerEnds input.now (K.written sink.old) (K.written sink.new) (K.fault_count sink.old) (K.fault_count sink.new) result }
 {
     if input.len() > LIMIT {
         return tell(sink, TOO_LONG, Status::Refused);
     }
     match read_script(alloc, input) {
-        Ok(script) => write_run(alloc, &script, sink),
+        Ok(script) => write_run(alloc, &script, sink, &mut cpus[0]),
         Err(ScriptError::Refused { line, kind }) => tell_refusal(line, kind, sink),
         Err(ScriptError::Memory) => Status::NoMemory,
     }
@@ -122,12 +143,17 @@ fn tell_refusal<K: Sink>(line: u32, kind: Kind, sink: &mut K) -> Status
 }
 
 /// Runs a script and writes its history.
-fn write_run<K: Sink>(alloc: Global, script: &Script, sink: &mut K) -> Status
+fn write_run<K: Sink, B: Bank>(
+    alloc: Global,
+    script: &Script,
+    sink: &mut K,
+    cpu: &mut Cpu<B>,
+) -> Status
     requires valid { IsValid script.now }
     requires built { IsBuilt script.now }
     ensures { WriteEnds script.now (K.written sink.old) (K.written sink.new) (K.fault_count sink.old) (K.fault_count sink.new) result }
 {
-    match run(alloc, script) {
+    match run(alloc, script, cpu) {
         Ok(history) => tell_history(script, history.events(), sink),
         Err(_) => Status::NoMemory,
     }

@@ -3,6 +3,7 @@
 use super::*;
 use crate::reader::read_script;
 use std::test::Fail;
+use xs_bank::PlainBank;
 use xs_model::held;
 
 const BODIES: &[u8] =
@@ -14,7 +15,8 @@ fn skips_where_the_registers_are_held(rt: HostRuntime) -> Result<(), Fail> {
     let Ok(script) = read_script(rt.alloc(), BODIES) else {
         return Err(Fail::from("the script is not read"));
     };
-    let history = run(rt.alloc(), &script)?;
+    let mut cpu = Cpu::new(rt.alloc(), 0, PlainBank::new(rt.alloc())?)?;
+    let history = run(rt.alloc(), &script, &mut cpu)?;
     let events = history.events();
     let mut skips = 0u32;
     for (at, event) in events.iter().enumerate() {

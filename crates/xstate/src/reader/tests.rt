@@ -44,7 +44,7 @@ fn blocks(alloc: Global, count: u32, tail: &str) -> Result<String, AllocError> {
     Ok(text)
 }
 
-const SCRIPTS: [(&str, &str); 8] = [
+const SCRIPTS: [(&str, &str); 12] = [
     (HEAD, "task a\nend\n"),
     (HEAD, "task abcdefghijklmn12\nend\n"),
     (HEAD, "task a\nget xmm0\nget xmm15\nend\ntask b\nend\n"),
@@ -52,7 +52,23 @@ const SCRIPTS: [(&str, &str); 8] = [
         HEAD,
         "task a\nset xmm9 000102030405060708090a0b0c0d0eff\nend\n",
     ),
-    (AVX, "task a\nget xmm7\nend\n"),
+    (
+        HEAD,
+        "task a\nget fcw\nget fsw\nget ftw\nget fop\nget fip\nget fdp\nget st0\nget st7\nget mxcsr\nend\n",
+    ),
+    (
+        HEAD,
+        "task a\nget ymmh0\nget ymmh15\nget k0\nget k7\nget zmmh0\nget zmmh15\nget zmm16\nget zmm31\nend\n",
+    ),
+    (
+        HEAD,
+        "task a\nset fcw 7f03\nset ftw ff\nset st7 00010203040506070809\nset mxcsr ffff0000\nset k0 0001020304050607\nend\n",
+    ),
+    (HEAD, "task a\nset mxcsr a01f0000\nget mxcsr\nend\n"),
+    (
+        AVX,
+        "task a\nget xmm7\nget fcw\nget mxcsr\nget ymmh15\nend\n",
+    ),
     (
         LEGACY,
         "cpus 1\nquantum 1\nlarge 64\ntask a\nget xmm0\nend\n",
@@ -318,31 +334,34 @@ fn refuses_tables(rt: HostRuntime) -> Result<(), Fail> {
     Ok(())
 }
 
-const REGISTERS: [(&str, &str, &str); 15] = [
+const REGISTERS: [(&str, &str, &str); 18] = [
     (HEAD, "task a\nget ymm0\nend\n", "refused 7 unknown-name"),
     (HEAD, "task a\nget xmm16\nend\n", "refused 7 unknown-name"),
     (HEAD, "task a\nget xmm00\nend\n", "refused 7 unknown-name"),
-    (HEAD, "task a\nget ymmh0\nend\n", "refused 7 not-built"),
-    (HEAD, "task a\nget mxcsr\nend\n", "refused 7 not-built"),
+    (HEAD, "task a\nget pkru\nend\n", "refused 7 not-built"),
+    (HEAD, "task a\nget tilecfg\nend\n", "refused 7 not-built"),
+    (HEAD, "task a\nget tmm0.0\nend\n", "refused 7 not-built"),
     (HEAD, "task a\nget tmm7.15\nend\n", "refused 7 not-built"),
-    (AVX, "task a\nget ymmh0\nend\n", "refused 7 not-built"),
+    (AVX, "task a\nget pkru\nend\n", "refused 7 unknown-name"),
     (AVX, "task a\nget k0\nend\n", "refused 7 unknown-name"),
+    (AVX, "task a\nget zmmh0\nend\n", "refused 7 unknown-name"),
+    (AVX, "task a\nget zmm16\nend\n", "refused 7 unknown-name"),
     (HEAD, "task a\nset ymm0 00\nend\n", "refused 7 unknown-name"),
-    (HEAD, "task a\nset ymmh0 00\nend\n", "refused 7 not-built"),
-    (HEAD, "task a\nset xmm0 00\nend\n", "refused 7 bad-line"),
     (
         HEAD,
-        "task a\nset xmm0 000102030405060708090a0b0c0d0e\nend\n",
-        "refused 7 bad-line",
+        "task a\nset pkru 00000000\nend\n",
+        "refused 7 not-built",
     ),
+    (HEAD, "task a\nset pkru 00\nend\n", "refused 7 not-built"),
+    (HEAD, "task a\nset tmm0.0 00\nend\n", "refused 7 not-built"),
     (
         HEAD,
-        "task a\nget ymmh0\nget ymm0\nend\n",
+        "task a\nget pkru\nget ymm0\nend\n",
         "refused 7 not-built",
     ),
     (
         HEAD,
-        "task a\nend\ntask b\nget xmm1\nget ymm0\nget ymmh0\nend\n",
+        "task a\nend\ntask b\nget xmm1\nget ymm0\nget pkru\nend\n",
         "refused 10 unknown-name",
     ),
     (
@@ -363,6 +382,43 @@ fn refuses_registers(rt: HostRuntime) -> Result<(), Fail> {
     Ok(())
 }
 
+const VALUES: [(&str, &str); 13] = [
+    ("set xmm0 00", "refused 7 bad-line"),
+    (
+        "set xmm0 000102030405060708090a0b0c0d0e",
+        "refused 7 bad-line",
+    ),
+    ("set ymmh0 00", "refused 7 bad-line"),
+    (
+        "set ymmh0 000102030405060708090a0b0c0d0e0f10",
+        "refused 7 bad-line",
+    ),
+    ("set ftw 0000", "refused 7 bad-line"),
+    ("set k0 00010203040506", "refused 7 bad-line"),
+    ("set k0 000102030405060708", "refused 7 bad-line"),
+    ("set mxcsr 801f00", "refused 7 bad-line"),
+    ("set mxcsr 801f000000", "refused 7 bad-line"),
+    ("set mxcsr 801f0100", "refused 7 bad-line"),
+    ("set mxcsr 801f0001", "refused 7 bad-line"),
+    ("set mxcsr 801f0080", "refused 7 bad-line"),
+    (
+        "set mxcsr ffff0000\nset mxcsr 00000100",
+        "refused 8 bad-line",
+    ),
+];
+
+/// Values of another length than that of their register, and reserved bits of MXCSR.
+#[test]
+fn refuses_values(rt: HostRuntime) -> Result<(), Fail> {
+    let alloc = rt.alloc();
+    for (line, want) in VALUES {
+        let text = format!(in alloc; "{}task a\n{}\nend\n", HEAD, line)?;
+        let got = told(alloc, text.as_str())?;
+        assert_eq!(rt; got.as_str(), want, "{line}");
+    }
+    Ok(())
+}
+
 #[test]
 fn refuses_by_the_first_pass_first(rt: HostRuntime) -> Result<(), Fail> {
     let alloc = rt.alloc();
@@ -371,6 +427,10 @@ fn refuses_by_the_first_pass_first(rt: HostRuntime) -> Result<(), Fail> {
         ("task a\nget ymm0\nend", "refused 8 bad-line"),
         ("task a\nget ymm0\nyield\nend\n", "refused 8 not-built"),
         ("task a\nset xmm0 00\nget\n", "refused 8 bad-line"),
+        (
+            "task a\nset mxcsr 801f0100\nyield\nend\n",
+            "refused 8 not-built",
+        ),
     ] {
         let text = format!(in alloc; "{}{}", HEAD, body)?;
         let got = told(alloc, text.as_str())?;
@@ -379,19 +439,28 @@ fn refuses_by_the_first_pass_first(rt: HostRuntime) -> Result<(), Fail> {
     Ok(())
 }
 
-/// A value of more bytes than a register has, and far more than a lane keeps.
+/// Values of about as many bytes as a register has, and of far more than a lane keeps.
 #[test]
-fn refuses_long_values(rt: HostRuntime) -> Result<(), Fail> {
+fn counts_the_bytes_of_values(rt: HostRuntime) -> Result<(), Fail> {
     let alloc = rt.alloc();
-    for count in [64, 65, 1000] {
-        let mut text = String::from_str(alloc, HEAD)?;
-        text.push_str("task a\nset xmm0 ")?;
+    for (reg, count, want) in [
+        ("xmm0", 16, "script"),
+        ("xmm0", 64, "refused 7 bad-line"),
+        ("xmm0", 65, "refused 7 bad-line"),
+        ("xmm0", 1000, "refused 7 bad-line"),
+        ("zmm16", 63, "refused 7 bad-line"),
+        ("zmm16", 64, "script"),
+        ("zmm16", 65, "refused 7 bad-line"),
+        ("mxcsr", 65, "refused 7 bad-line"),
+        ("tilecfg", 65, "refused 7 not-built"),
+    ] {
+        let mut text = format!(in alloc; "{}task a\nset {} ", HEAD, reg)?;
         for _ in 0..count {
             text.push_str("00")?;
         }
         text.push_str("\nend\n")?;
         let got = told(alloc, text.as_str())?;
-        assert_eq!(rt; got.as_str(), "refused 7 bad-line");
+        assert_eq!(rt; got.as_str(), want, "{count} bytes of {reg}");
     }
     Ok(())
 }

@@ -1,6 +1,7 @@
 //! The worked examples, over a source and a sink in memory.
 
 use super::*;
+use crate::processors;
 use std::alloc::AllocError;
 use std::test::Fail;
 use xs_io::{MemSink, MemSource};
@@ -22,6 +23,13 @@ const ALONE: &str =
 
 const ALONE_HISTORY: &str =
     "start a 0 load -\nlocal a 7 -\nstart a 0 skip -\nlocal a 8 =abababababababababababababababab\nstart a 0 skip -\nend a\n";
+
+/// MXCSR of one task is changed while the other's XMM registers are zero.
+const CONTROL: &str =
+    "xstate 1\nmachine amx\ncpus 1\nquantum 1\nlarge 0\ntask a\nset mxcsr a01f0000\nget mxcsr\nend\ntask b\nget mxcsr\nend\n";
+
+const CONTROL_HISTORY: &str =
+    "start a 0 load -\nlocal a 7 -\nstart b 0 load -\nlocal b 11 =801f0000\nstart a 0 load -\nlocal a 8 =a01f0000\nstart b 0 load -\nend b\nstart a 0 load -\nend a\n";
 
 const KERNEL_THREAD: &str =
     "xstate 1\nmachine amx\ncpus 1\nquantum 2\nlarge 0\ntask a\nset k0 0102030405060708\nyield\nget k0\nend\nkthread k\nyield\nend\n";
@@ -70,7 +78,8 @@ fn call(
     let bytes = Vec::from_slice(alloc, input.as_bytes())?;
     let mut source = MemSource::new(bytes, Vec::from_slice(alloc, reads)?);
     let mut sink = MemSink::open(alloc, 4096, Vec::from_slice(alloc, writes)?)?;
-    let status = top(alloc, &words, &mut source, &mut sink);
+    let mut cpus = processors(alloc)?;
+    let status = top(alloc, &words, &mut source, &mut sink, &mut cpus);
     let written = Vec::from_slice(alloc, sink.bytes())?;
     Ok((status, written))
 }
@@ -81,6 +90,7 @@ fn worked_examples(rt: HostRuntime) -> Result<(), Fail> {
         ("run", ONE_REGISTER, Status::Done, ONE_REGISTER_HISTORY),
         ("run", TWO_TASKS, Status::Done, TWO_TASKS_HISTORY),
         ("run", ALONE, Status::Done, ALONE_HISTORY),
+        ("run", CONTROL, Status::Done, CONTROL_HISTORY),
         (
             "run",
             ONE_REGISTER_ON_ROWS,

@@ -1,14 +1,14 @@
-use Rattle.std.proofs.Common.{◌≡◌, length}
+use Rattle.std.proofs.Common.{sym, ◌∙◌}
 use Rattle.xs_model.specs.declared.script.Command.TheVariants.{Set, Get}
-use Rattle.xstate.specs.Refusal.{Length}
+use Rattle.xstate.specs.Refusal.{Misfit}
 use Rattle.xstate.proofs.CommandFaults.{register_fails}
 use Rattle.xstate.proofs.commands.command_fault.Goals as goal
 
-pub returns-else-as_slice-place : goal.returns-else-as_slice-place
-returns-else-as_slice-place c =
+pub returns-in-Ok-2 : goal.returns-in-Ok-2
+returns-in-Ok-2 c =
     let found = rw c.as_slice.ensures.bytes at c.in-Ok.ensures.found in
-    let other : length c.in-Set.bytes ≡ c.in-Ok.place.len → ⊥ = rw c.as_slice-in-Ok.ensures.bytes at c.if-as_slice-place.false in
-    rw c.in-Set.is (Length c.in-Set.reg c.in-Set.bytes c.in-Ok.place found.here found.built other)
+    let wrong = sym c.fits_register.ensures ∙ c.if-fits_register.false in
+    rw c.in-Set.is (Misfit c.in-Set.reg c.in-Set.bytes c.in-Ok.place found.here found.built wrong)
 
 pub returns-in-Err : goal.returns-in-Err
 returns-in-Err c =

@@ -1,10 +1,15 @@
--- Every task so far has had no turn.
+-- Every task so far has had no turn, and an area of the pool.
 use Rattle.std.proofs.Common.{◌≡◌, ◌-◌, ◌≤◌, vec_len}
-use Rattle.xstate.specs.Engine.{fresh_tasks}
+use Rattle.xstate.specs.Engine.{AreOpened, living}
 use Rattle.xstate.proofs.engine.open_tasks.Given as goal
 
 abbrev pub invariant-each : goal.invariant-each
-invariant-each l = (l.tasks.items ≡ fresh_tasks (vec_len l.tasks)) × (vec_len l.tasks ≤ l.count)
+invariant-each l = record {
+  tasks : AreOpened l.initial.pool.rows l.tasks.items (vec_len l.tasks);
+  out : living l.tasks.items ≡ vec_len l.tasks;
+  many : vec_len l.tasks ≤ l.count;
+  pool : l.pool ≡ record l.initial.pool { small = record { out = vec_len l.tasks; capacity = l.count }; given = vec_len l.tasks };
+}
 
 abbrev pub decreases-each : goal.decreases-each
 decreases-each l = l.count - vec_len l.tasks

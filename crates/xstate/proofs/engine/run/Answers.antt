@@ -1,7 +1,8 @@
-use Rattle.xstate.proofs.WorkLemmas.{whole_at_end}
+-- Where every task has ended the history is whole.
+use Rattle.xstate.proofs.EngineLemmas.{engine_whole}
 use Rattle.xstate.proofs.engine.run.Goals as goal
 
 pub returns : goal.returns
-returns c =
-    let engine = c.loop-task.engine in
-    whole_at_end c.args.script.now engine.bank.registers engine.last engine.tasks.items engine.history c.loop-task.invariant c.in_default.ensures.none
+returns g c =
+    let cpu = c.loop-task.cpu in
+    engine_whole c.args.script.now (g.B.Bank.state cpu.bank) cpu.mark c.loop-task.engine c.loop-task.invariant c.in_default.ensures.none

@@ -1,9 +1,13 @@
-use Rattle.std.proofs.Common.{◌∙◌, ap}
-use Rattle.xstate.specs.Engine.{fresh_tasks}
-use Rattle.xstate.proofs.Opening.{at_opening}
+-- Every task has an area without state.
+use Rattle.std.proofs.Common.{ap}
+use Rattle.xs_pool.specs.Pool.{Pool}
+use Rattle.xstate.proofs.Opening.{engine_opens}
 use Rattle.xstate.proofs.engine.Engine.open.Goals as goal
 
 pub returns : goal.returns
-returns c =
-    let tasks = c.in_ok-tasks.ensures ∙ ap fresh_tasks c.len.ensures in
-    rw (tasks, c.new-2.ensures) (at_opening c.args.script.now c.new.result.registers c.requires)
+returns g c =
+    let script = c.args.script.now in
+    let rows = ap (λ (p : Pool). p.rows) c.in_ok-pool.ensures.opened in
+    let opened = rw (rows, c.len-count.ensures) at c.in_ok-tasks.ensures.tasks in
+    let pool = rw rows at c.in_ok-tasks.ensures.pool in
+    engine_opens script (g.B.Bank.state c.set_up.new.self.bank) (g.B.Bank.state c.args.cpu.now.bank) c.set_up.new.self.mark _ c.requires.built c.set_up.ensures.bank c.set_up.ensures.mark c.new.ensures opened pool

@@ -1,16 +1,23 @@
-use Rattle.xstate.proofs.TurnLemmas.{turn_line, body_found}
-use Rattle.xstate.proofs.BuiltRegisters.{built_line}
+-- A line is a step of the private machine.
+use Rattle.xstate.proofs.BuiltRegisters.{built_line, known_line}
+use Rattle.xstate.proofs.EngineLemmas.{engine_line}
+use Rattle.xstate.proofs.TurnLemmas.{body_found}
 use Rattle.xstate.proofs.engine.Engine.run_line.Goals as goal
 
-pub run-reply-requires-clause-built : goal.run-reply-requires-clause-built
-run-reply-requires-clause-built c =
+pub run_command-reply-requires-clause-known : goal.run_command-reply-requires-clause-known
+run_command-reply-requires-clause-known g c =
+    known_line c.args.script.now c.args.task c.args.place c.index-lines_of-place.result c.requires.valid c.requires.line (rw (← c.lines_of.ensures) c.index-lines_of-place.is)
+
+pub run_command-reply-requires-clause-built : goal.run_command-reply-requires-clause-built
+run_command-reply-requires-clause-built g c =
     built_line c.args.script.now c.args.task c.args.place c.index-lines_of-place.result c.requires.built c.requires.line (rw (← c.lines_of.ensures) c.index-lines_of-place.is)
 
 pub returns-clause-after : goal.returns-clause-after
-returns-clause-after c =
-    let before = c.args.self.now in
+returns-clause-after g c =
     let script = c.args.script.now in
-    let found = body_found script c.args.task c.args.place c.index-lines_of-place.result c.requires.line (rw (← c.lines_of.ensures) c.index-lines_of-place.is) in
-    rw (c.after_line.ensures, c.in_ok-push.ensures.ok)
-    (turn_line script before.bank.registers before.last before.tasks.items before.history c.args.task c.args.place c.args.ran
-    c.requires.turn found.0 c.index-lines_of-place.result found.1 found.2 c.requires.within c.run-reply.result c.run-reply.new.self.registers c.run-reply.ensures)
+    let order = c.index-lines_of-place.result in
+    let found = body_found script c.args.task c.args.place order c.requires.line (rw (← c.lines_of.ensures) c.index-lines_of-place.is) in
+    let known = known_line script c.args.task c.args.place order c.requires.valid c.requires.line (rw (← c.lines_of.ensures) c.index-lines_of-place.is) in
+    rw c.after_line.ensures
+    (engine_line script (g.B.Bank.state c.args.cpu.now.bank) (g.B.Bank.state c.run_command-reply.new.bank) c.args.cpu.now.mark c.args.self.now c.args.task c.args.place c.args.ran c.push.new.self
+    c.requires.turn found.0 order found.1 found.2 c.requires.within c.run_command-reply.result known c.run_command-reply.ensures.runs c.run_command-reply.ensures.ready c.in_ok-push.ensures.ok)

@@ -1,0 +1,33 @@
+-- One processor more.
+use Rattle.std.proofs.Common.{length, refl, sym, ap, ◌∙◌, arith, length-append}
+use Rattle.xs_bank.specs.Bank as banks
+use Rattle.xs_bank.specs.declared.track.TrackBank.{TrackBank}
+use Rattle.xstate.proofs.NewProcessors.{IsNew, more_new}
+use Rattle.xstate.proofs.processors.Goals as goal
+
+pub each-init : goal.each-init
+each-init c = rw c.new-cpus.ensures.items (record { many = refl; each = λ i cpu at. absurd (cc at) })
+
+pub each-preserved : goal.each-preserved
+each-preserved c =
+    let made = c.in_ok-new-2.ensures in
+    let bank = c.in_ok-new.ensures in
+    let new : IsNew (length c.each.cpus.items) c.in_ok-new-2.field-0 = record {
+      number_is = made.number ∙ sym c.each.invariant.many;
+      execs = ap (λ (b : TrackBank). b.execs) made.bank ∙ ap (λ (b : banks.Bank). b.execs) bank;
+      loads = ap (λ (b : TrackBank). b.loads) made.bank ∙ ap (λ (b : banks.Bank). b.loads) bank;
+      saves = ap (λ (b : TrackBank). b.saves) made.bank ∙ ap (λ (b : banks.Bank). b.saves) bank;
+    } in
+    rw c.in_ok-push.ensures.items (record {
+      many = simp length-append (omega (arith, c.each.invariant.many));
+      each = more_new c.each.cpus.items c.in_ok-new-2.field-0 c.each.invariant.each new;
+    })
+
+pub returns-clause-many : goal.returns-clause-many
+returns-clause-many c = omega (arith, c.each.invariant.many, c.each.auto.number-end, c.each-test.false)
+
+pub returns-clause-numbers : goal.returns-clause-numbers
+returns-clause-numbers c = λ i cpu at. (c.each.invariant.each i cpu at).number_is
+
+pub returns-clause-counts : goal.returns-clause-counts
+returns-clause-counts c = λ i cpu at. let new = c.each.invariant.each i cpu at in record { execs = new.execs; loads = new.loads; saves = new.saves }
