@@ -3,18 +3,22 @@
 #![tactic(auto)]
 
 mod bank;
+#[cfg(test)]
+mod bank_tests;
 mod checks;
 mod cpu;
+#[cfg(test)]
+mod fixtures;
 mod initial_area;
 mod instruction;
 mod loading;
 mod plain;
 mod saving;
-#[cfg(test)]
-mod tests;
 mod track;
 mod tracking;
 mod trail;
+#[cfg(test)]
+mod trap_tests;
 
 pub use bank::Bank;
 pub use cpu::Cpu;
