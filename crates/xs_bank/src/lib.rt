@@ -12,13 +12,21 @@ mod fixtures;
 mod initial_area;
 mod instruction;
 mod loading;
+#[cfg(test)]
+mod log;
 mod plain;
+#[cfg(test)]
+mod random;
 mod saving;
 mod track;
 mod tracking;
 mod trail;
 #[cfg(test)]
 mod trap_tests;
+#[cfg(test)]
+mod turn_tests;
+#[cfg(test)]
+mod turns;
 
 pub use bank::Bank;
 pub use cpu::Cpu;
