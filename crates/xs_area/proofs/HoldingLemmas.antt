@@ -9,7 +9,7 @@ use Rattle.xs_base.specs.Sets.{has}
 use Rattle.xs_base.specs.Compact.{is_compacted, place, has_place}
 use Rattle.xs_base.specs.Header.{xstate_bv, xcomp_bv}
 use Rattle.xs_base.specs.Layout.{IsLayout, has_row, row_of, features}
-use Rattle.xs_base.specs.Area.{control_in, ends_inside, has_room}
+use Rattle.xs_base.specs.Area.{HoldsPlaces, control_in, ends_inside, has_room}
 use Rattle.xs_base.proofs.AreaLemmas.{row_of_place, some_file}
 use Rattle.xs_base.proofs.LayoutLemmas.{has_features}
 use Rattle.xs_base.proofs.LayoutLemmas as layouts
@@ -99,3 +99,44 @@ file_room rows area held c named =
     let row : slice_get rows tells.index ≡ Some found.0 = slice_get_read rows (length rows) tells.index found.0 refl tells.within tells.is in
     let inside : ends_inside rows area (Some found.0) ≡ true = le-leb (place rows (xcomp_bv area) found.0 + found.0.size) (length area) (held.places tells.index found.0 row (rw tells.number named)) in
     and_from (has_place rows (xcomp_bv area) c) (ends_inside rows area (row_of rows c)) placed (rw found.1 inside)
+
+-- ---- the places that XCOMP_BV names
+
+-- The rows before i have their places where XCOMP_BV names them, and the cursor stands before row i.
+pub record AreNamedRows (rows : List Row) (area : List ℕ) (i : ℕ) (cursor : Cursor) : Type 0 where
+  pub before : IsBefore rows (xcomp_bv area) i cursor
+  pub each : (j : ℕ) (r : Row) → j < i → slice_get rows j ≡ Some r → has (xcomp_bv area) r.comp.0 ≡ true → place rows (xcomp_bv area) r + r.size ≤ length area
+
+-- before the first row
+pub named_first : (rows : List Row) (area : List ℕ) (names : Features) → names.0 ≡ xcomp_bv area → AreNamedRows rows area 0 (record { names = names; end = 576 })
+named_first rows area names is = record { before = rw (← is) (before_first rows names); each = λ j r lt. absurd (omega arith) }
+
+-- every row
+pub named_all : (rows : List Row) (area : List ℕ) (i : ℕ) (cursor : Cursor) → length rows ≤ i → AreNamedRows rows area i cursor → HoldsPlaces rows area (xcomp_bv area)
+named_all rows area i cursor past at j r row named = let lt = slice_get_within rows j r row in at.each j r (omega arith) row named
+
+module _ (rows : List Row) (table : IsLayout rows) (area : List ℕ) (i : ℕ) (cursor : Cursor) (r : Row) (lt : i < length rows) (is : r ≡ get_or rows i r) (at : AreNamedRows rows area i cursor) (p : ℕ) (placed : p ≡ place_after cursor.names.0 cursor.end r) where
+  -- the cursor's place is the row's
+  named_here : p ≡ place rows (xcomp_bv area) r
+  named_here = placed ∙ before_place rows table (xcomp_bv area) i cursor r lt is at.before
+
+  -- one row more
+  pub named_more : (has (xcomp_bv area) r.comp.0 ≡ true → p + r.size ≤ length area) → AreNamedRows rows area (i + 1) (passed cursor r)
+  named_more held = record {
+    before = before_next rows table (xcomp_bv area) i cursor r lt is at.before;
+    each = λ j s less row named. elim (cases_lt j i) [
+      | inl below ↦ at.each j s below row named
+      | inr from ↦
+          let one : j ≡ i = omega arith in
+          let same : s ≡ r = sym (get_or_from_slice_get rows j s r row) ∙ ap (λ n. get_or rows n r) one ∙ sym is in
+          rw (same, ← named_here) (held (rw same at named))
+    ];
+  }
+
+  -- a row that ends outside the area
+  pub named_missing : has (xcomp_bv area) r.comp.0 ≡ true → length area < p + r.size → HoldsPlaces rows area (xcomp_bv area) → ⊥
+  named_missing named out all =
+      let row : slice_get rows i ≡ Some r = slice_get_read rows (length rows) i r refl lt is in
+      let inside = all i r row named in
+      let is_here = named_here in
+      omega arith

@@ -1,7 +1,7 @@
 //! Whether an area from elsewhere can be read.
 
 ghost use Rattle.std.specs.Prelude.{◌≡◌, ℕ, ◌≤◌, ◌<◌, ◌^◌, ◌↔◌, true, length, IsTrue, bit_and, ◌==◌};
-ghost use Rattle.xs_base.specs.Area.{has_room};
+ghost use Rattle.xs_base.specs.Area.{has_room, HoldsPlaces};
 ghost use Rattle.xs_base.specs.Header as header;
 ghost use Rattle.xs_base.specs.Sets.{has};
 ghost use Rattle.xs_base.specs.Layout.{IsLayout, features};
@@ -27,6 +27,32 @@ pub fn stands(layout: &Layout, area: &Area) -> bool
         return false;
     }
     holds_rows(layout, bytes)
+}
+
+/// Whether the area can be loaded in the compacted format, as far as its length goes: it has at least 576 bytes, and the
+/// bytes of the place of each component of the machine that its XCOMP_BV names (SDM volume 1, 13.4.3).
+pub fn holds_named(layout: &Layout, area: &Area) -> bool
+    ensures { IsTrue result ↔ ((576 ≤ length area.now.bytes.items) × HoldsPlaces layout.now area.now.bytes.items (header.xcomp_bv area.now.bytes.items)) }
+{
+    let bytes = area.bytes.as_slice();
+    bytes.len() >= 576 && holds_named_rows(layout, bytes)
+}
+
+/// Whether the area has the place of each component of the machine that its XCOMP_BV names.
+fn holds_named_rows(layout: &Layout, bytes: &[u8]) -> bool
+    requires { 576 ≤ length bytes.now }
+    ensures { IsTrue result ↔ HoldsPlaces layout.now bytes.now (header.xcomp_bv bytes.now) }
+{
+    let names = Features(xcomp_bv(bytes));
+    let mut cursor = Cursor::new(names);
+    'each: for i in 0..layout.len() {
+        let row = layout.row_at(i);
+        let at = cursor.pass(row);
+        if names.has(row.comp) && at + row.size as usize > bytes.len() {
+            return false;
+        }
+    }
+    true
 }
 
 /// Whether the machine has each component of the set.

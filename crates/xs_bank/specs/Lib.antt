@@ -6,3 +6,4 @@ pub mod Bank
 pub mod Rows
 pub mod Tracking
 pub mod Holds
+pub mod Turn

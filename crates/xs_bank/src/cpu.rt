@@ -1,8 +1,9 @@
 //! A processor: its bank, and what the kernel keeps for it.
 
 ghost use Rattle.std.specs.Prelude.{◌≡◌, ℕ, None, IfOk};
-ghost use Rattle.xs_base.specs.Area.{StandsFor};
+ghost use Rattle.xs_base.specs.Area.{StandsFor, HoldsPlaces};
 ghost use Rattle.xs_base.specs.File.{initial_file};
+ghost use Rattle.xs_base.specs.Header.{xcomp_bv};
 ghost use Rattle.xs_base.specs.KernelArea.{IsLoadable};
 ghost use Rattle.xs_base.specs.Layout.{avx_rows};
 ghost use Rattle.xs_base.specs.declared.class.Class.TheVariants.{Small};
@@ -50,7 +51,7 @@ impl<B: Bank> Cpu<B> {
     }
 
     /// Sets the processor up for a machine: the bank is set up, the mark is none, and the initial area is a Small one in the
-    /// compacted format that stands for the initial file. Takes no memory.
+    /// compacted format that stands for the initial file and has the bytes of each place that it names. Takes no memory.
     pub fn set_up(&mut self, layout: &Layout)
         ensures number { self.new.number ≡ self.old.number }
         ensures layout { self.new.layout ≡ layout.now }
@@ -58,6 +59,7 @@ impl<B: Bank> Cpu<B> {
         ensures mark { self.new.mark ≡ None }
         ensures stands { StandsFor layout.now self.new.initial (initial_file layout.now) }
         ensures loadable { (id : ℕ) → (id ≡ 0 → ⊥) → IsLoadable layout.now Small id self.new.initial }
+        ensures places { HoldsPlaces layout.now self.new.initial (xcomp_bv self.new.initial) }
     {
         self.bank.set_up(layout);
         self.layout = *layout;

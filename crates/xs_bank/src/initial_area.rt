@@ -1,8 +1,9 @@
 //! A processor's area in the initial configuration.
 
 ghost use Rattle.std.specs.Prelude.{◌≡◌, ℕ, length, IfOk};
-ghost use Rattle.xs_base.specs.Area.{StandsFor};
+ghost use Rattle.xs_base.specs.Area.{StandsFor, HoldsPlaces};
 ghost use Rattle.xs_base.specs.File.{initial_file};
+ghost use Rattle.xs_base.specs.Header.{xcomp_bv};
 ghost use Rattle.xs_base.specs.KernelArea.{IsLoadable};
 ghost use Rattle.xs_base.specs.declared.class.Class.TheVariants.{Small};
 
@@ -50,11 +51,15 @@ impl InitialArea {
         &self.area
     }
 
-    /// Makes it a Small area of the machine without state, in the compacted format. But for its number it can be loaded.
+    /// Makes it a Small area of the machine without state, in the compacted format. But for its number it can be loaded, and it
+    /// has the bytes of each place that it names.
     pub fn set_up(&mut self, layout: &Layout)
         ensures stands { StandsFor layout.now self.new (initial_file layout.now) }
         ensures loadable { (id : ℕ) → (id ≡ 0 → ⊥) → IsLoadable layout.now Small id self.new }
+        ensures places { HoldsPlaces layout.now self.new (xcomp_bv self.new) }
     {
+        // The rows pass every test of a table.
+        let _ = layout.len();
         make_initial(layout, Class::Small, &mut self.area.bytes);
     }
 }

@@ -3,18 +3,30 @@
 #![tactic(auto)]
 
 mod bank;
+#[cfg(test)]
+mod bank_tests;
 mod checks;
 mod cpu;
+#[cfg(test)]
+mod fixtures;
 mod initial_area;
 mod instruction;
 mod loading;
-mod plain;
-mod saving;
 #[cfg(test)]
-mod tests;
+mod log;
+mod plain;
+#[cfg(test)]
+mod random;
+mod saving;
 mod track;
 mod tracking;
 mod trail;
+#[cfg(test)]
+mod trap_tests;
+#[cfg(test)]
+mod turn_tests;
+#[cfg(test)]
+mod turns;
 
 pub use bank::Bank;
 pub use cpu::Cpu;

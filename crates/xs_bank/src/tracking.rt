@@ -1,6 +1,6 @@
 //! The area that was loaded last, and what a save may leave out for it.
 
-ghost use Rattle.std.specs.Prelude.{◌≡◌, ℕ, ◌≤◌, ◌<◌, ◌^◌, ◌&&◌, true, false, not, length, Some, []};
+ghost use Rattle.std.specs.Prelude.{◌≡◌, ℕ, ◌≤◌, ◌<◌, ◌^◌, ◌&&◌, ◌==◌, true, false, not, length, Some, []};
 ghost use Rattle.xs_bank.specs.Bank as banks;
 ghost use Rattle.xs_base.specs.Header as header;
 ghost use Rattle.xs_base.specs.Compact.{compacted};
@@ -83,7 +83,8 @@ pub fn to_save_standard(
     changed_of(file.in_use_of(mask), tracked, id, xcomp_bv(area))
 }
 
-/// The same of a save in the compacted format, where an area whose XCOMP_BV changes has nothing that can be left out.
+/// The same of a save in the compacted format, where SSE goes with MXCSR, and an area whose XCOMP_BV changes has nothing that can
+/// be left out.
 pub fn to_save_compacted(
     file: &File,
     mask: Features,
@@ -94,6 +95,7 @@ pub fn to_save_compacted(
     requires { 576 ≤ length area.now }
     ensures within { (c : ℕ) → has result.0 c ≡ true → has mask.0 c ≡ true }
     ensures saved { (c : ℕ) → has result.0 c ≡ true → is_saved file.now c ≡ true }
+    ensures each { (c : ℕ) → has result.0 c ≡ (has mask.0 c && is_saved file.now c && not ((header.xcomp_bv area.now == compacted mask.0) && banks.is_unmodified (shown tracked) id (header.xcomp_bv area.now) c)) }
     ensures left { (c : ℕ) → has mask.0 c ≡ true → is_saved file.now c ≡ true → has result.0 c ≡ false → (banks.is_unmodified (shown tracked) id (header.xcomp_bv area.now) c ≡ true) × (header.xcomp_bv area.now ≡ compacted mask.0) }
 {
     let saved = saved_bits(file, mask);

@@ -1,0 +1,39 @@
+-- What instructions on registers keep, and areas that a bank doesn't track.
+use Rattle.std.proofs.Common.{◌≡◌, ℕ, true, false, List, inl, inr, Option, Some, None, refl, sym, ap, subst, ◌∙◌}
+use Rattle.std.proofs.lemmas.Bool.{false≢true, ne_eqb}
+use Rattle.std.specs.Prelude.{slice_get}
+use Rattle.xs_base.specs.Header.{xcomp_bv}
+use Rattle.xs_base.specs.File.{File}
+use Rattle.xs_bank.specs.Bank.{Bank, Tracked, TracksAtMost, IsReady, IsKept, is_unmodified}
+use Rattle.xs_bank.specs.Turn.{KeepsReady}
+
+-- a bank with the same file that tracks the same area
+pub keeps_same : (old new : Bank) → new.file ≡ old.file → new.tracked ≡ old.tracked → KeepsReady old new
+keeps_same old new file tracked = record {
+  rows = ap (λ (f : File). f.rows) file;
+  ready = λ id mask area ready i r row wanted unmodified.
+      subst (λ (f : File). IsKept f area r) (sym file) (ready i r (subst (λ (f : File). slice_get f.rows i ≡ Some r) file row) wanted (subst (λ (t : Option Tracked). is_unmodified t id (xcomp_bv area) r.comp.0 ≡ true) tracked unmodified));
+}
+
+pub keeps_equal : (old new : Bank) → new ≡ old → KeepsReady old new
+keeps_equal old new same = keeps_same old new (ap (λ (b : Bank). b.file) same) (ap (λ (b : Bank). b.tracked) same)
+
+-- one after the other
+pub keeps_both : {old mid new : Bank} → KeepsReady old mid → KeepsReady mid new → KeepsReady old new
+keeps_both first second = record {
+  rows = second.rows ∙ first.rows;
+  ready = λ id mask area ready. second.ready id mask area (first.ready id mask area ready);
+}
+
+-- a bank that tracks no area, and one that tracks another
+pub ready_none : (bank : Bank) (id mask : ℕ) (area : List ℕ) → bank.tracked ≡ None → IsReady bank id mask area
+ready_none bank id mask area none i r row wanted unmodified = absurd (false≢true (ap (λ t. is_unmodified t id (xcomp_bv area) r.comp.0) (sym none) ∙ unmodified))
+
+pub ready_other : (bank : Bank) (t : Tracked) (id mask : ℕ) (area : List ℕ) → TracksAtMost bank.tracked t → (id ≡ t.id → ⊥) → IsReady bank id mask area
+ready_other bank t id mask area most other i r row wanted unmodified = elim most [
+  | inl none ↦ ready_none bank id mask area none i r row wanted unmodified
+  | inr some ↦ absurd (false≢true (sym off ∙ ap (λ x. is_unmodified x id (xcomp_bv area) r.comp.0) (sym some) ∙ unmodified))
+]
+  where
+    off : is_unmodified (Some t) id (xcomp_bv area) r.comp.0 ≡ false
+    off = rw (ne_eqb t.id id (λ same. other (sym same))) refl
