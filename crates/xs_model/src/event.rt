@@ -112,6 +112,15 @@ impl History {
         }
     }
 
+    /// The history of these events. It takes no memory.
+    pub fn from_vec(events: Vec<Event>) -> History
+        ensures { result ≡ events.items }
+    {
+        History {
+            events: Items::from_vec(events),
+        }
+    }
+
     /// The events, in order.
     pub fn events(&self) -> &[Event]
         ensures { result.now ≡ self.now }

@@ -24,14 +24,17 @@ use Rattle.xs_model.specs.declared.stage.Stage.TheVariants as stages
 use Rattle.xs_model.specs.Machine.{how_of, goes_on, stage_after}
 use Rattle.xs_model.specs.Script.{IsBuilt, IsCommand}
 use Rattle.xs_model.specs.History.{IsWhole}
-use Rattle.xstate.specs.declared.engine.Engine.{Engine}
 use Rattle.xstate.specs.declared.parked.Parked.{Parked}
 use Rattle.xstate.specs.Turns.{SavedTask, task_at, task_with, with_task, body_at, is_last, AfterLine}
-use Rattle.xstate.specs.Engine.{IsSetUp, BankRuns, IsTaskFile, IsTaskArea, has_ended, parked_at, IsParked, AreParked, living, IsPoolOf, IsHeld, IsResting, IsTurning, IsPaused, EngineAfterLine, EngineAfterLines, IsNext, NoneLives}
+use Rattle.xstate.specs.Engine.{EngineState, IsSetUp, BankRuns, IsTaskFile, IsTaskArea, has_ended, parked_at, IsParked, AreParked, living, IsPoolOf, IsHeld, IsResting, IsTurning, IsPaused, EngineAfterLine, EngineAfterLines, IsNext, NoneLives}
 use Rattle.xstate.proofs.BankLemmas.{bank_line}
 use Rattle.xstate.proofs.TaskLemmas.{root_large}
 use Rattle.xstate.proofs.TurnLemmas.{turn_starts, turn_line, turn_ends, turn_lines}
 use Rattle.xstate.proofs.WorkLemmas.{whole_at_end}
+
+-- the state with more events
+pub same_state : (engine next : EngineState) (history : List Event) → next.tasks ≡ engine.tasks → next.pool ≡ engine.pool → next.history ≡ history → record engine { history = history; room = next.room } ≡ next
+same_state engine next history tasks pool is = rw (← tasks, ← pool, ← is) refl
 
 -- ---- tasks between their turns
 
@@ -80,12 +83,12 @@ restored_held rows bank tasks saved t parked lease all here is has holds ready =
 
 -- ---- a Start
 
-pub engine_starts : (script : Script) (bank after : banks.Bank) (mark : Option ℕ) (engine : Engine) (t : ℕ) (how : How) (history : List Event)
-    → IsBuilt script → (rest : IsResting script bank mark engine) → IsNext engine.tasks.items t → how ≡ how_of kinds.Task (is_last mark t)
-    → IsHeld script.layout after (task_at rest.saved t).file engine.tasks.items t → IsSetUp script.layout after
+pub engine_starts : (script : Script) (bank after : banks.Bank) (mark : Option ℕ) (engine : EngineState) (t : ℕ) (how : How) (history : List Event) (room : ℕ)
+    → IsBuilt script → (rest : IsResting script bank mark engine) → IsNext engine.tasks t → how ≡ how_of kinds.Task (is_last mark t)
+    → IsHeld script.layout after (task_at rest.saved t).file engine.tasks t → IsSetUp script.layout after
     → history ≡ engine.history ++ events.Start t 0 how None ∷ []
-    → IsTurning script after (Some t) (record engine { history = history }) t (parked_at engine.tasks.items t).place 0
-engine_starts script bank after mark engine t how history built rest next how_is held machine is =
+    → IsTurning script after (Some t) (record engine { history = history; room = room }) t (parked_at engine.tasks t).place 0
+engine_starts script bank after mark engine t how history room built rest next how_is held machine is =
     let here : t < length rest.saved = omega (arith, next.0, rest.parked.count) in
     let entry = rest.parked.each t next.0 in
     let turn = turn_starts script rest.file mark rest.saved engine.history t how (task_at rest.saved t).file built rest.rest here (sym entry.ended ∙ next.1) how_is refl in
@@ -103,11 +106,11 @@ engine_starts script bank after mark engine t how history built rest next how_is
 
 -- ---- a line
 
-lift_line : (script : Script) (bank after : banks.Bank) (mark : Option ℕ) (engine : Engine) (t place ran : ℕ) (history : List Event)
-    → (turn : IsTurning script bank mark engine t place ran) (file : File) → IsTaskFile script.layout file → IsSetUp script.layout after → IsHeld script.layout after file engine.tasks.items t
+lift_line : (script : Script) (bank after : banks.Bank) (mark : Option ℕ) (engine : EngineState) (t place ran : ℕ) (history : List Event) (room : ℕ)
+    → (turn : IsTurning script bank mark engine t place ran) (file : File) → IsTaskFile script.layout file → IsSetUp script.layout after → IsHeld script.layout after file engine.tasks t
     → (on : Bool) → AfterLine script file mark turn.saved history t (place + 1) ran (if on then stages.Turn 0 (ran + 1) else stages.Ready)
-    → EngineAfterLine script after mark (record engine { history = history }) t (place + 1) ran (if on then stages.Turn 0 (ran + 1) else stages.Ready)
-lift_line script bank after mark engine t place ran history turn file good machine held true next = (
+    → EngineAfterLine script after mark (record engine { history = history; room = room }) t (place + 1) ran (if on then stages.Turn 0 (ran + 1) else stages.Ready)
+lift_line script bank after mark engine t place ran history room turn file good machine held true next = (
   next.0,
   next.1,
   record {
@@ -122,7 +125,7 @@ lift_line script bank after mark engine t place ran history turn file good machi
     lives = turn.lives;
   },
 )
-lift_line script bank after mark engine t place ran history turn file good machine held false next = record {
+lift_line script bank after mark engine t place ran history room turn file good machine held false next = record {
   file = file;
   saved = turn.saved;
   rest = next;
@@ -136,30 +139,30 @@ lift_line script bank after mark engine t place ran history turn file good machi
   here = omega (arith, turn.turn.here, turn.parked.count);
 }
 
-pub engine_line : (script : Script) (bank after : banks.Bank) (mark : Option ℕ) (engine : Engine) (t place ran : ℕ) (history : List Event)
+pub engine_line : (script : Script) (bank after : banks.Bank) (mark : Option ℕ) (engine : EngineState) (t place ran : ℕ) (history : List Event) (room : ℕ)
     → IsTurning script bank mark engine t place ran
     → (lines : Block) (order : Order) → slice_get script.blocks t ≡ Some lines → slice_get lines.body place ≡ Some order → ran < script.quantum
     → (reply : Reply) → IsCommand script.layout order.command → BankRuns script.layout bank order.command reply after
     → ((id m : ℕ) (area : List ℕ) → banks.IsReady bank id m area → banks.IsReady after id m area)
     → history ≡ engine.history ++ events.Local t order.number reply ∷ []
-    → EngineAfterLine script after mark (record engine { history = history }) t (place + 1) ran (stage_after 0 ran script.quantum)
-engine_line script bank after mark engine t place ran history turn lines order known at within reply command runs ready is =
+    → EngineAfterLine script after mark (record engine { history = history; room = room }) t (place + 1) ran (stage_after 0 ran script.quantum)
+engine_line script bank after mark engine t place ran history room turn lines order known at within reply command runs ready is =
     let line = bank_line script.layout bank turn.file order.command reply after turn.machine turn.good turn.held.same command runs in
-    let held : IsHeld script.layout after line.file_is engine.tasks.items t = record {
+    let held : IsHeld script.layout after line.file_is engine.tasks t = record {
       same = line.same;
       ready = λ lease has. ready lease.area.id (class_features script.layout Small) lease.area.bytes.items (turn.held.ready lease has);
     } in
     let next = turn_line script turn.file mark turn.saved engine.history t place ran turn.turn lines order known at within reply line.file_is line.runs in
-    rw is (lift_line script bank after mark engine t place ran (engine.history ++ events.Local t order.number reply ∷ []) turn line.file_is line.good line.machine held (goes_on ran script.quantum) next)
+    rw is (lift_line script bank after mark engine t place ran (engine.history ++ events.Local t order.number reply ∷ []) room turn line.file_is line.good line.machine held (goes_on ran script.quantum) next)
 
 -- ---- an end
 
-pub engine_ends : (script : Script) (bank : banks.Bank) (mark : Option ℕ) (engine : Engine) (t place ran : ℕ) (history : List Event)
+pub engine_ends : (script : Script) (bank : banks.Bank) (mark : Option ℕ) (engine : EngineState) (t place ran : ℕ) (history : List Event) (room : ℕ)
     → (turn : IsTurning script bank mark engine t place ran)
     → (lines : Block) → slice_get script.blocks t ≡ Some lines → place ≡ length lines.body → ran < script.quantum
     → history ≡ engine.history ++ events.End t ∷ []
-    → IsPaused script bank mark (record engine { history = history }) t place true
-engine_ends script bank mark engine t place ran history turn lines known at_end within is = rw is (record {
+    → IsPaused script bank mark (record engine { history = history; room = room }) t place true
+engine_ends script bank mark engine t place ran history room turn lines known at_end within is = rw is (record {
   file = turn.file;
   saved = turn.saved;
   rest = turn_ends script turn.file mark turn.saved engine.history t place ran turn.turn lines known at_end within;
@@ -193,19 +196,19 @@ ended_entry rows place file good = record {
 }
 
 -- What is left to show where the tasks are these.
-module _ (script : Script) (bank after : banks.Bank) (mark : Option ℕ) (engine : Engine) (t place : ℕ) (ended : Bool) (paused : IsPaused script bank mark engine t place ended) (file_is : after.file ≡ bank.file) (armed_is : after.armed ≡ bank.armed) (next : Engine) (history_is : next.history ≡ engine.history) (parked : Parked) (tasks_are : next.tasks.items ≡ set engine.tasks.items t parked) (entry : IsParked script.layout parked (record { file = paused.file; place = place; ended = ended })) (ready : (lease : Lease) → parked.lease ≡ Some lease → banks.IsReady after lease.area.id (class_features script.layout Small) lease.area.bytes.items) where
-  entry_here : parked_at next.tasks.items t ≡ parked
-  entry_here = ap (λ tasks. parked_at tasks t) tasks_are ∙ get_or-set_same engine.tasks.items t parked _ paused.here
+module _ (script : Script) (bank after : banks.Bank) (mark : Option ℕ) (engine : EngineState) (t place : ℕ) (ended : Bool) (paused : IsPaused script bank mark engine t place ended) (file_is : after.file ≡ bank.file) (armed_is : after.armed ≡ bank.armed) (next : EngineState) (history_is : next.history ≡ engine.history) (parked : Parked) (tasks_are : next.tasks ≡ set engine.tasks t parked) (entry : IsParked script.layout parked (record { file = paused.file; place = place; ended = ended })) (ready : (lease : Lease) → parked.lease ≡ Some lease → banks.IsReady after lease.area.id (class_features script.layout Small) lease.area.bytes.items) where
+  entry_here : parked_at next.tasks t ≡ parked
+  entry_here = ap (λ tasks. parked_at tasks t) tasks_are ∙ get_or-set_same engine.tasks t parked _ paused.here
 
   marked : (u : ℕ) → mark ≡ Some u → t ≡ u
   marked u is = cc (sym paused.last_is ∙ is)
 
-  pub saved_rests : IsPoolOf script.layout next.pool next.tasks.items → IsResting script after mark next
+  pub saved_rests : IsPoolOf script.layout next.pool next.tasks → IsResting script after mark next
   saved_rests pool = record {
     file = paused.file;
     saved = with_task paused.saved t paused.file place ended;
     rest = rw history_is paused.rest;
-    parked = rw tasks_are (parked_set script.layout engine.tasks.items paused.saved t parked (record { file = paused.file; place = place; ended = ended }) paused.parked paused.here entry);
+    parked = rw tasks_are (parked_set script.layout engine.tasks paused.saved t parked (record { file = paused.file; place = place; ended = ended }) paused.parked paused.here entry);
     machine = record { rows_are = ap (λ (f : File). f.rows) file_is ∙ paused.machine.rows_are; armed = armed_is ∙ paused.machine.armed };
     held = λ u is. rw (← marked u is) (record {
       same = rw file_is paused.held.same;
@@ -215,12 +218,12 @@ module _ (script : Script) (bank after : banks.Bank) (mark : Option ℕ) (engine
   }
 
 -- the registers were saved, and the task waits for its next turn
-pub engine_parks : (script : Script) (bank after : banks.Bank) (mark : Option ℕ) (engine : Engine) (t place : ℕ) (lease : Lease)
+pub engine_parks : (script : Script) (bank after : banks.Bank) (mark : Option ℕ) (engine : EngineState) (t place : ℕ) (lease : Lease)
     → (paused : IsPaused script bank mark engine t place false)
     → IsTaskArea script.layout lease → StandsFor script.layout lease.area.bytes.items paused.file
     → after.file ≡ bank.file → after.armed ≡ bank.armed
     → banks.IsReady after lease.area.id (class_features script.layout Small) lease.area.bytes.items
-    → (next : Engine) → next.history ≡ engine.history → next.pool ≡ engine.pool → next.tasks.items ≡ set engine.tasks.items t (record { lease = Some lease; place = place })
+    → (next : EngineState) → next.history ≡ engine.history → next.pool ≡ engine.pool → next.tasks ≡ set engine.tasks t (record { lease = Some lease; place = place })
     → IsResting script after mark next
 engine_parks script bank after mark engine t place lease paused area stands file_is armed_is ready next history_is pool_is tasks_are =
     let parked : Parked = record { lease = Some lease; place = place } in
@@ -229,14 +232,14 @@ engine_parks script bank after mark engine t place lease paused area stands file
     (λ other is. let same : lease ≡ other = cc in rw (← same) ready)
     (rw (pool_is, tasks_are) (record {
       rows_are = paused.pool.rows_are;
-      out = omega (arith, paused.pool.out, living_kept engine.tasks.items t parked paused.here paused.lives refl);
+      out = omega (arith, paused.pool.out, living_kept engine.tasks t parked paused.here paused.lives refl);
     }))
 
 -- the registers were saved, and the task has ended
-pub engine_drops : (script : Script) (bank after : banks.Bank) (mark : Option ℕ) (engine : Engine) (t place : ℕ)
+pub engine_drops : (script : Script) (bank after : banks.Bank) (mark : Option ℕ) (engine : EngineState) (t place : ℕ)
     → (paused : IsPaused script bank mark engine t place true)
     → after.file ≡ bank.file → after.armed ≡ bank.armed
-    → (next : Engine) → next.history ≡ engine.history → next.pool.rows ≡ engine.pool.rows → next.pool.small.out + 1 ≡ engine.pool.small.out → next.tasks.items ≡ set engine.tasks.items t (record { lease = None; place = place })
+    → (next : EngineState) → next.history ≡ engine.history → next.pool.rows ≡ engine.pool.rows → next.pool.small.out + 1 ≡ engine.pool.small.out → next.tasks ≡ set engine.tasks t (record { lease = None; place = place })
     → IsResting script after mark next
 engine_drops script bank after mark engine t place paused file_is armed_is next history_is rows_are out_is tasks_are =
     let parked : Parked = record { lease = None; place = place } in
@@ -245,40 +248,44 @@ engine_drops script bank after mark engine t place paused file_is armed_is next 
     (λ other is. absurd (cc is))
     (rw tasks_are (record {
       rows_are = rows_are ∙ paused.pool.rows_are;
-      out = omega (arith, paused.pool.out, out_is, living_ended engine.tasks.items t parked paused.here paused.lives refl);
+      out = omega (arith, paused.pool.out, out_is, living_ended engine.tasks t parked paused.here paused.lives refl);
     }))
 
 -- ---- the whole
 
 -- where every task has ended the history is whole
-pub engine_whole : (script : Script) (bank : banks.Bank) (mark : Option ℕ) (engine : Engine) → IsResting script bank mark engine → NoneLives engine.tasks.items → IsWhole script engine.history
+pub engine_whole : (script : Script) (bank : banks.Bank) (mark : Option ℕ) (engine : EngineState) → IsResting script bank mark engine → NoneLives engine.tasks → IsWhole script engine.history
 engine_whole script bank mark engine rest none =
     whole_at_end script rest.file mark rest.saved engine.history rest.rest (λ t here.
-    let within : t < length engine.tasks.items = omega (arith, rest.parked.count) in
+    let within : t < length engine.tasks = omega (arith, rest.parked.count) in
     sym (rest.parked.each t within).ended ∙ none t within)
 
 -- ---- a turn's place
 
 -- a task's place is within its body
-pub place_within : (script : Script) (bank : banks.Bank) (mark : Option ℕ) (engine : Engine) (t : ℕ) (parked : Parked) → IsResting script bank mark engine → IsNext engine.tasks.items t → parked ≡ parked_at engine.tasks.items t → parked.place ≤ length (body_at script t)
+pub place_within : (script : Script) (bank : banks.Bank) (mark : Option ℕ) (engine : EngineState) (t : ℕ) (parked : Parked) → IsResting script bank mark engine → IsNext engine.tasks t → parked ≡ parked_at engine.tasks t → parked.place ≤ length (body_at script t)
 place_within script bank mark engine t parked rest next is =
-    let lines = turn_lines script (length engine.tasks.items) t (rest.parked.count ∙ rest.rest.known) next.0 in
+    let lines = turn_lines script (length engine.tasks) t (rest.parked.count ∙ rest.rest.known) next.0 in
     let within = rest.rest.places t lines.0 lines.1 in
     let entry = rest.parked.each t next.0 in
     omega (arith, ap (λ (p : Parked). p.place) is, entry.place, within, ap length lines.2)
 
 -- where the lines came to the end of the body, the task ends
-pub engine_finishes : (script : Script) (bank : banks.Bank) (mark : Option ℕ) (engine : Engine) (t from place : ℕ) (over : Bool) (history : List Event) → over ≡ false
+pub engine_finishes : (script : Script) (bank : banks.Bank) (mark : Option ℕ) (engine : EngineState) (t from place : ℕ) (over : Bool) (history : List Event) (room : ℕ) → over ≡ false
     → EngineAfterLines script bank mark engine t from place over → history ≡ engine.history ++ events.End t ∷ []
-    → IsPaused script bank mark (record engine { history = history }) t place true
-engine_finishes script bank mark engine t from place over history is after told =
+    → IsPaused script bank mark (record engine { history = history; room = room }) t place true
+engine_finishes script bank mark engine t from place over history room is after told =
     let open_turn = subst (λ (b : Bool). EngineAfterLines script bank mark engine t from place b) is after in
     let turn = open_turn.1 in
     let lines = turn_lines script (length turn.saved) t turn.turn.known turn.turn.here in
-    engine_ends script bank mark engine t place open_turn.0 history turn lines.0 lines.1 (open_turn.3 ∙ ap length (sym lines.2)) open_turn.2 told
+    engine_ends script bank mark engine t place open_turn.0 history room turn lines.0 lines.1 (open_turn.3 ∙ ap length (sym lines.2)) open_turn.2 told
 
 -- where the quantum is used up, the place has moved on
-pub place_moved : (script : Script) (bank : banks.Bank) (mark : Option ℕ) (engine : Engine) (t from place : ℕ) (over : Bool) → over ≡ true → EngineAfterLines script bank mark engine t from place over → (from < place) × (place ≤ length (body_at script t))
+pub place_moved : (script : Script) (bank : banks.Bank) (mark : Option ℕ) (engine : EngineState) (t from place : ℕ) (over : Bool) → over ≡ true → EngineAfterLines script bank mark engine t from place over → (from < place) × (place ≤ length (body_at script t))
 place_moved script bank mark engine t from place over is after =
     let ended = subst (λ (b : Bool). EngineAfterLines script bank mark engine t from place b) is after in
     (ended.1, ended.2)
+
+-- where it isn't, the place is the end of the body
+pub place_ended : (script : Script) (bank : banks.Bank) (mark : Option ℕ) (engine : EngineState) (t from place : ℕ) (over : Bool) → over ≡ false → EngineAfterLines script bank mark engine t from place over → place ≡ length (body_at script t)
+place_ended script bank mark engine t from place over is after = (subst (λ (b : Bool). EngineAfterLines script bank mark engine t from place b) is after).3

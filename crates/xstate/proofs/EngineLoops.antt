@@ -1,16 +1,16 @@
 -- What the engine's loops keep.
-use Rattle.std.proofs.Common.{◌≡◌, ℕ, ◌<◌, ◌≤◌, List}
+use Rattle.std.proofs.Common.{◌≡◌, ℕ, ◌<◌, ◌+◌, ◌≤◌, length}
 use Rattle.std.specs.Prelude.{Option}
 use Rattle.xs_bank.specs.Bank as banks
 use Rattle.xs_model.specs.declared.script.Script.{Script}
-use Rattle.xstate.specs.declared.engine.Engine.{Engine}
-use Rattle.xstate.specs.declared.parked.Parked.{Parked}
-use Rattle.xstate.specs.Engine.{IsTurning}
+use Rattle.xstate.specs.Engine.{EngineState, IsTurning}
 
 -- The turn is open and below its quantum, and no task between its turns has changed.
-pub record IsRunning (script : Script) (bank : banks.Bank) (mark : Option ℕ) (engine : Engine) (t place ran from end : ℕ) (before : List Parked) : Type 0 where
+pub record IsRunning (script : Script) (bank : banks.Bank) (mark : Option ℕ) (engine : EngineState) (t place ran from end : ℕ) (before : EngineState) : Type 0 where
   pub turn : IsTurning script bank mark engine t place ran
   pub within : ran < script.quantum
   pub after : from ≤ place
   pub inside : place ≤ end
-  pub same : engine.tasks.items ≡ before
+  pub same : engine.tasks ≡ before.tasks
+  pub room : before.room ≤ engine.room
+  pub told : length engine.history + from ≡ length before.history + place

@@ -24,9 +24,8 @@ use Rattle.xs_model.specs.Script.{IsBuilt}
 use Rattle.xstate.specs.Turns.{fresh, fresh_tasks, task_at, block_at_rest, IsAtRest}
 use Rattle.xs_bank.specs.Bank as banks
 use Rattle.xs_pool.specs.Pool.{Pool}
-use Rattle.xstate.specs.declared.engine.Engine.{Engine}
 use Rattle.xstate.specs.declared.parked.Parked.{Parked}
-use Rattle.xstate.specs.Engine.{IsTaskFile, IsTaskArea, AreOpened, AreParked, IsPoolOf, IsResting, has_ended, living}
+use Rattle.xstate.specs.Engine.{EngineState, IsTaskFile, IsTaskArea, AreOpened, AreParked, IsPoolOf, IsResting, has_ended, living}
 use Rattle.xstate.proofs.EngineLemmas.{saved_entry}
 use Rattle.xstate.proofs.SwitchLemmas.{stands_same}
 use Rattle.xstate.proofs.TaskLemmas.{root_fresh}
@@ -122,12 +121,12 @@ unfolding living
 living_none = refl
 
 -- before the first event the engine rests
-pub engine_opens : (script : Script) (bank : banks.Bank) (old : banks.Bank) (mark : Option ℕ) (engine : Engine) → IsBuilt script → bank ≡ banks.set_up old script.layout → mark ≡ None → engine.history ≡ [] → AreOpened script.layout engine.tasks.items (length script.blocks) → IsPoolOf script.layout engine.pool engine.tasks.items → IsResting script bank mark engine
+pub engine_opens : (script : Script) (bank : banks.Bank) (old : banks.Bank) (mark : Option ℕ) (engine : EngineState) → IsBuilt script → bank ≡ banks.set_up old script.layout → mark ≡ None → engine.history ≡ [] → AreOpened script.layout engine.tasks (length script.blocks) → IsPoolOf script.layout engine.pool engine.tasks → IsResting script bank mark engine
 engine_opens script bank old mark engine built set_up none first opened pool = record {
   file = initial_file script.layout;
   saved = fresh_tasks script.layout (length script.blocks);
   rest = rw (none, first) (at_opening script (initial_file script.layout) built);
-  parked = opened_parked script.layout engine.tasks.items (length script.blocks) opened;
+  parked = opened_parked script.layout engine.tasks (length script.blocks) opened;
   machine = rw set_up (record { rows_are = refl; armed = refl });
   held = λ t is. absurd (cc (sym none ∙ is));
   pool = pool;

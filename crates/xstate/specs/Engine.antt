@@ -1,6 +1,6 @@
 -- The engine's own state, and how it stands for a state of the private machine: each task's registers are in its save area,
 -- or in the bank of the one processor.
-use Rattle.std.specs.Prelude.{◌≡◌, ℕ, ◌+◌, ◌-◌, ◌<◌, ◌≤◌, ◌^◌, Bool, true, false, List, [], ◌∷◌, length, slice_index_or, Option, Some, None, ◌⊎◌, if◌then◌else◌}
+use Rattle.std.specs.Prelude.{◌≡◌, ℕ, ◌+◌, ◌-◌, ◌<◌, ◌≤◌, ◌^◌, Bool, true, false, List, [], ◌∷◌, length, slice_index_or, Option, Some, None, ◌⊎◌, if◌then◌else◌, vec_capacity}
 use Rattle.xs_base.specs.declared.class.Class.TheVariants.{Small}
 use Rattle.xs_base.specs.declared.component.Row.{Row}
 use Rattle.xs_base.specs.declared.component.Place.{Place}
@@ -20,6 +20,7 @@ use Rattle.xs_model.specs.declared.script.Command.{Command}
 use Rattle.xs_model.specs.declared.script.Command.TheVariants as commands
 use Rattle.xs_model.specs.declared.script.Block.{Block}
 use Rattle.xs_model.specs.declared.script.Script.{Script}
+use Rattle.xs_model.specs.declared.event.Event.{Event}
 use Rattle.xs_model.specs.declared.event.Reply.{Reply}
 use Rattle.xs_model.specs.declared.event.Reply.TheVariants as replies
 use Rattle.xs_model.specs.declared.stage.Stage.{Stage}
@@ -94,49 +95,69 @@ pub record IsPoolOf (rows : List Row) (pool : Pool) (tasks : List Parked) : Type
 
 -- ---- the engine
 
+-- The engine's state: the tasks between their turns, the pool of their areas, the history so far, and for how many events it has
+-- room.
+pub record EngineState : Type 0 where
+  pub tasks : List Parked
+  pub pool : Pool
+  pub history : List Event
+  pub room : ℕ
+
+abbrev pub state_of : Engine → EngineState
+state_of engine = record { tasks = engine.tasks.items; pool = engine.pool; history = engine.events.items; room = vec_capacity engine.events }
+
+-- So many events were added, and the room has not shrunk.
+pub record HasTold (old new : EngineState) (many : ℕ) : Type 0 where
+  pub events : length new.history ≡ length old.history + many
+  pub room : old.room ≤ new.room
+
+-- There is room for so many events more.
+abbrev pub HasRoom : EngineState → ℕ → Type 0
+HasRoom engine more = length engine.history + more ≤ engine.room
+
 -- The bank holds the file, which is that of block t, and a save into its area may leave out what wasn't changed.
 pub record IsHeld (rows : List Row) (bank : banks.Bank) (file : File) (tasks : List Parked) (t : ℕ) : Type 0 where
   pub same : AreSameButPkru file bank.file
   pub ready : (lease : Lease) → (parked_at tasks t).lease ≡ Some lease → banks.IsReady bank lease.area.id (class_features rows Small) lease.area.bytes.items
 
 -- Between two turns: each task's area stands for its file, and the bank holds that of the block that the mark names.
-pub record IsResting (script : Script) (bank : banks.Bank) (mark : Option ℕ) (engine : Engine) : Type 0 where
+pub record IsResting (script : Script) (bank : banks.Bank) (mark : Option ℕ) (engine : EngineState) : Type 0 where
   pub file : File
   pub saved : List SavedTask
   pub rest : IsAtRest script file mark saved engine.history
-  pub parked : AreParked script.layout engine.tasks.items saved
+  pub parked : AreParked script.layout engine.tasks saved
   pub machine : IsSetUp script.layout bank
-  pub held : (t : ℕ) → mark ≡ Some t → IsHeld script.layout bank file engine.tasks.items t
-  pub pool : IsPoolOf script.layout engine.pool engine.tasks.items
+  pub held : (t : ℕ) → mark ≡ Some t → IsHeld script.layout bank file engine.tasks t
+  pub pool : IsPoolOf script.layout engine.pool engine.tasks
 
 -- In a turn of block t, which has an area: the bank holds its file.
-pub record IsTurning (script : Script) (bank : banks.Bank) (mark : Option ℕ) (engine : Engine) (t place ran : ℕ) : Type 0 where
+pub record IsTurning (script : Script) (bank : banks.Bank) (mark : Option ℕ) (engine : EngineState) (t place ran : ℕ) : Type 0 where
   pub file : File
   pub saved : List SavedTask
   pub turn : IsInTurn script file mark saved engine.history t place ran
-  pub parked : AreParked script.layout engine.tasks.items saved
+  pub parked : AreParked script.layout engine.tasks saved
   pub machine : IsSetUp script.layout bank
-  pub held : IsHeld script.layout bank file engine.tasks.items t
+  pub held : IsHeld script.layout bank file engine.tasks t
   pub good : IsTaskFile script.layout file
-  pub pool : IsPoolOf script.layout engine.pool engine.tasks.items
-  pub lives : has_ended (parked_at engine.tasks.items t).lease ≡ false
+  pub pool : IsPoolOf script.layout engine.pool engine.tasks
+  pub lives : has_ended (parked_at engine.tasks t).lease ≡ false
 
 -- After the events of a turn of block t, before its registers are saved: the history has left the turn.
-pub record IsPaused (script : Script) (bank : banks.Bank) (mark : Option ℕ) (engine : Engine) (t place : ℕ) (ended : Bool) : Type 0 where
+pub record IsPaused (script : Script) (bank : banks.Bank) (mark : Option ℕ) (engine : EngineState) (t place : ℕ) (ended : Bool) : Type 0 where
   pub file : File
   pub saved : List SavedTask
   pub rest : IsAtRest script file mark (with_task saved t file place ended) engine.history
-  pub parked : AreParked script.layout engine.tasks.items saved
+  pub parked : AreParked script.layout engine.tasks saved
   pub machine : IsSetUp script.layout bank
-  pub held : IsHeld script.layout bank file engine.tasks.items t
+  pub held : IsHeld script.layout bank file engine.tasks t
   pub good : IsTaskFile script.layout file
-  pub pool : IsPoolOf script.layout engine.pool engine.tasks.items
-  pub lives : has_ended (parked_at engine.tasks.items t).lease ≡ false
+  pub pool : IsPoolOf script.layout engine.pool engine.tasks
+  pub lives : has_ended (parked_at engine.tasks t).lease ≡ false
   pub last_is : mark ≡ Some t
-  pub here : t < length engine.tasks.items
+  pub here : t < length engine.tasks
 
 -- After a line the turn goes on, or it is over.
-abbrev pub EngineAfterLine : Script → banks.Bank → Option ℕ → Engine → ℕ → ℕ → ℕ → Stage → Type 0
+abbrev pub EngineAfterLine : Script → banks.Bank → Option ℕ → EngineState → ℕ → ℕ → ℕ → Stage → Type 0
 EngineAfterLine script bank mark engine t place ran (stages.Turn cpu more) = (more ≡ ran + 1) × (more < script.quantum) × IsTurning script bank mark engine t place more
 EngineAfterLine script bank mark engine t place ran stages.Ready = IsPaused script bank mark engine t place false
 EngineAfterLine script bank mark engine t place ran stages.Unborn = ⊥
@@ -146,7 +167,7 @@ EngineAfterLine script bank mark engine t place ran stages.Ended = ⊥
 
 -- After the lines of a turn: the quantum is used up and the task is past the place where it began, or it is at the end
 -- of its body with the turn open.
-abbrev pub EngineAfterLines : Script → banks.Bank → Option ℕ → Engine → ℕ → ℕ → ℕ → Bool → Type 0
+abbrev pub EngineAfterLines : Script → banks.Bank → Option ℕ → EngineState → ℕ → ℕ → ℕ → Bool → Type 0
 EngineAfterLines script bank mark engine t from place true =
     IsPaused script bank mark engine t place false × (from < place) × (place ≤ length (body_at script t))
 EngineAfterLines script bank mark engine t from place false =
@@ -185,6 +206,11 @@ NoneLives tasks = (t : ℕ) → t < length tasks → has_ended (parked_at tasks 
 
 abbrev pub work_of : ℕ → Parked → ℕ
 work_of lines task = if has_ended task.lease then 0 else (lines - task.place) + 1
+
+-- the lines of the bodies, and one for each end
+unfoldable pub body_lines : List Block → ℕ
+body_lines [] = 0
+body_lines (block ∷ blocks) = length block.body + 1 + body_lines blocks
 
 abbrev pub work : List Block → List Parked → ℕ
 work [] tasks = 0

@@ -1,12 +1,12 @@
 //! The engine of one processor: it runs the tasks of a script by turns, and keeps their registers apart.
 
-ghost use Rattle.std.specs.Prelude.{◌≡◌, ℕ, ◌+◌, ◌<◌, ◌≤◌, List, false, true, length, vec_len, slice_set, IfOk, OnOk, IfSome, IfNone, Some, None};
+ghost use Rattle.std.specs.Prelude.{◌≡◌, ℕ, ◌+◌, ◌-◌, ◌*◌, ◌<◌, ◌≤◌, [], ◌∷◌, ◌++◌, true, false, length, vec_len, slice_set, IfOk, IfSome, IfNone, Some, None};
 ghost use Rattle.xs_area.specs.declared.area.Lease.{Lease};
 ghost use Rattle.xs_model.specs.Machine.{how_of};
 ghost use Rattle.xs_model.specs.Script.{IsValid, IsBuilt};
 ghost use Rattle.xs_model.specs.History.{IsWhole};
 ghost use Rattle.xstate.specs.Turns.{task_at, body_at, is_last};
-ghost use Rattle.xstate.specs.Engine.{IsSetUp, IsResting, IsTurning, IsPaused, IsHeld, EngineAfterLine, EngineAfterLines, AreOpened, IsPoolOf, parked_at, IsFirst, IsInOrder, IsNext, NoneFrom, NoneLives, work};
+ghost use Rattle.xstate.specs.Engine.{state_of, HasRoom, HasTold, body_lines, IsSetUp, IsResting, IsTurning, IsPaused, IsHeld, EngineAfterLine, EngineAfterLines, AreOpened, IsPoolOf, parked_at, IsFirst, IsInOrder, IsNext, NoneFrom, NoneLives, work};
 
 #[cfg(test)]
 mod tests;
@@ -18,16 +18,16 @@ use std::alloc::{AllocError, Global};
 use xs_area::Class;
 use xs_bank::{Bank, Cpu};
 use xs_base::How;
-use xs_model::{BlockKind, Event, History, Order, Script, Stage};
+use xs_model::{Block, BlockKind, Event, History, Order, Script, Stage};
 use xs_pool::AreaPool;
 
-/// The tasks between their turns, the pool of their areas, and the history so far. Which block's registers the bank holds is
-/// the owner mark of the processor.
+/// The tasks between their turns, the pool of their areas, and the events so far. Which block's registers the bank holds is
+/// the owner mark of the processor. All memory is taken when the engine is opened.
 #[derive(Drop)]
 struct Engine {
     tasks: Vec<Parked>,
     pool: AreaPool,
-    history: History,
+    events: Vec<Event>,
 }
 
 /// Where the lines of a turn came to: the place of the task, and whether the quantum is used up.
@@ -45,10 +45,23 @@ pub fn run<B: Bank>(alloc: Global, script: &Script, cpu: &mut Cpu<B>) -> Result<
 {
     let mut engine = Engine::open(alloc, script, cpu)?;
     while let Some(task) = engine.next_task(cpu.mark) {
-        engine.turn(script, cpu, task)?;
+        engine.turn(script, cpu, task);
     }
-    let Engine { history, .. } = engine;
-    Ok(history)
+    let Engine { events, .. } = engine;
+    Ok(History::from_vec(events))
+}
+
+/// How many events a run of these blocks makes at most: one for each line and one for each end, and a Start before each of
+/// them. None where no memory holds so many.
+fn most_events(blocks: &[Block]) -> Option<usize>
+    ensures { IfSome result (λ most. most ≡ 2 * body_lines blocks.now) }
+{
+    let mut lines: usize = 0;
+    'each: for block in blocks {
+        lines = lines.checked_add(block.body.len())?.checked_add(1)?;
+    }
+    let most = lines.checked_mul(2)?;
+    Some(most)
 }
 
 /// So many tasks that have had no turn, each with a Small area of its own.
@@ -78,16 +91,21 @@ impl Engine {
     fn open<B: Bank>(alloc: Global, script: &Script, cpu: &mut Cpu<B>) -> Result<Engine, AllocError>
         requires valid { IsValid script.now }
         requires built { IsBuilt script.now }
-        ensures { IfOk result (IsResting script.now (B.state cpu.new.bank) cpu.new.mark) }
+        ensures rest { IfOk result (λ engine. IsResting script.now (B.state cpu.new.bank) cpu.new.mark (state_of engine)) }
+        ensures room { IfOk result (λ engine. HasRoom (state_of engine) (2 * work script.now.blocks engine.tasks.items)) }
     {
         let count = script.blocks.len();
         let mut pool = AreaPool::open(alloc, &script.layout, count as u32, script.large)?;
         let tasks = open_tasks(alloc, &mut pool, count)?;
+        let Some(room) = most_events(script.blocks.as_slice()) else {
+            return Err(AllocError);
+        };
+        let events = Vec::with_capacity(alloc, room)?;
         cpu.set_up(&script.layout);
         Ok(Engine {
             tasks,
             pool,
-            history: History::new(alloc),
+            events,
         })
     }
 
@@ -112,10 +130,10 @@ impl Engine {
     /// Gives the bank the task's registers. The restore is left out where the task is the one that the owner mark names,
     /// whose registers the bank still has.
     fn restore<B: Bank>(&self, script: &Script, cpu: &mut Cpu<B>, task: u32) -> How
-        requires rest { IsResting script.now (B.state cpu.old.bank) cpu.old.mark self.now }
+        requires rest { IsResting script.now (B.state cpu.old.bank) cpu.old.mark (state_of self.now) }
         requires next { IsNext self.now.tasks.items task }
         ensures how { result ≡ how_of BlockKind.Task (is_last cpu.old.mark task) }
-        ensures held { (rest : IsResting script.now (B.state cpu.old.bank) cpu.old.mark self.now) → IsHeld script.now.layout (B.state cpu.new.bank) (task_at rest.saved task).file self.now.tasks.items task }
+        ensures held { (rest : IsResting script.now (B.state cpu.old.bank) cpu.old.mark (state_of self.now)) → IsHeld script.now.layout (B.state cpu.new.bank) (task_at rest.saved task).file self.now.tasks.items task }
         ensures machine { IsSetUp script.now.layout (B.state cpu.new.bank) }
         ensures mark { cpu.new.mark ≡ cpu.old.mark }
     {
@@ -130,28 +148,36 @@ impl Engine {
     }
 
     /// Begins a turn: the bank gets the task's registers, and the owner mark is the task.
-    fn start<B: Bank>(
-        &mut self,
-        script: &Script,
-        cpu: &mut Cpu<B>,
-        task: u32,
-    ) -> Result<(), AllocError>
+    fn start<B: Bank>(&mut self, script: &Script, cpu: &mut Cpu<B>, task: u32)
         requires valid { IsValid script.now }
         requires built { IsBuilt script.now }
-        requires rest { IsResting script.now (B.state cpu.old.bank) cpu.old.mark self.old }
+        requires rest { IsResting script.now (B.state cpu.old.bank) cpu.old.mark (state_of self.old) }
         requires next { IsNext self.old.tasks.items task }
-        ensures turn { OnOk result (IsTurning script.now (B.state cpu.new.bank) cpu.new.mark self.new task (parked_at self.old.tasks.items task).place 0) }
+        requires room { HasRoom (state_of self.old) 1 }
+        ensures turn { IsTurning script.now (B.state cpu.new.bank) cpu.new.mark (state_of self.new) task (parked_at self.old.tasks.items task).place 0 }
         ensures tasks { self.new.tasks.items ≡ self.old.tasks.items }
+        ensures told { HasTold (state_of self.old) (state_of self.new) 1 }
     {
         let how = self.restore(script, cpu, task);
         cpu.mark = Some(task);
-        self.history.push(Event::Start {
+        self.tell(Event::Start {
             task,
             cpu: 0,
             how,
             signal: None,
-        })?;
-        Ok(())
+        });
+    }
+
+    /// Adds an event to the history, which has room for it.
+    fn tell(&mut self, event: Event)
+        requires { HasRoom (state_of self.old) 1 }
+        ensures events { self.new.events.items ≡ self.old.events.items ++ event ∷ [] }
+        ensures told { HasTold (state_of self.old) (state_of self.new) 1 }
+        ensures others { self.new ≡ record self.old { events = self.new.events } }
+    {
+        let Ok(()) = self.events.push(event) else {
+            unreachable!()
+        };
     }
 
     /// Runs the line at the task's place, and answers what the block does then.
@@ -162,23 +188,25 @@ impl Engine {
         task: u32,
         place: usize,
         ran: u32,
-    ) -> Result<Stage, AllocError>
+    ) -> Stage
         requires valid { IsValid script.now }
         requires built { IsBuilt script.now }
-        requires turn { IsTurning script.now (B.state cpu.old.bank) cpu.old.mark self.old task place ran }
+        requires turn { IsTurning script.now (B.state cpu.old.bank) cpu.old.mark (state_of self.old) task place ran }
         requires line { place < length (body_at script.now task) }
         requires within { ran < script.now.quantum }
-        ensures after { IfOk result (EngineAfterLine script.now (B.state cpu.new.bank) cpu.new.mark self.new task (place + 1) ran) }
+        requires room { HasRoom (state_of self.old) 1 }
+        ensures after { EngineAfterLine script.now (B.state cpu.new.bank) cpu.new.mark (state_of self.new) task (place + 1) ran result }
         ensures tasks { self.new.tasks.items ≡ self.old.tasks.items }
+        ensures told { HasTold (state_of self.old) (state_of self.new) 1 }
     {
         let order = &lines_of(script, task)[place];
         let reply = run_command(&mut cpu.bank, &script.layout, &order.command);
-        self.history.push(Event::Local {
+        self.tell(Event::Local {
             task,
             line: order.number,
             reply,
-        })?;
-        Ok(Stage::after_line(0, ran, script.quantum))
+        });
+        Stage::after_line(0, ran, script.quantum)
     }
 
     /// Runs the lines of a turn from a place on, until the quantum is used up or the body ends.
@@ -188,37 +216,40 @@ impl Engine {
         cpu: &mut Cpu<B>,
         task: u32,
         from: usize,
-    ) -> Result<Pause, AllocError>
+    ) -> Pause
         requires valid { IsValid script.now }
         requires built { IsBuilt script.now }
-        requires turn { IsTurning script.now (B.state cpu.old.bank) cpu.old.mark self.old task from 0 }
+        requires turn { IsTurning script.now (B.state cpu.old.bank) cpu.old.mark (state_of self.old) task from 0 }
         requires start { from ≤ length (body_at script.now task) }
-        ensures after { IfOk result (λ pause. EngineAfterLines script.now (B.state cpu.new.bank) cpu.new.mark self.new task from pause.place pause.over) }
+        requires room { HasRoom (state_of self.old) (length (body_at script.now task) - from) }
+        ensures after { EngineAfterLines script.now (B.state cpu.new.bank) cpu.new.mark (state_of self.new) task from result.place result.over }
         ensures tasks { self.new.tasks.items ≡ self.old.tasks.items }
+        ensures told { HasTold (state_of self.old) (state_of self.new) (result.place - from) }
     {
         let end = lines_of(script, task).len();
         let mut place = from;
         let mut ran = 0;
         while place < end {
-            match self.run_line(script, cpu, task, place, ran)? {
+            match self.run_line(script, cpu, task, place, ran) {
                 Stage::Turn { ran: more, .. } => ran = more,
                 _ => {
-                    return Ok(Pause {
+                    return Pause {
                         place: place + 1,
                         over: true,
-                    });
+                    };
                 }
             }
             place += 1;
         }
-        Ok(Pause { place, over: false })
+        Pause { place, over: false }
     }
 
     /// Saves the registers of a task whose turn is over, and its place.
     fn park<B: Bank>(&mut self, script: &Script, cpu: &mut Cpu<B>, task: u32, place: usize)
-        requires { IsPaused script.now (B.state cpu.old.bank) cpu.old.mark self.old task place false }
-        ensures rest { IsResting script.now (B.state cpu.new.bank) cpu.new.mark self.new }
+        requires { IsPaused script.now (B.state cpu.old.bank) cpu.old.mark (state_of self.old) task place false }
+        ensures rest { IsResting script.now (B.state cpu.new.bank) cpu.new.mark (state_of self.new) }
         ensures tasks { (lease : Lease) × (self.new.tasks.items ≡ slice_set self.old.tasks.items task (record { lease = Some lease; place = place })) }
+        ensures events { self.new.events ≡ self.old.events }
     {
         let Some(mut lease) = self.tasks[task as usize].lease.take() else {
             unreachable!()
@@ -232,9 +263,10 @@ impl Engine {
 
     /// Saves the registers of a task that has ended, and gives its area back.
     fn end<B: Bank>(&mut self, script: &Script, cpu: &mut Cpu<B>, task: u32, place: usize)
-        requires { IsPaused script.now (B.state cpu.old.bank) cpu.old.mark self.old task place true }
-        ensures rest { IsResting script.now (B.state cpu.new.bank) cpu.new.mark self.new }
+        requires { IsPaused script.now (B.state cpu.old.bank) cpu.old.mark (state_of self.old) task place true }
+        ensures rest { IsResting script.now (B.state cpu.new.bank) cpu.new.mark (state_of self.new) }
         ensures tasks { self.new.tasks.items ≡ slice_set self.old.tasks.items task (record { lease = None; place = place }) }
+        ensures events { self.new.events ≡ self.old.events }
     {
         let Some(mut lease) = self.tasks[task as usize].lease.take() else {
             unreachable!()
@@ -245,29 +277,25 @@ impl Engine {
     }
 
     /// One turn of a task: its Start, its lines, its end where its body has ended, and the save of its registers.
-    fn turn<B: Bank>(
-        &mut self,
-        script: &Script,
-        cpu: &mut Cpu<B>,
-        task: u32,
-    ) -> Result<(), AllocError>
+    fn turn<B: Bank>(&mut self, script: &Script, cpu: &mut Cpu<B>, task: u32)
         requires valid { IsValid script.now }
         requires built { IsBuilt script.now }
-        requires rest { IsResting script.now (B.state cpu.old.bank) cpu.old.mark self.old }
+        requires rest { IsResting script.now (B.state cpu.old.bank) cpu.old.mark (state_of self.old) }
         requires next { IsNext self.old.tasks.items task }
-        ensures rest { OnOk result (IsResting script.now (B.state cpu.new.bank) cpu.new.mark self.new) }
-        ensures progress { OnOk result (work script.now.blocks self.new.tasks.items < work script.now.blocks self.old.tasks.items) }
+        requires room { HasRoom (state_of self.old) (2 * work script.now.blocks self.old.tasks.items) }
+        ensures rest { IsResting script.now (B.state cpu.new.bank) cpu.new.mark (state_of self.new) }
+        ensures progress { work script.now.blocks self.new.tasks.items < work script.now.blocks self.old.tasks.items }
+        ensures room { HasRoom (state_of self.new) (2 * work script.now.blocks self.new.tasks.items) }
     {
         let from = self.tasks[task as usize].place;
-        self.start(script, cpu, task)?;
-        let pause = self.run_lines(script, cpu, task, from)?;
+        self.start(script, cpu, task);
+        let pause = self.run_lines(script, cpu, task, from);
         if pause.over {
             self.park(script, cpu, task, pause.place);
-            return Ok(());
+        } else {
+            self.tell(Event::End { task });
+            self.end(script, cpu, task, pause.place);
         }
-        self.history.push(Event::End { task })?;
-        self.end(script, cpu, task, pause.place);
-        Ok(())
     }
 }
 

@@ -6,6 +6,7 @@ use Rattle.std.proofs.Common.{arith, refl}
 use Rattle.xs_base.specs.declared.class.Class.TheVariants.{Small}
 use Rattle.xs_pool.specs.Pool.{Pool, returned}
 use Rattle.xstate.proofs.EngineLemmas.{entry_area, engine_drops, living_ended}
+use Rattle.xstate.specs.Engine.{state_of}
 use Rattle.xstate.proofs.engine.Engine.end.Goals as goal
 
 pub save-requires-clause-area : goal.save-requires-clause-area
@@ -25,7 +26,7 @@ returns-clause-rest g c =
     let paused = c.requires in
     let some = living_ended c.args.self.now.tasks.items c.args.task (record { lease = None; place = 0 }) c.requires.here c.requires.lives refl in
     let pool : c.give_back.new.self ≡ returned c.args.self.now.pool Small = rw c.save.ensures.area.class at c.give_back.ensures.after in
-    engine_drops c.args.script.now (g.B.Bank.state c.args.cpu.now.bank) (g.B.Bank.state c.save.new.bank) c.args.cpu.now.mark c.args.self.now c.args.task c.args.place
+    engine_drops c.args.script.now (g.B.Bank.state c.args.cpu.now.bank) (g.B.Bank.state c.save.new.bank) c.args.cpu.now.mark (state_of c.args.self.now) c.args.task c.args.place
     paused (ap (λ (b : banks.Bank). b.file) c.save.ensures.bank) (ap (λ (b : banks.Bank). b.armed) c.save.ensures.bank)
     _ refl (ap (λ (p : Pool). p.rows) pool) (let out = ap (λ (p : Pool). p.small.out) pool in omega (arith, out, some, c.requires.pool.out)) (set-set c.args.self.now.tasks.items c.args.task _ _)
 

@@ -3,6 +3,7 @@ use Rattle.std.proofs.Common.{refl, sym, ap, ◌∙◌}
 use Rattle.std.proofs.lemmas.List.{get_or_read, set-set}
 use Rattle.xs_bank.specs.Bank as banks
 use Rattle.xstate.proofs.EngineLemmas.{entry_area, engine_parks}
+use Rattle.xstate.specs.Engine.{state_of}
 use Rattle.xstate.proofs.engine.Engine.park.Goals as goal
 
 pub save-requires-clause-area : goal.save-requires-clause-area
@@ -14,7 +15,7 @@ save-requires-clause-area g c =
 pub returns-clause-rest : goal.returns-clause-rest
 returns-clause-rest g c =
     let paused = c.requires in
-    engine_parks c.args.script.now (g.B.Bank.state c.args.cpu.now.bank) (g.B.Bank.state c.save.new.bank) c.args.cpu.now.mark c.args.self.now c.args.task c.args.place c.save.new.lease
+    engine_parks c.args.script.now (g.B.Bank.state c.args.cpu.now.bank) (g.B.Bank.state c.save.new.bank) c.args.cpu.now.mark (state_of c.args.self.now) c.args.task c.args.place c.save.new.lease
     paused c.save.ensures.area (c.save.ensures.stands paused.file paused.good paused.held.same)
     (ap (λ (b : banks.Bank). b.file) c.save.ensures.bank) (ap (λ (b : banks.Bank). b.armed) c.save.ensures.bank) c.save.ensures.ready
     _ refl refl (set-set c.args.self.now.tasks.items c.args.task _ _)

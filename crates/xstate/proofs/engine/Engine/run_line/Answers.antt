@@ -1,6 +1,10 @@
 -- A line is a step of the private machine.
+use Rattle.std.proofs.Common.{◌+◌, refl, ap, subst}
+use Rattle.xs_model.specs.Machine.{stage_after}
+use Rattle.xstate.specs.declared.engine.Engine.{Engine}
+use Rattle.xstate.specs.Engine.{EngineState, state_of, EngineAfterLine}
 use Rattle.xstate.proofs.BuiltRegisters.{built_line, known_line}
-use Rattle.xstate.proofs.EngineLemmas.{engine_line}
+use Rattle.xstate.proofs.EngineLemmas.{engine_line, same_state}
 use Rattle.xstate.proofs.TurnLemmas.{body_found}
 use Rattle.xstate.proofs.engine.Engine.run_line.Goals as goal
 
@@ -18,6 +22,10 @@ returns-clause-after g c =
     let order = c.index-lines_of-place.result in
     let found = body_found script c.args.task c.args.place order c.requires.line (rw (← c.lines_of.ensures) c.index-lines_of-place.is) in
     let known = known_line script c.args.task c.args.place order c.requires.valid c.requires.line (rw (← c.lines_of.ensures) c.index-lines_of-place.is) in
-    rw c.after_line.ensures
-    (engine_line script (g.B.Bank.state c.args.cpu.now.bank) (g.B.Bank.state c.run_command-reply.new.bank) c.args.cpu.now.mark c.args.self.now c.args.task c.args.place c.args.ran c.push.new.self
-    c.requires.turn found.0 order found.1 found.2 c.requires.within c.run_command-reply.result known c.run_command-reply.ensures.runs c.run_command-reply.ensures.ready c.in_ok-push.ensures.ok)
+    let tasks = ap (λ (e : Engine). e.tasks.items) c.tell.ensures.others in
+    let pool = ap (λ (e : Engine). e.pool) c.tell.ensures.others in
+    let next = state_of c.tell.new.self in
+    let same = same_state (state_of c.args.self.now) next c.tell.new.self.events.items tasks pool refl in
+    rw c.after_line.ensures (subst (λ (e : EngineState). EngineAfterLine script (g.B.Bank.state c.run_command-reply.new.bank) c.args.cpu.now.mark e c.args.task (c.args.place + 1) c.args.ran (stage_after 0 c.args.ran script.quantum)) same
+    (engine_line script (g.B.Bank.state c.args.cpu.now.bank) (g.B.Bank.state c.run_command-reply.new.bank) c.args.cpu.now.mark (state_of c.args.self.now) c.args.task c.args.place c.args.ran c.tell.new.self.events.items next.room
+    c.requires.turn found.0 order found.1 found.2 c.requires.within c.run_command-reply.result known c.run_command-reply.ensures.runs c.run_command-reply.ensures.ready c.tell.ensures.events))
