@@ -1,0 +1,18 @@
+xstate 1
+machine amx
+cpus 1
+quantum 2
+large 0
+task a
+set mxcsr a01f0000
+set zmm16 000102030405060708090a0b0c0d0e0f101112131415161718191a1b1c1d1e1f202122232425262728292a2b2c2d2e2f303132333435363738393a3b3c3d3e3f
+get mxcsr
+get zmm16
+get k1
+end
+task b
+get mxcsr
+get zmm16
+set k1 0102030405060708
+get k1
+end
