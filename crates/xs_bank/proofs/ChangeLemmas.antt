@@ -56,7 +56,7 @@ ready_changed set old new tracked id m area change ready i r row wanted h =
     record {
       present = λ on k small own. ap (λ rs. get_or area (place rs (xcomp_bv area) r + k) 0) change.rows_are ∙ keep.present on k small own ∙ ap (λ l. get_or l k 0) (sym same);
       absent = λ off. same ∙ keep.absent off;
-      control = λ one. change.control (ap (has set) (sym one) ∙ before.1) ∙ keep.control one;
+      control = λ one compact. change.control (ap (has set) (sym one) ∙ before.1) ∙ keep.control one compact;
     }
 
 -- ---- the changes of instructions

@@ -87,7 +87,7 @@ ready_loaded before after mask area control id tracked table h control_is is i r
     record {
       present = λ on. subst (λ rs. StandsAt area (place rs (xcomp_bv area) r) after r.comp.0) (sym h.rows_are) (h.present i r row_before wanted on);
       absent = λ off. h.absent i r row_before wanted off;
-      control = λ one. h.control_is ∙ control_is (ap (has mask) (sym one) ∙ wanted);
+      control = λ one compact. h.control_is ∙ control_is (ap (has mask) (sym one) ∙ wanted);
     }
 
 -- MXCSR that was loaded is the area's

@@ -217,7 +217,7 @@ module _ (file : File) (mask written : ℕ) (before after : List ℕ) (is_file :
   kept_bit r keep names saved = elim (cases_Bool (has (xstate_bv before) r.comp.0)) [
     | inl on ↦ on
     | inr off ↦
-        let control : r.comp.0 ≡ 1 → file.mxcsr ≡ initial_mxcsr = λ one. keep.control one ∙ control_without before (ap is_compacted names ∙ compacted_is mask) (ap (has (xstate_bv before)) (sym one) ∙ off) in
+        let control : r.comp.0 ≡ 1 → file.mxcsr ≡ initial_mxcsr = λ one. let compact = ap is_compacted names ∙ compacted_is mask in keep.control one compact ∙ control_without before compact (ap (has (xstate_bv before)) (sym one) ∙ off) in
         absurd (true≢false (sym saved ∙ unsaved file r.comp.0 (initial_unused file r.comp.0 (keep.absent off)) control))
   ]
 
@@ -247,7 +247,7 @@ module _ (file : File) (mask written : ℕ) (before after : List ℕ) (is_file :
         let saved_r : is_saved file r.comp.0 ≡ true = ap (is_saved file) one ∙ saved in
         let keep = left found.1.index r row (ap (has mask) one ∙ wanted) saved_r (ap (has written) one ∙ off) in
         let bit : has (xstate_bv before) 1 ≡ true = ap (has (xstate_bv before)) (sym one) ∙ kept_bit r keep.0 keep.1 saved_r in
-        control_left file (compacted mask) (has written 1) written before after is_file.layout s.bytes off long ∙ sym (keep.0.control one ∙ control_with before bit)
+        control_left file (compacted mask) (has written 1) written before after is_file.layout s.bytes off long ∙ sym (keep.0.control one (ap is_compacted keep.1 ∙ compacted_is mask) ∙ control_with before bit)
   ])
 
   pub compacted_stands : StandsWithin mask after file

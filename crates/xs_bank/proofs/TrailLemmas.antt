@@ -2,7 +2,7 @@
 use Rattle.std.proofs.Common.{◌≡◌, ℕ, ◌+◌, ◌*◌, ◌/◌, ◌%◌, ◌^◌, ◌<◌, ◌≤◌, List, length, get_or, drop, sym, ap, ◌∙◌, arith}
 use Rattle.std.proofs.Math.Nat.{mod-add-div, add-mul-mod_self_left}
 use Rattle.std.proofs.lemmas.List.{at_drop_more, at_drop_all}
-use Rattle.xs_bank.specs.Trail.{mix, mixed}
+use Rattle.xs_base.specs.Trail.{mix, mixed}
 
 -- a remainder that is added to
 pub mod_first : (a b m : ℕ) → (a % m + b) % m ≡ (a + b) % m

@@ -223,5 +223,5 @@ pub ready_stands : (mask : ℕ) (area : List ℕ) (file : File) → StandsWithin
 ready_stands mask area file stands i r row wanted = record {
   present = λ on. stands.present i r row wanted on;
   absent = λ off. stands.absent i r row wanted off;
-  control = λ one. stands.control (ap (has mask) (sym one) ∙ wanted);
+  control = λ one compact. stands.control (ap (has mask) (sym one) ∙ wanted);
 }

@@ -10,11 +10,11 @@ use Rattle.xs_bank.specs.declared.instruction.Execs.{Execs}
 use Rattle.xs_base.specs.Sets.{has}
 use Rattle.xs_base.specs.Component.{component_numbers, initial_part}
 use Rattle.xs_base.specs.Layout.{has_row, set_of}
-use Rattle.xs_base.specs.Compact.{place, compacted}
+use Rattle.xs_base.specs.Compact.{place, is_compacted, compacted}
 use Rattle.xs_base.specs.File.{File, part, with_part, with_pkru, initial_file, write_place, in_use, is_saved}
 use Rattle.xs_base.specs.Header.{xstate_bv, xcomp_bv}
 use Rattle.xs_base.specs.Area.{StandsAt, control_in}
-use Rattle.xs_bank.specs.Trail.{mixed, read_numbers, write_numbers, release_numbers, counted}
+use Rattle.xs_base.specs.Trail.{mixed, read_numbers, write_numbers, release_numbers, counted}
 use Rattle.xs_bank.specs.Load.{tiles}
 use Rattle.xs_bank.specs.Save.{IsStandardSave, IsCompactedSave}
 
@@ -102,11 +102,12 @@ abbrev pub is_unmodified : Option Tracked → ℕ → ℕ → ℕ → Bool
 is_unmodified None id names c = false
 is_unmodified (Some t) id names c = (t.id == id) && (t.names == names) && not (has t.modified c)
 
--- The row's component stands in the area for the file's: at its place, or initial without its bit.
+-- The row's component stands in the area for the file's: at its place, or initial without its bit. In the compacted format
+-- MXCSR goes with SSE; in the standard format it is of no component, and every save of SSE writes it.
 pub record IsKept (file : File) (area : List ℕ) (r : Row) : Type 0 where
   pub present : has (xstate_bv area) r.comp.0 ≡ true → StandsAt area (place file.rows (xcomp_bv area) r) file r.comp.0
   pub absent : has (xstate_bv area) r.comp.0 ≡ false → part file r.comp.0 ≡ initial_part r.comp.0
-  pub control : r.comp.0 ≡ 1 → file.mxcsr ≡ control_in area
+  pub control : r.comp.0 ≡ 1 → is_compacted (xcomp_bv area) ≡ true → file.mxcsr ≡ control_in area
 
 -- What a save may rely on: each component of the mask that the bank holds for unmodified stands in the area.
 abbrev pub IsReady : Bank → ℕ → ℕ → List ℕ → Type 0

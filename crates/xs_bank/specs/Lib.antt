@@ -1,5 +1,4 @@
 -- The definitions of banks, one file a noun, and what the crate's own loops cite.
-pub mod Trail
 pub mod Load
 pub mod Save
 pub mod Bank

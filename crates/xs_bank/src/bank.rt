@@ -14,7 +14,7 @@ ghost use Rattle.xs_bank.specs.Load as load;
 ghost use Rattle.xs_base.specs.Register.{IsRegister};
 ghost use Rattle.xs_bank.specs.Save as save;
 ghost use Rattle.xs_base.specs.Sets.{has};
-ghost use Rattle.xs_bank.specs.Trail as trail;
+ghost use Rattle.xs_base.specs.Trail as trail;
 
 use crate::instruction::{Execs, Trap};
 use xs_area::Area;

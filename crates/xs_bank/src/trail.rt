@@ -1,7 +1,7 @@
 //! The counts of a bank, and the trail of its instructions.
 
 ghost use Rattle.std.specs.Prelude.{◌≡◌, ◌∷◌};
-ghost use Rattle.xs_bank.specs.Trail as numbers;
+ghost use Rattle.xs_base.specs.Trail as numbers;
 
 use crate::instruction::Execs;
 use xs_base::Place;
@@ -16,7 +16,7 @@ pub const WRITE: u64 = 2;
 const RELEASE: u64 = 3;
 
 /// The instructions with one more on a register: its number, the register's place, and the bytes that it reads or writes.
-#[tactic(auto, unfolding(crate::specs::Trail::mixed))]
+#[tactic(auto, unfolding(xs_base::specs::Trail::mixed))]
 pub fn executed(execs: Execs, kind: u64, place: Place, bytes: &[u8]) -> Execs
     ensures { result ≡ record { count = numbers.counted execs.count; trail = numbers.mixed execs.trail (kind ∷ place.comp.0 ∷ place.offset ∷ bytes.now) } }
 {
@@ -30,7 +30,7 @@ pub fn executed(execs: Execs, kind: u64, place: Place, bytes: &[u8]) -> Execs
 }
 
 /// The instructions with one more TILERELEASE.
-#[tactic(auto, unfolding(crate::specs::Trail::mixed))]
+#[tactic(auto, unfolding(xs_base::specs::Trail::mixed))]
 pub fn released(execs: Execs) -> Execs
     ensures { result ≡ record { count = numbers.counted execs.count; trail = numbers.mixed execs.trail numbers.release_numbers } }
 {

@@ -13,3 +13,4 @@ pub mod HeaderCheck
 pub mod Area
 pub mod KernelArea
 pub mod Task
+pub mod Trail

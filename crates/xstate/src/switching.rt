@@ -8,7 +8,7 @@ ghost use Rattle.xs_base.specs.Task.{PrivateTask};
 ghost use Rattle.xs_base.specs.declared.class.Class.TheVariants as classes;
 ghost use Rattle.xs_bank.specs.Bank.{IsReady};
 ghost use Rattle.xs_bank.specs.Holds.{Holds};
-ghost use Rattle.xs_bank.specs.Trail.{counted};
+ghost use Rattle.xs_base.specs.Trail.{counted};
 ghost use Rattle.xstate.specs.Engine.{IsSetUp, IsTaskArea, IsTaskFile};
 
 use xs_area::{Class, Lease, class_features};

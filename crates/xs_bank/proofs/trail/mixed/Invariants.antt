@@ -1,6 +1,6 @@
 -- The bytes so far are taken up.
 use Rattle.std.proofs.Common.{◌≡◌, drop}
-use Rattle.xs_bank.specs.Trail.{mixed}
+use Rattle.xs_base.specs.Trail.{mixed}
 use Rattle.xs_bank.proofs.trail.mixed.Given as goal
 
 abbrev pub invariant-each : goal.invariant-each
