@@ -2,6 +2,7 @@
 pub mod Trail
 pub mod Load
 pub mod Save
+pub mod Registers
 pub mod Bank
 pub mod Rows
 pub mod Tracking
