@@ -12,6 +12,7 @@ ghost use Rattle.xs_base.specs.KernelArea.{IsLoadable};
 ghost use Rattle.xs_base.specs.Layout.{has_row, standard_size};
 ghost use Rattle.xs_bank.specs.Load as load;
 ghost use Rattle.xs_base.specs.Register.{IsRegister};
+ghost use Rattle.xs_bank.specs.Registers.{AreRegisters};
 ghost use Rattle.xs_bank.specs.Save as save;
 ghost use Rattle.xs_base.specs.Sets.{has};
 ghost use Rattle.xs_base.specs.Trail as trail;
@@ -147,10 +148,12 @@ pub trait Bank: Drop {
     fn execs(&self) -> Execs
         ensures { result ≡ (state self.now).execs };
 
-    /// The loads so far. The count stays at its greatest value.
+    /// The loads so far. The count stays at its greatest value. At every moment the bank has a file of its machine, MXCSR has no
+    /// bit above 15, and TILEDATA is initial while it is armed.
     fn loads(&self) -> u64
         ensures loads { result ≡ (state self.now).loads }
-        ensures file { IsFile (state self.now).file };
+        ensures file { IsFile (state self.now).file }
+        ensures registers { AreRegisters (state self.now).file (state self.now).armed };
 
     /// The saves so far. The count stays at its greatest value.
     fn saves(&self) -> u64

@@ -17,6 +17,7 @@ mod log;
 mod plain;
 #[cfg(test)]
 mod random;
+mod registers;
 mod saving;
 mod track;
 mod tracking;

@@ -6,22 +6,19 @@ ghost use Rattle.xs_base.specs.File.{initial_file};
 ghost use Rattle.xs_base.specs.Layout.{avx_rows};
 
 use crate::bank::Bank;
-use crate::checks::{TILES, read_trap, write_trap};
 use crate::instruction::{Execs, Trap};
-use crate::loading::{disarm, load_compacted, load_standard};
+use crate::registers::Registers;
 use crate::saving::{save_compacted, save_standard};
 use crate::trail::{READ, WRITE, counted, executed, released};
 use std::alloc::{AllocError, Global};
 use xs_area::Area;
-use xs_base::{Comp, Features, Lane, Place};
+use xs_base::{Features, Lane, Place};
 use xs_layout::Layout;
-use xs_regs::File;
 
 /// A bank that writes every component that it is asked to save, and tracks no area.
 #[derive(Drop)]
 pub struct PlainBank {
-    file: File,
-    armed: Features,
+    registers: Registers,
     execs: Execs,
     loads: u64,
     saves: u64,
@@ -34,8 +31,7 @@ impl PlainBank {
         ensures { IfOk result (λ bank. ⟦<PlainBank as Bank>⟧.state bank ≡ record { file = initial_file avx_rows; armed = 0; tracked = None; execs = record { count = 0; trail = 0 }; loads = 0; saves = 0 }) }
     {
         Ok(PlainBank {
-            file: File::initial(alloc, &Layout::avx())?,
-            armed: Features(0),
+            registers: Registers::new(alloc)?,
             execs: Execs { count: 0, trail: 0 },
             loads: 0,
             saves: 0,
@@ -44,79 +40,66 @@ impl PlainBank {
 }
 
 impl Bank for PlainBank {
-    ghost state = { λ b. record { file = b.file; armed = b.armed.0; tracked = None; execs = b.execs; loads = b.loads; saves = b.saves } };
+    ghost state = { λ b. record { file = b.registers.file; armed = b.registers.armed; tracked = None; execs = b.execs; loads = b.loads; saves = b.saves } };
 
     fn set_up(&mut self, layout: &Layout) {
-        self.file.set_up(layout);
-        self.armed = if layout.has_row(Comp(18)) {
-            TILES
-        } else {
-            Features(0)
-        };
+        self.registers.set_up(layout);
     }
 
     fn read(&mut self, place: Place) -> Result<Lane, Trap> {
-        if let Some(trap) = read_trap(self.armed, place) {
-            return Err(trap);
-        }
-        let lane = self.file.read(place);
+        let lane = self.registers.read(place)?;
         self.execs = executed(self.execs, READ, place, lane.as_slice());
         Ok(lane)
     }
 
     fn write(&mut self, place: Place, lane: &Lane) -> Result<(), Trap> {
-        if let Some(trap) = write_trap(self.armed, place) {
-            return Err(trap);
-        }
-        self.file.write(place, lane);
+        self.registers.write(place, lane)?;
         self.execs = executed(self.execs, WRITE, place, lane.as_slice());
         Ok(())
     }
 
     fn tile_release(&mut self) {
-        self.file.reset(Comp(17));
-        self.file.reset(Comp(18));
+        self.registers.release();
         self.execs = released(self.execs);
     }
 
     fn xsave(&mut self, mask: Features, into: &mut [u8]) {
-        save_standard(&self.file, mask, mask, into);
+        save_standard(self.registers.file(), mask, mask, into);
         self.saves = counted(self.saves);
     }
 
     fn xsaveopt(&mut self, mask: Features, area: &mut Area) {
-        save_standard(&self.file, mask, mask, &mut area.bytes);
+        save_standard(self.registers.file(), mask, mask, &mut area.bytes);
         self.saves = counted(self.saves);
     }
 
     fn xsaves(&mut self, mask: Features, area: &mut Area) {
-        save_compacted(&self.file, mask, mask, &mut area.bytes);
+        save_compacted(self.registers.file(), mask, mask, &mut area.bytes);
         self.saves = counted(self.saves);
     }
 
     fn xrstor(&mut self, mask: Features, area: &Area) -> Result<(), Trap> {
-        load_standard(&mut self.file, self.armed, mask, &area.bytes)?;
+        self.registers.load_standard(mask, &area.bytes)?;
         self.loads = counted(self.loads);
         Ok(())
     }
 
     fn xrstors(&mut self, mask: Features, area: &Area) -> Result<(), Trap> {
-        load_compacted(&mut self.file, self.armed, mask, &area.bytes)?;
+        self.registers.load_compacted(mask, &area.bytes)?;
         self.loads = counted(self.loads);
         Ok(())
     }
 
     fn rdpkru(&self) -> u32 {
-        self.file.pkru()
+        self.registers.pkru()
     }
 
     fn wrpkru(&mut self, value: u32) {
-        self.file.set_pkru(value);
+        self.registers.set_pkru(value);
     }
 
     fn set_xfd(&mut self, armed: Features) {
-        disarm(&mut self.file, armed);
-        self.armed = armed;
+        self.registers.arm(armed);
     }
 
     fn execs(&self) -> Execs {
@@ -124,7 +107,7 @@ impl Bank for PlainBank {
     }
 
     fn loads(&self) -> u64 {
-        let _ = self.file.layout();
+        let _ = self.registers.file().layout();
         self.loads
     }
 

@@ -64,9 +64,9 @@ impl Random {
     /// A set of components of the machine `amx`.
     pub fn mask(&mut self) -> Features {
         match self.below(6) {
-            0 | 1 => Features(0x600e7),
-            2 => Features(0x200e7),
-            3 => Features(0x602e7),
+            0 => Features(0x600e7),
+            1 => Features(0x200e7),
+            2 | 3 => Features(0x602e7),
             4 => Features(1 << self.below(19)),
             _ => Features(self.next() & 0x602e7),
         }

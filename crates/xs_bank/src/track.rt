@@ -7,24 +7,21 @@ ghost use Rattle.xs_base.specs.Layout.{avx_rows};
 ghost use Rattle.xs_bank.specs.Tracking.{shown};
 
 use crate::bank::Bank;
-use crate::checks::{TILES, read_trap, write_trap};
 use crate::instruction::{Execs, Trap};
-use crate::loading::{disarm, load_compacted, load_standard};
+use crate::registers::Registers;
 use crate::saving::{save_compacted, save_standard};
 use crate::tracking::{LoadedArea, one, to_save_compacted, to_save_standard, touch, track};
 use crate::trail::{READ, WRITE, counted, executed, released};
 use std::alloc::{AllocError, Global};
 use xs_area::Area;
-use xs_base::{Comp, Features, Lane, Place};
+use xs_base::{Features, Lane, Place};
 use xs_layout::Layout;
-use xs_regs::File;
 
 /// A bank whose `xsaveopt` and `xsaves` leave out components that are initial, and those that weren't changed since the
 /// area was loaded.
 #[derive(Drop)]
 pub struct TrackBank {
-    file: File,
-    armed: Features,
+    registers: Registers,
     tracked: Option<LoadedArea>,
     execs: Execs,
     loads: u64,
@@ -38,8 +35,7 @@ impl TrackBank {
         ensures { IfOk result (λ bank. ⟦<TrackBank as Bank>⟧.state bank ≡ record { file = initial_file avx_rows; armed = 0; tracked = None; execs = record { count = 0; trail = 0 }; loads = 0; saves = 0 }) }
     {
         Ok(TrackBank {
-            file: File::initial(alloc, &Layout::avx())?,
-            armed: Features(0),
+            registers: Registers::new(alloc)?,
             tracked: None,
             execs: Execs { count: 0, trail: 0 },
             loads: 0,
@@ -49,88 +45,87 @@ impl TrackBank {
 }
 
 impl Bank for TrackBank {
-    ghost state = { λ b. record { file = b.file; armed = b.armed.0; tracked = shown b.tracked; execs = b.execs; loads = b.loads; saves = b.saves } };
+    ghost state = { λ b. record { file = b.registers.file; armed = b.registers.armed; tracked = shown b.tracked; execs = b.execs; loads = b.loads; saves = b.saves } };
 
     fn set_up(&mut self, layout: &Layout) {
-        self.file.set_up(layout);
-        self.armed = if layout.has_row(Comp(18)) {
-            TILES
-        } else {
-            Features(0)
-        };
+        self.registers.set_up(layout);
         self.tracked = None;
     }
 
     fn read(&mut self, place: Place) -> Result<Lane, Trap> {
-        if let Some(trap) = read_trap(self.armed, place) {
-            return Err(trap);
-        }
-        let lane = self.file.read(place);
+        let lane = self.registers.read(place)?;
         self.execs = executed(self.execs, READ, place, lane.as_slice());
         Ok(lane)
     }
 
     fn write(&mut self, place: Place, lane: &Lane) -> Result<(), Trap> {
-        if let Some(trap) = write_trap(self.armed, place) {
-            return Err(trap);
-        }
-        self.file.write(place, lane);
+        self.registers.write(place, lane)?;
         self.tracked = touch(self.tracked, one(place.comp));
         self.execs = executed(self.execs, WRITE, place, lane.as_slice());
         Ok(())
     }
 
     fn tile_release(&mut self) {
-        self.file.reset(Comp(17));
-        self.file.reset(Comp(18));
+        self.registers.release();
         self.tracked = touch(self.tracked, Features(0x60000));
         self.execs = released(self.execs);
     }
 
     fn xsave(&mut self, mask: Features, into: &mut [u8]) {
-        save_standard(&self.file, mask, mask, into);
+        save_standard(self.registers.file(), mask, mask, into);
         self.saves = counted(self.saves);
     }
 
     fn xsaveopt(&mut self, mask: Features, area: &mut Area) {
-        let written = to_save_standard(&self.file, mask, self.tracked, area.id, &area.bytes);
-        save_standard(&self.file, mask, written, &mut area.bytes);
+        let written = to_save_standard(
+            self.registers.file(),
+            mask,
+            self.tracked,
+            area.id,
+            &area.bytes,
+        );
+        save_standard(self.registers.file(), mask, written, &mut area.bytes);
         self.saves = counted(self.saves);
     }
 
     fn xsaves(&mut self, mask: Features, area: &mut Area) {
-        let written = to_save_compacted(&self.file, mask, self.tracked, area.id, &area.bytes);
-        save_compacted(&self.file, mask, written, &mut area.bytes);
+        let written = to_save_compacted(
+            self.registers.file(),
+            mask,
+            self.tracked,
+            area.id,
+            &area.bytes,
+        );
+        save_compacted(self.registers.file(), mask, written, &mut area.bytes);
         self.saves = counted(self.saves);
     }
 
     fn xrstor(&mut self, mask: Features, area: &Area) -> Result<(), Trap> {
-        load_standard(&mut self.file, self.armed, mask, &area.bytes)?;
-        self.tracked = track(self.file.layout(), area.id, mask, &area.bytes);
+        self.registers.load_standard(mask, &area.bytes)?;
+        self.tracked = track(self.registers.file().layout(), area.id, mask, &area.bytes);
         self.loads = counted(self.loads);
         Ok(())
     }
 
     fn xrstors(&mut self, mask: Features, area: &Area) -> Result<(), Trap> {
-        load_compacted(&mut self.file, self.armed, mask, &area.bytes)?;
-        self.tracked = track(self.file.layout(), area.id, mask, &area.bytes);
+        self.registers.load_compacted(mask, &area.bytes)?;
+        self.tracked = track(self.registers.file().layout(), area.id, mask, &area.bytes);
         self.loads = counted(self.loads);
         Ok(())
     }
 
     fn rdpkru(&self) -> u32 {
-        self.file.pkru()
+        self.registers.pkru()
     }
 
     fn wrpkru(&mut self, value: u32) {
-        self.file.set_pkru(value);
+        self.registers.set_pkru(value);
         self.tracked = touch(self.tracked, Features::PKRU);
     }
 
     fn set_xfd(&mut self, armed: Features) {
-        disarm(&mut self.file, armed);
+        self.registers.arm(armed);
         self.tracked = touch(self.tracked, armed);
-        self.armed = armed;
     }
 
     fn execs(&self) -> Execs {
@@ -138,7 +133,7 @@ impl Bank for TrackBank {
     }
 
     fn loads(&self) -> u64 {
-        let _ = self.file.layout();
+        let _ = self.registers.file().layout();
         self.loads
     }
 

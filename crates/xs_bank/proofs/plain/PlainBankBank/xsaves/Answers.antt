@@ -7,12 +7,12 @@ use Rattle.xs_bank.proofs.plain.PlainBankBank.xsaves.Goals as goal
 pub returns-clause-whole : goal.returns-clause-whole
 returns-clause-whole c = λ sse outside.
     let len = c.save_compacted.ensures.saved.bytes.len ∙ c.deref_mut.ensures.len in
-    let within = c.save_compacted.ensures.stands (λ i r row wanted saved off. absurd (true≢false (sym wanted ∙ off))) in
-    rw (with_items_is c.args.area.now.bytes c.save_compacted.new.into len) (c.save_compacted.ensures.whole within sse outside)
+    let within = (rw (c.file.ensures.file) at c.save_compacted.ensures.stands) (λ i r row wanted saved off. absurd (true≢false (sym wanted ∙ off))) in
+    rw (with_items_is c.args.area.now.bytes c.save_compacted.new.into len) ((rw (c.file.ensures.file) at c.save_compacted.ensures.whole) within sse outside)
 
 pub returns-clause-loadable : goal.returns-clause-loadable
 returns-clause-loadable c = λ class save.
     let len = c.save_compacted.ensures.saved.bytes.len ∙ c.deref_mut.ensures.len in
-    let within = c.save_compacted.ensures.stands (λ i r row wanted saved off. absurd (true≢false (sym wanted ∙ off))) in
-    let loadable = rw (c.deref_mut.ensures.value) at c.save_compacted.ensures.loadable in
+    let within = (rw (c.file.ensures.file) at c.save_compacted.ensures.stands) (λ i r row wanted saved off. absurd (true≢false (sym wanted ∙ off))) in
+    let loadable = rw (c.file.ensures.file, c.deref_mut.ensures.value) at c.save_compacted.ensures.loadable in
     rw (with_items_is c.args.area.now.bytes c.save_compacted.new.into len) (loadable class c.args.area.now.id save within)

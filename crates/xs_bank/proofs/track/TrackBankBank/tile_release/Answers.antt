@@ -5,4 +5,4 @@ use Rattle.xs_bank.proofs.track.TrackBankBank.tile_release.Goals as goal
 
 pub returns-clause-ready : goal.returns-clause-ready
 returns-clause-ready c = λ id m area ready.
-    rw (c.touch-self.ensures, c.reset-2.ensures.written, c.reset.ensures.written) (ready_changed 0x60000 c.args.self.now.file _ (shown c.args.self.now.tracked) id m area (change_released c.args.self.now.file) ready)
+    rw (c.touch-self.ensures, c.release.ensures) (ready_changed 0x60000 c.args.self.now.registers.file _ (shown c.args.self.now.tracked) id m area (change_released c.args.self.now.registers.file) ready)

@@ -8,4 +8,4 @@ use Rattle.xs_bank.proofs.track.TrackBankBank.wrpkru.Goals as goal
 
 pub returns-clause-ready : goal.returns-clause-ready
 returns-clause-ready c = λ id m area ready.
-    rw (c.touch-self.ensures, c.set_pkru.ensures) (ready_changed 0x200 c.args.self.now.file _ (shown c.args.self.now.tracked) id m area (change_part c.args.self.now.file 9 (to_le_bytes w32 c.args.value ++ zeros 4) 0x200 refl) ready)
+    rw (c.touch-self.ensures, c.set_pkru.ensures) (ready_changed 0x200 c.args.self.now.registers.file _ (shown c.args.self.now.tracked) id m area (change_part c.args.self.now.registers.file 9 (to_le_bytes w32 c.args.value ++ zeros 4) 0x200 refl) ready)

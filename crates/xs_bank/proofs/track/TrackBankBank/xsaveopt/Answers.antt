@@ -9,7 +9,7 @@ use Rattle.xs_bank.proofs.track.TrackBankBank.xsaveopt.Goals as goal
 
 pub to_save_standard-written-requires : goal.to_save_standard-written-requires
 to_save_standard-written-requires c =
-    let low = end_low (has c.args.mask.0) c.args.self.now.file.rows in
+    let low = end_low (has c.args.mask.0) c.args.self.now.registers.file.rows in
     omega (arith, ap length c.deref.ensures.value)
 
 pub returns-clause-area : goal.returns-clause-area
@@ -18,15 +18,15 @@ returns-clause-area c =
     rw (with_items_is c.args.area.now.bytes c.save_standard.new.into len) (record {
       written = c.to_save_standard-written.result.0;
       within = c.to_save_standard-written.ensures.within;
-      left = rw (c.deref.ensures.value) at c.to_save_standard-written.ensures.left;
-      saved = rw (c.deref_mut.ensures.value) at c.save_standard.ensures.saved;
+      left = rw (c.file.ensures.file, c.deref.ensures.value) at c.to_save_standard-written.ensures.left;
+      saved = rw (c.file-2.ensures.file, c.deref_mut.ensures.value) at c.save_standard.ensures.saved;
     })
 
 -- what is left out stands in the area
-stands_is : (c : goal.After-self-1) → StandsWithin c.args.mask.0 c.save_standard.new.into c.args.self.now.file
+stands_is : (c : goal.After-self-1) → StandsWithin c.args.mask.0 c.save_standard.new.into c.args.self.now.registers.file
 stands_is c =
-    let left = rw (c.deref.ensures.value) at c.to_save_standard-written.ensures.left in
-    let stands = rw (c.deref_mut.ensures.value) at c.save_standard.ensures.stands in
+    let left = rw (c.file.ensures.file, c.deref.ensures.value) at c.to_save_standard-written.ensures.left in
+    let stands = rw (c.file-2.ensures.file, c.deref_mut.ensures.value) at c.save_standard.ensures.stands in
     stands c.requires.standard (λ i r row wanted used off. c.requires.ready i r row wanted (left r.comp.0 wanted used off))
 
 pub returns-clause-stands : goal.returns-clause-stands
@@ -37,4 +37,4 @@ returns-clause-stands c =
 pub returns-clause-ready : goal.returns-clause-ready
 returns-clause-ready c = λ i r row wanted unmodified.
     let len = c.save_standard.ensures.saved.bytes.len ∙ c.deref_mut.ensures.len in
-    rw (with_items_is c.args.area.now.bytes c.save_standard.new.into len) (ready_stands c.args.mask.0 c.save_standard.new.into c.args.self.now.file (stands_is c) i r row wanted)
+    rw (with_items_is c.args.area.now.bytes c.save_standard.new.into len) (ready_stands c.args.mask.0 c.save_standard.new.into c.args.self.now.registers.file (stands_is c) i r row wanted)

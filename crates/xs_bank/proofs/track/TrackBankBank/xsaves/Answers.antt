@@ -8,7 +8,7 @@ use Rattle.xs_bank.proofs.track.TrackBankBank.xsaves.Goals as goal
 
 pub to_save_compacted-written-requires : goal.to_save_compacted-written-requires
 to_save_compacted-written-requires c =
-    let low = compact_size_low c.args.self.now.file.rows c.args.mask.0 in
+    let low = compact_size_low c.args.self.now.registers.file.rows c.args.mask.0 in
     omega (arith, ap length c.deref.ensures.value)
 
 pub returns-clause-area : goal.returns-clause-area
@@ -17,15 +17,15 @@ returns-clause-area c =
     rw (with_items_is c.args.area.now.bytes c.save_compacted.new.into len) (record {
       written = c.to_save_compacted-written.result.0;
       within = c.to_save_compacted-written.ensures.within;
-      left = rw (c.deref.ensures.value) at c.to_save_compacted-written.ensures.left;
-      saved = rw (c.deref_mut.ensures.value) at c.save_compacted.ensures.saved;
+      left = rw (c.file.ensures.file, c.deref.ensures.value) at c.to_save_compacted-written.ensures.left;
+      saved = rw (c.file-2.ensures.file, c.deref_mut.ensures.value) at c.save_compacted.ensures.saved;
     })
 
 -- what is left out stands in the area
-stands_is : (c : goal.After-self-1) → StandsWithin c.args.mask.0 c.save_compacted.new.into c.args.self.now.file
+stands_is : (c : goal.After-self-1) → StandsWithin c.args.mask.0 c.save_compacted.new.into c.args.self.now.registers.file
 stands_is c =
-    let left = rw (c.deref.ensures.value) at c.to_save_compacted-written.ensures.left in
-    let stands = rw (c.deref_mut.ensures.value) at c.save_compacted.ensures.stands in
+    let left = rw (c.file.ensures.file, c.deref.ensures.value) at c.to_save_compacted-written.ensures.left in
+    let stands = rw (c.file-2.ensures.file, c.deref_mut.ensures.value) at c.save_compacted.ensures.stands in
     stands (λ i r row wanted saved off. let why = left r.comp.0 wanted saved off in (c.requires.ready i r row wanted why.0, why.1))
 
 pub returns-clause-stands : goal.returns-clause-stands
@@ -36,15 +36,15 @@ returns-clause-stands c =
 pub returns-clause-whole : goal.returns-clause-whole
 returns-clause-whole c = λ sse outside.
     let len = c.save_compacted.ensures.saved.bytes.len ∙ c.deref_mut.ensures.len in
-    rw (with_items_is c.args.area.now.bytes c.save_compacted.new.into len) (c.save_compacted.ensures.whole (stands_is c) sse outside)
+    rw (with_items_is c.args.area.now.bytes c.save_compacted.new.into len) ((rw (c.file-2.ensures.file) at c.save_compacted.ensures.whole) (stands_is c) sse outside)
 
 pub returns-clause-loadable : goal.returns-clause-loadable
 returns-clause-loadable c = λ class save.
     let len = c.save_compacted.ensures.saved.bytes.len ∙ c.deref_mut.ensures.len in
-    let loadable = rw (c.deref_mut.ensures.value) at c.save_compacted.ensures.loadable in
+    let loadable = rw (c.file-2.ensures.file, c.deref_mut.ensures.value) at c.save_compacted.ensures.loadable in
     rw (with_items_is c.args.area.now.bytes c.save_compacted.new.into len) (loadable class c.args.area.now.id save (stands_is c))
 
 pub returns-clause-ready : goal.returns-clause-ready
 returns-clause-ready c = λ i r row wanted unmodified.
     let len = c.save_compacted.ensures.saved.bytes.len ∙ c.deref_mut.ensures.len in
-    rw (with_items_is c.args.area.now.bytes c.save_compacted.new.into len) (ready_stands c.args.mask.0 c.save_compacted.new.into c.args.self.now.file (stands_is c) i r row wanted)
+    rw (with_items_is c.args.area.now.bytes c.save_compacted.new.into len) (ready_stands c.args.mask.0 c.save_compacted.new.into c.args.self.now.registers.file (stands_is c) i r row wanted)

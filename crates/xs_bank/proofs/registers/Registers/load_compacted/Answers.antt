@@ -1,0 +1,16 @@
+-- A load that isn't refused takes a right MXCSR, and no TILEDATA while it is armed.
+use Rattle.xs_bank.specs.Load.{compacted_control}
+use Rattle.xs_bank.proofs.RegisterLemmas.{loaded_registers, compacted_goes}
+use Rattle.xs_bank.proofs.registers.Registers.load_compacted.Goals as goal
+
+pub returns-in_err-load_compacted-clause-accepted : goal.returns-in_err-load_compacted-clause-accepted
+returns-in_err-load_compacted-clause-accepted c = rw (← c.self.view_is) (λ class id loadable format tiles. absurd (c.in_err-load_compacted.ensures.accepted class id loadable format tiles))
+
+pub invariant_of-self-2 : goal.invariant_of-self-2
+invariant_of-self-2 c =
+    let file = c.self.inside.file in
+    let armed = c.self.inside.armed.0 in
+    let mask = c.args.mask.0 in
+    let area = c.args.area.now in
+    let goes = compacted_goes file.rows armed mask area file.mxcsr c.in_ok-load_compacted.ensures.trap c.self.invariant.control in
+    loaded_registers mask area (compacted_control mask area file.mxcsr) file c.load_compacted.new.file armed c.in_ok-load_compacted.ensures.loaded goes.0 goes.1 c.self.invariant

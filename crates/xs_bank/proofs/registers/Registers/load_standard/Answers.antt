@@ -1,0 +1,16 @@
+-- A load that isn't refused takes a right MXCSR, and no TILEDATA while it is armed.
+use Rattle.xs_bank.specs.Load.{standard_control}
+use Rattle.xs_bank.proofs.RegisterLemmas.{loaded_registers, standard_goes}
+use Rattle.xs_bank.proofs.registers.Registers.load_standard.Goals as goal
+
+pub returns-in_err-load_standard-clause-accepted : goal.returns-in_err-load_standard-clause-accepted
+returns-in_err-load_standard-clause-accepted c = rw (← c.self.view_is) (λ class id loadable format tiles. absurd (c.in_err-load_standard.ensures.accepted class id loadable format tiles))
+
+pub invariant_of-self-2 : goal.invariant_of-self-2
+invariant_of-self-2 c =
+    let file = c.self.inside.file in
+    let armed = c.self.inside.armed.0 in
+    let mask = c.args.mask.0 in
+    let area = c.args.area.now in
+    let goes = standard_goes file.rows armed mask area file.mxcsr c.in_ok-load_standard.ensures.trap c.self.invariant.control in
+    loaded_registers mask area (standard_control mask area file.mxcsr) file c.load_standard.new.file armed c.in_ok-load_standard.ensures.loaded goes.0 goes.1 c.self.invariant

@@ -1,0 +1,181 @@
+//! The registers of any bank, and what XFD is armed for.
+
+ghost use Rattle.std.specs.Prelude.{◌≡◌, ℕ, ◌+◌, ◌<◌, ◌≤◌, ◌&&◌, ◌||◌, ◌==◌, ◌⊎◌, true, false, List, length, take, slice_index, slice_get, Some, None, IfOk, IfErr, MatchResult, if◌then◌else◌};
+ghost use Rattle.std.specs.Int.{from_le_bytes, w32};
+ghost use Rattle.xs_base.specs.declared.class.Class.{Class};
+ghost use Rattle.xs_base.specs.declared.component.Row.{Row};
+ghost use Rattle.xs_base.specs.Area.{HoldsPlaces};
+ghost use Rattle.xs_base.specs.Compact.{is_compacted};
+ghost use Rattle.xs_base.specs.Component.{initial_part};
+ghost use Rattle.xs_base.specs.File.{initial_file, part, with_part, with_pkru, read_place, write_place, is_mxcsr};
+ghost use Rattle.xs_base.specs.Header as header;
+ghost use Rattle.xs_base.specs.KernelArea.{IsLoadable};
+ghost use Rattle.xs_base.specs.Layout.{avx_rows, has_row};
+ghost use Rattle.xs_base.specs.Register.{IsRegister};
+ghost use Rattle.xs_base.specs.Sets.{has};
+ghost use Rattle.xs_bank.specs.Bank.{disarmed_file};
+ghost use Rattle.xs_bank.specs.Load as load;
+ghost use Rattle.xs_bank.specs.Load.{IsLoaded, IsWholeLoad};
+ghost use Rattle.xs_bank.specs.Registers.{AreRegisters};
+ghost use Rattle.xs_bank.specs.declared.instruction.Trap.TheVariants.{Nm};
+
+use crate::checks::{TILES, read_trap, write_trap};
+use crate::instruction::Trap;
+use crate::loading::{disarm, load_compacted, load_standard};
+use std::alloc::{AllocError, Global};
+use std::marker::Model;
+use xs_base::{Comp, Features, Lane, Place};
+use xs_layout::Layout;
+use xs_regs::File;
+
+/// The registers of a bank, and the components that XFD is armed for. At every moment MXCSR has no bit above 15, and TILEDATA
+/// is initial while it is armed.
+#[derive(Drop)]
+pub struct Registers {
+    file: File,
+    armed: Features,
+}
+
+impl Model for Registers {
+    ghost use Rattle.xs_bank.specs.Registers as registers;
+
+    ghost Value = { registers.Registers };
+
+    ghost view = { λ r. record { file = r.file; armed = r.armed.0 } };
+
+    ghost invariant = { λ r. registers.AreRegisters r.file r.armed.0 };
+}
+
+impl Registers {
+    /// The registers of the machine with x87, SSE and AVX alone, every one initial and nothing armed. Fails for want of memory
+    /// alone; no other call takes memory.
+    pub fn new(alloc: Global) -> Result<Registers, AllocError>
+        ensures { IfOk result (λ r. r ≡ record { file = initial_file avx_rows; armed = 0 }) }
+    {
+        Ok(Registers {
+            file: File::initial(alloc, &Layout::avx())?,
+            armed: Features(0),
+        })
+    }
+
+    /// The registers.
+    pub fn file(&self) -> &File
+        ensures file { result.now ≡ self.now.file }
+        ensures registers { AreRegisters self.now.file self.now.armed }
+    {
+        &self.file
+    }
+
+    /// Makes every register initial, on another machine, and arms TILEDATA where that has it.
+    pub fn set_up(&mut self, layout: &Layout)
+        ensures { self.new ≡ record { file = initial_file layout.now; armed = if has_row layout.now 18 then load.tiles else 0 } }
+    {
+        self.file.set_up(layout);
+        self.armed = if layout.has_row(Comp(18)) {
+            TILES
+        } else {
+            Features(0)
+        };
+    }
+
+    /// The bytes of a register of the machine, or #NM (SDM volume 1, 13.14).
+    pub fn read(&self, place: Place) -> Result<Lane, Trap>
+        requires { (name : List ℕ) × IsRegister self.now.file.rows name place }
+        ensures trap { let trap = if has self.now.armed 18 && (place.comp.0 == 18) then Some (Nm (record { 0 = load.tiles })) else None in MatchResult result (λ _. trap ≡ None) (λ t. trap ≡ Some t) }
+        ensures lane { IfOk result (λ lane. lane ≡ read_place self.now.file place) }
+    {
+        if let Some(trap) = read_trap(self.armed, place) {
+            return Err(trap);
+        }
+        Ok(self.file.read(place))
+    }
+
+    /// Writes a register of the machine, whose every byte the lane has, or answers #NM. Bytes 2 and 3 of MXCSR are zero.
+    pub fn write(&mut self, place: Place, lane: &Lane) -> Result<(), Trap>
+        requires register { (name : List ℕ) × IsRegister self.old.file.rows name place }
+        requires len { length lane.now ≡ place.len }
+        requires control { is_mxcsr place ≡ true → (slice_index lane.now 2 ≡ 0) × (slice_index lane.now 3 ≡ 0) }
+        ensures trap { let trap = if has self.old.armed 18 && ((place.comp.0 == 17) || (place.comp.0 == 18)) then Some (Nm (record { 0 = load.tiles })) else None in MatchResult result (λ _. trap ≡ None) (λ t. trap ≡ Some t) }
+        ensures written { IfOk result (λ _. self.new ≡ record self.old { file = write_place self.old.file place lane.now }) }
+        ensures kept { IfErr result (λ _. self.new ≡ self.old) }
+    {
+        if let Some(trap) = write_trap(self.armed, place) {
+            return Err(trap);
+        }
+        are_bytes(lane.as_slice());
+        self.file.write(place, lane);
+        Ok(())
+    }
+
+    /// Makes TILECFG and TILEDATA initial (SDM volume 2, TILERELEASE).
+    pub fn release(&mut self)
+        ensures { self.new ≡ record self.old { file = with_part (with_part self.old.file 17 (initial_part 17)) 18 (initial_part 18) } }
+    {
+        self.file.reset(Comp(17));
+        self.file.reset(Comp(18));
+    }
+
+    /// Loads the components of the mask from an area in the standard format, or answers the first reason against it (SDM
+    /// volume 1, 13.8).
+    pub fn load_standard(&mut self, mask: Features, area: &[u8]) -> Result<(), Trap>
+        requires header { 576 ≤ length area.now }
+        requires places { (i : ℕ) (r : Row) → slice_get self.old.file.rows i ≡ Some r → has mask.0 r.comp.0 ≡ true → has (header.xstate_bv area.now) r.comp.0 ≡ true → r.offset + r.size ≤ length area.now }
+        ensures trap { MatchResult result (λ _. load.standard_trap self.old.file.rows self.old.armed mask.0 area.now ≡ None) (λ t. load.standard_trap self.old.file.rows self.old.armed mask.0 area.now ≡ Some t) }
+        ensures loaded { IfOk result (λ _. IsLoaded mask.0 area.now (load.standard_control mask.0 area.now self.old.file.mxcsr) self.old.file self.new.file) }
+        ensures armed { self.new.armed ≡ self.old.armed }
+        ensures whole { IfOk result (λ _. IsWholeLoad mask.0 area.now self.old.file.rows self.new.file) }
+        ensures accepted { (class : Class) (id : ℕ) → IsLoadable self.old.file.rows class id area.now → header.xcomp_bv area.now ≡ 0 → load.stops_tiles self.old.armed mask.0 area.now ≡ false → IfErr result (λ _. ⊥) }
+        ensures kept { IfErr result (λ _. self.new ≡ self.old) }
+    {
+        load_standard(&mut self.file, self.armed, mask, area)?;
+        Ok(())
+    }
+
+    /// Loads the components of the mask from an area in the compacted format, or answers the first reason against it (SDM
+    /// volume 1, 13.12).
+    pub fn load_compacted(&mut self, mask: Features, area: &[u8]) -> Result<(), Trap>
+        requires header { 576 ≤ length area.now }
+        requires places { is_compacted (header.xcomp_bv area.now) ≡ true → HoldsPlaces self.old.file.rows area.now (header.xcomp_bv area.now) }
+        ensures trap { MatchResult result (λ _. load.compacted_trap self.old.file.rows self.old.armed mask.0 area.now ≡ None) (λ t. load.compacted_trap self.old.file.rows self.old.armed mask.0 area.now ≡ Some t) }
+        ensures loaded { IfOk result (λ _. IsLoaded mask.0 area.now (load.compacted_control mask.0 area.now self.old.file.mxcsr) self.old.file self.new.file) }
+        ensures armed { self.new.armed ≡ self.old.armed }
+        ensures whole { IfOk result (λ _. IsWholeLoad mask.0 area.now self.old.file.rows self.new.file) }
+        ensures accepted { (class : Class) (id : ℕ) → IsLoadable self.old.file.rows class id area.now → is_compacted (header.xcomp_bv area.now) ≡ true → load.stops_tiles self.old.armed mask.0 area.now ≡ false → IfErr result (λ _. ⊥) }
+        ensures kept { IfErr result (λ _. self.new ≡ self.old) }
+    {
+        load_compacted(&mut self.file, self.armed, mask, area)?;
+        Ok(())
+    }
+
+    /// PKRU.
+    pub fn pkru(&self) -> u32
+        ensures { result ≡ from_le_bytes w32 (take 4 (part self.now.file 9)) }
+    {
+        self.file.pkru()
+    }
+
+    /// Writes PKRU.
+    pub fn set_pkru(&mut self, value: u32)
+        ensures { self.new ≡ record self.old { file = with_pkru self.old.file value } }
+    {
+        self.file.set_pkru(value);
+    }
+
+    /// Arms nothing, or TILEDATA of a machine that has it, which becomes initial (SDM volume 1, 13.14).
+    pub fn arm(&mut self, armed: Features)
+        requires { (armed.0 ≡ 0) ⊎ ((armed.0 ≡ load.tiles) × (has_row self.old.file.rows 18 ≡ true)) }
+        ensures { self.new ≡ record { file = disarmed_file self.old.file armed.0; armed = armed.0 } }
+    {
+        // The file is one of its machine.
+        let _ = self.file.layout();
+        disarm(&mut self.file, armed);
+        self.armed = armed;
+    }
+}
+
+/// A slice of bytes has numbers below 256.
+fn are_bytes(bytes: &[u8])
+    ensures { (i : ℕ) → slice_index bytes.now i < 256 }
+{
+    let _ = bytes;
+}
