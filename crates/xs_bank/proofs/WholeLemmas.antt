@@ -21,7 +21,9 @@ use Rattle.xs_base.specs.Layout.{IsLayout, has_row, features}
 use Rattle.xs_base.specs.Sets.{has}
 use Rattle.xs_base.specs.Standard.{has_control, control_bytes, component_byte, saved_byte, has_byte}
 use Rattle.xs_bank.specs.Bank.{IsKept}
-use Rattle.xs_bank.specs.Load.{IsLoaded, IsWholeLoad, standard_trap, compacted_trap, named_in, stops_tiles}
+use Rattle.xs_bank.specs.declared.instruction.Trap.{Trap}
+use Rattle.xs_bank.specs.declared.instruction.Trap.TheVariants.{Nm}
+use Rattle.xs_bank.specs.Load.{IsLoaded, IsWholeLoad, standard_trap, compacted_trap, named_in, stops_tiles, IsStopped, tiles}
 use Rattle.xs_bank.specs.Save.{IsCompactedSave, IsLoadableSave, StandsWithin}
 use Rattle.xs_base.proofs.ByteLemmas.{range_same, within_above, within_in}
 use Rattle.xs_base.proofs.LayoutLemmas.{sound_at, row_found, has_features}
@@ -107,7 +109,7 @@ and_first false b h = absurd (false≢true h)
 right_mxcsr : (value : ℕ) → value < 2 ^ 16 → is_wrong_mxcsr value ≡ false
 right_mxcsr value small = grind (arith, nat_tests)
 
-module _ (rows : List Row) (class : Class) (id : ℕ) (area : List ℕ) (armed mask : ℕ) (table : IsLayout rows) (h : IsLoadable rows class id area) (tiles : stops_tiles armed mask area ≡ false) where
+module _ (rows : List Row) (class : Class) (id : ℕ) (area : List ℕ) (armed mask : ℕ) (table : IsLayout rows) (h : IsLoadable rows class id area) where
   class_row : (c : ℕ) → has (class_features rows class) c ≡ true → has (features rows) c ≡ true
   class_row c on = has_features rows table c ∙ and_first (has_row rows c) (is_of_class class c) (sym (has_class rows class table c) ∙ on)
 
@@ -152,11 +154,11 @@ module _ (rows : List Row) (class : Class) (id : ℕ) (area : List ℕ) (armed m
       no_middle true d = refl
       no_middle false d = refl
 
-  -- XRSTORS takes a compacted one
-  pub compacted_accepts : is_compacted (xcomp_bv area) ≡ true → compacted_trap rows armed mask area ≡ None
+  -- XRSTORS takes a compacted one, but for tiles
+  pub compacted_accepts : is_compacted (xcomp_bv area) ≡ true → compacted_trap rows armed mask area ≡ (if stops_tiles armed mask area then Some (Nm (record { 0 = tiles })) else None)
   unfolding compacted_trap
   compacted_accepts compact = elim h.names [
-    | inl names ↦ rw (bits_inside, names_inside names, bits_named names, compact, h.reserved, right_control (has (xstate_bv area) 1) refl, tiles) refl
+    | inl names ↦ rw (bits_inside, names_inside names, bits_named names, compact, h.reserved, right_control (has (xstate_bv area) 1) refl) refl
     | inr zero_is ↦ absurd (false≢true (sym (ap is_compacted zero_is) ∙ compact))
   ]
 
@@ -172,16 +174,24 @@ module _ (rows : List Row) (class : Class) (id : ℕ) (area : List ℕ) (armed m
   reserved_first = ap (list_any (λ byte. not (byte == 0))) (sym (take-take 8 48 (drop 528 area) (omega arith))) ∙ none_first 8 (slice_range area 528 576) h.reserved
 
   -- XRSTOR a standard one
-  pub standard_accepts : xcomp_bv area ≡ 0 → standard_trap rows armed mask area ≡ None
+  pub standard_accepts : xcomp_bv area ≡ 0 → standard_trap rows armed mask area ≡ (if stops_tiles armed mask area then Some (Nm (record { 0 = tiles })) else None)
   unfolding standard_trap
   standard_accepts zero_is =
       let same : h.file.mxcsr ≡ mxcsr area = h.stands.control ∙ ap (λ n. if is_compacted n && not (has (xstate_bv area) 1) then initial_mxcsr else mxcsr area) zero_is in
       let right : (has_control mask && is_wrong_mxcsr (mxcsr area)) ≡ false = ap (λ b. has_control mask && b) (right_mxcsr (mxcsr area) (omega (arith, h.control))) ∙ no_right (has_control mask) in
-      rw (bits_inside, ap (λ n. not (n == 0)) zero_is, reserved_first, right, tiles) refl
+      rw (bits_inside, ap (λ n. not (n == 0)) zero_is, reserved_first, right) refl
     where
       no_right : (b : Bool) → (b && false) ≡ false
       no_right true = refl
       no_right false = refl
+
+-- and then that is the reason
+pub stopped : (armed mask : ℕ) (area : List ℕ) (trap : Trap) → Some trap ≡ (if stops_tiles armed mask area then Some (Nm (record { 0 = tiles })) else None) → IsStopped armed mask area trap
+stopped armed mask area trap is = here (stops_tiles armed mask area) is
+  where
+    here : (b : Bool) → Some trap ≡ (if b then Some (Nm (record { 0 = tiles })) else None) → (b ≡ true) × (trap ≡ Nm (record { 0 = tiles }))
+    here true is = (refl, cc is)
+    here false is = absurd (cc is)
 
 -- ---- an area that can be loaded after a save
 

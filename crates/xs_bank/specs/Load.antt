@@ -25,6 +25,10 @@ tiles = 0x40000
 abbrev pub stops_tiles : ℕ → ℕ → List ℕ → Bool
 stops_tiles armed mask area = has armed 18 && has mask 18 && has (xstate_bv area) 18
 
+-- The trap is #NM for tiles that the load would give.
+abbrev pub IsStopped : ℕ → ℕ → List ℕ → Trap → Type 0
+IsStopped armed mask area trap = (stops_tiles armed mask area ≡ true) × (trap ≡ Nm (record { 0 = tiles }))
+
 -- the first reason that XRSTOR of these components is refused for, where these are armed
 unfoldable pub standard_trap : List Row → ℕ → ℕ → List ℕ → Option Trap
 standard_trap rows armed mask area = first_of (

@@ -110,7 +110,7 @@ pub trait Bank: Drop {
         ensures kept { IfErr result (λ _. state self.new ≡ state self.old) }
         ensures ready { IfOk result (λ _. (m : ℕ) → banks.IsReady (state self.new) area.now.id m area.now.bytes.items) }
         ensures whole { IfOk result (λ _. load.IsWholeLoad mask.0 area.now.bytes.items (state self.old).file.rows (state self.new).file) }
-        ensures accepted { (class : Class) → IsLoadable (state self.old).file.rows class area.now.id area.now.bytes.items → xcomp_bv area.now.bytes.items ≡ 0 → load.stops_tiles (state self.old).armed mask.0 area.now.bytes.items ≡ false → IfErr result (λ _. ⊥) };
+        ensures accepted { IfErr result (λ t. (class : Class) → IsLoadable (state self.old).file.rows class area.now.id area.now.bytes.items → xcomp_bv area.now.bytes.items ≡ 0 → load.IsStopped (state self.old).armed mask.0 area.now.bytes.items t) };
 
     /// Loads the components of the mask from an area in the compacted format (SDM volume 1, 13.12). The area has at least
     /// 576 bytes, and the compacted place of each component of the machine that its XCOMP_BV names. Refused by the first
@@ -126,7 +126,7 @@ pub trait Bank: Drop {
         ensures kept { IfErr result (λ _. state self.new ≡ state self.old) }
         ensures ready { IfOk result (λ _. (m : ℕ) → banks.IsReady (state self.new) area.now.id m area.now.bytes.items) }
         ensures whole { IfOk result (λ _. load.IsWholeLoad mask.0 area.now.bytes.items (state self.old).file.rows (state self.new).file) }
-        ensures accepted { (class : Class) → IsLoadable (state self.old).file.rows class area.now.id area.now.bytes.items → is_compacted (xcomp_bv area.now.bytes.items) ≡ true → load.stops_tiles (state self.old).armed mask.0 area.now.bytes.items ≡ false → IfErr result (λ _. ⊥) };
+        ensures accepted { IfErr result (λ t. (class : Class) → IsLoadable (state self.old).file.rows class area.now.id area.now.bytes.items → is_compacted (xcomp_bv area.now.bytes.items) ≡ true → load.IsStopped (state self.old).armed mask.0 area.now.bytes.items t) };
 
     /// PKRU (SDM volume 2, RDPKRU). It isn't counted.
     fn rdpkru(&self) -> u32

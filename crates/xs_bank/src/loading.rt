@@ -35,7 +35,7 @@ pub fn load_standard(
     ensures trap { MatchResult result (λ _. load.standard_trap file.old.rows armed.0 mask.0 area.now ≡ None) (λ t. load.standard_trap file.old.rows armed.0 mask.0 area.now ≡ Some t) }
     ensures loaded { IfOk result (λ _. IsLoaded mask.0 area.now (load.standard_control mask.0 area.now file.old.mxcsr) file.old file.new) }
     ensures whole { IfOk result (λ _. IsWholeLoad mask.0 area.now file.old.rows file.new) }
-    ensures accepted { (class : Class) (id : ℕ) → IsLoadable file.old.rows class id area.now → header.xcomp_bv area.now ≡ 0 → load.stops_tiles armed.0 mask.0 area.now ≡ false → IfErr result (λ _. ⊥) }
+    ensures accepted { IfErr result (λ t. (class : Class) (id : ℕ) → IsLoadable file.old.rows class id area.now → header.xcomp_bv area.now ≡ 0 → load.IsStopped armed.0 mask.0 area.now t) }
     ensures kept { IfErr result (λ _. file.new ≡ file.old) }
 {
     let trap = standard_trap(file.layout(), armed, mask, area);
@@ -63,7 +63,7 @@ pub fn load_compacted(
     ensures trap { MatchResult result (λ _. load.compacted_trap file.old.rows armed.0 mask.0 area.now ≡ None) (λ t. load.compacted_trap file.old.rows armed.0 mask.0 area.now ≡ Some t) }
     ensures loaded { IfOk result (λ _. IsLoaded mask.0 area.now (load.compacted_control mask.0 area.now file.old.mxcsr) file.old file.new) }
     ensures whole { IfOk result (λ _. IsWholeLoad mask.0 area.now file.old.rows file.new) }
-    ensures accepted { (class : Class) (id : ℕ) → IsLoadable file.old.rows class id area.now → is_compacted (header.xcomp_bv area.now) ≡ true → load.stops_tiles armed.0 mask.0 area.now ≡ false → IfErr result (λ _. ⊥) }
+    ensures accepted { IfErr result (λ t. (class : Class) (id : ℕ) → IsLoadable file.old.rows class id area.now → is_compacted (header.xcomp_bv area.now) ≡ true → load.IsStopped armed.0 mask.0 area.now t) }
     ensures kept { IfErr result (λ _. file.new ≡ file.old) }
 {
     let trap = compacted_trap(file.layout(), armed, mask, area);

@@ -124,7 +124,7 @@ impl Registers {
         ensures loaded { IfOk result (λ _. IsLoaded mask.0 area.now (load.standard_control mask.0 area.now self.old.file.mxcsr) self.old.file self.new.file) }
         ensures armed { self.new.armed ≡ self.old.armed }
         ensures whole { IfOk result (λ _. IsWholeLoad mask.0 area.now self.old.file.rows self.new.file) }
-        ensures accepted { (class : Class) (id : ℕ) → IsLoadable self.old.file.rows class id area.now → header.xcomp_bv area.now ≡ 0 → load.stops_tiles self.old.armed mask.0 area.now ≡ false → IfErr result (λ _. ⊥) }
+        ensures accepted { IfErr result (λ t. (class : Class) (id : ℕ) → IsLoadable self.old.file.rows class id area.now → header.xcomp_bv area.now ≡ 0 → load.IsStopped self.old.armed mask.0 area.now t) }
         ensures kept { IfErr result (λ _. self.new ≡ self.old) }
     {
         load_standard(&mut self.file, self.armed, mask, area)?;
@@ -140,7 +140,7 @@ impl Registers {
         ensures loaded { IfOk result (λ _. IsLoaded mask.0 area.now (load.compacted_control mask.0 area.now self.old.file.mxcsr) self.old.file self.new.file) }
         ensures armed { self.new.armed ≡ self.old.armed }
         ensures whole { IfOk result (λ _. IsWholeLoad mask.0 area.now self.old.file.rows self.new.file) }
-        ensures accepted { (class : Class) (id : ℕ) → IsLoadable self.old.file.rows class id area.now → is_compacted (header.xcomp_bv area.now) ≡ true → load.stops_tiles self.old.armed mask.0 area.now ≡ false → IfErr result (λ _. ⊥) }
+        ensures accepted { IfErr result (λ t. (class : Class) (id : ℕ) → IsLoadable self.old.file.rows class id area.now → is_compacted (header.xcomp_bv area.now) ≡ true → load.IsStopped self.old.armed mask.0 area.now t) }
         ensures kept { IfErr result (λ _. self.new ≡ self.old) }
     {
         load_compacted(&mut self.file, self.armed, mask, area)?;

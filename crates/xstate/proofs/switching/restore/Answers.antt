@@ -1,5 +1,5 @@
 -- A task's area is accepted, and gives its registers.
-use Rattle.std.proofs.Common.{ap, ◌∙◌}
+use Rattle.std.proofs.Common.{true≢false, sym, ap, ◌∙◌}
 use Rattle.xs_base.specs.declared.class.Class.TheVariants.{Small}
 use Rattle.xs_bank.specs.Bank as banks
 use Rattle.xstate.proofs.SwitchLemmas.{long_area, compact_area, no_tiles, covers, holds_task, table_of}
@@ -11,8 +11,9 @@ xrstors-requires-clause-header g c = long_area c.args.layout.now c.args.lease.no
 pub unreachable-requires : goal.unreachable-requires
 unreachable-requires g c =
     let accepted = rw (c.requires.machine.rows_are) at c.in-Err.ensures.accepted in
-    accepted Small c.requires.area.loadable (compact_area c.args.layout.now c.args.lease.now c.requires.area)
-    (no_tiles c.args.layout.now c.args.lease.now (g.B.Bank.state c.args.bank.now).armed c.class_features-mask.result.0 (table_of c.args.layout.now c.args.lease.now c.requires.area) c.requires.area)
+    let stopped = accepted Small c.requires.area.loadable (compact_area c.args.layout.now c.args.lease.now c.requires.area) in
+    let free = no_tiles c.args.layout.now c.args.lease.now (g.B.Bank.state c.args.bank.now).armed c.class_features-mask.result.0 (table_of c.args.layout.now c.args.lease.now c.requires.area) c.requires.area in
+    absurd (true≢false (sym stopped.0 ∙ free))
 
 pub returns-clause-machine : goal.returns-clause-machine
 returns-clause-machine g c = record {

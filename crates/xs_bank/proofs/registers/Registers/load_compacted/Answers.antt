@@ -1,10 +1,13 @@
 -- A load that isn't refused takes a right MXCSR, and no TILEDATA while it is armed.
+use Rattle.std.proofs.lemmas.Result.{err_from_is_err_and}
 use Rattle.xs_bank.specs.Load.{compacted_control}
 use Rattle.xs_bank.proofs.RegisterLemmas.{loaded_registers, compacted_goes}
 use Rattle.xs_bank.proofs.registers.Registers.load_compacted.Goals as goal
 
 pub returns-in_err-load_compacted-clause-accepted : goal.returns-in_err-load_compacted-clause-accepted
-returns-in_err-load_compacted-clause-accepted c = rw (← c.self.view_is) (λ class id loadable format tiles. absurd (c.in_err-load_compacted.ensures.accepted class id loadable format tiles))
+returns-in_err-load_compacted-clause-accepted c =
+    let error = err_from_is_err_and c.from_residual.result c.from_residual.ensures.1 in
+    rw (error.1, error.2, ← c.self.view_is) c.in_err-load_compacted.ensures.accepted
 
 pub invariant_of-self-2 : goal.invariant_of-self-2
 invariant_of-self-2 c =

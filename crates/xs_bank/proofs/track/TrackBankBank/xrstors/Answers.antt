@@ -1,5 +1,6 @@
 -- What was loaded stands in the area.
 use Rattle.std.proofs.Common.{◌≡◌, None}
+use Rattle.std.proofs.lemmas.Result.{err_from_is_err_and}
 use Rattle.xs_bank.specs.Load.{compacted_trap, compacted_control}
 use Rattle.xs_bank.specs.Tracking.{shown}
 use Rattle.xs_bank.proofs.TrapLemmas.{compacted_format}
@@ -19,4 +20,6 @@ returns-clause-ready c = λ m i r row wanted unmodified.
     ready_loaded file c.load_compacted.new.self.file mask area (compacted_control mask area file.mxcsr) c.args.area.now.id (shown c.track-self.result) (rw (c.file.ensures.file) at c.layout.ensures.file.layout) loaded control tracked i r row unmodified
 
 pub returns-in_err-load_compacted-clause-accepted : goal.returns-in_err-load_compacted-clause-accepted
-returns-in_err-load_compacted-clause-accepted c = λ class loadable format tiles. absurd ((rw (c.deref.ensures.value) at c.in_err-load_compacted.ensures.accepted) class c.args.area.now.id loadable format tiles)
+returns-in_err-load_compacted-clause-accepted c =
+    let error = err_from_is_err_and c.from_residual.result c.from_residual.ensures.1 in
+    rw (error.1, error.2, ← c.deref.ensures.value) (λ class loadable format. c.in_err-load_compacted.ensures.accepted class c.args.area.now.id loadable format)
