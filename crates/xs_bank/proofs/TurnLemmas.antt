@@ -1,22 +1,9 @@
 -- What instructions on registers keep, and areas that a bank doesn't track.
-use Rattle.std.proofs.Common.{◌≡◌, ℕ, true, false, List, inl, inr, Option, Some, None, refl, sym, ap, subst, ◌∙◌}
+use Rattle.std.proofs.Common.{◌≡◌, ℕ, false, List, inl, inr, Some, None, refl, sym, ap, ◌∙◌}
 use Rattle.std.proofs.lemmas.Bool.{false≢true, ne_eqb}
-use Rattle.std.specs.Prelude.{slice_get}
 use Rattle.xs_base.specs.Header.{xcomp_bv}
-use Rattle.xs_base.specs.File.{File}
-use Rattle.xs_bank.specs.Bank.{Bank, Tracked, TracksAtMost, IsReady, IsKept, is_unmodified}
+use Rattle.xs_bank.specs.Bank.{Bank, Tracked, TracksAtMost, IsReady, is_unmodified}
 use Rattle.xs_bank.specs.Turn.{KeepsReady}
-
--- a bank with the same file that tracks the same area
-pub keeps_same : (old new : Bank) → new.file ≡ old.file → new.tracked ≡ old.tracked → KeepsReady old new
-keeps_same old new file tracked = record {
-  rows = ap (λ (f : File). f.rows) file;
-  ready = λ id mask area ready i r row wanted unmodified.
-      subst (λ (f : File). IsKept f area r) (sym file) (ready i r (subst (λ (f : File). slice_get f.rows i ≡ Some r) file row) wanted (subst (λ (t : Option Tracked). is_unmodified t id (xcomp_bv area) r.comp.0 ≡ true) tracked unmodified));
-}
-
-pub keeps_equal : (old new : Bank) → new ≡ old → KeepsReady old new
-keeps_equal old new same = keeps_same old new (ap (λ (b : Bank). b.file) same) (ap (λ (b : Bank). b.tracked) same)
 
 -- one after the other
 pub keeps_both : {old mid new : Bank} → KeepsReady old mid → KeepsReady mid new → KeepsReady old new

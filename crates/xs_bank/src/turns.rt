@@ -73,7 +73,7 @@ fn random_write<B: Bank>(bank: &mut B, layout: &Layout, tools: &mut Tools) -> An
     answer_of(write(bank, layout, name, bytes))
 }
 
-/// Saves into the buffer.
+/// Saves into the buffer: the answer takes up its bytes.
 fn random_save<B: Bank>(bank: &mut B, layout: &Layout, tools: &mut Tools) -> Answer
     requires { (B.state bank.old).file.rows ≡ layout.now }
     ensures { KeepsReady (B.state bank.old) (B.state bank.new) }
