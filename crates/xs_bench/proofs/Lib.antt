@@ -1,2 +1,3 @@
+pub mod BankTurns
 pub mod Changes
 pub mod CommandWords

@@ -10,7 +10,11 @@ use Rattle.xs_bench.specs.declared.command.Machine.TheVariants.{Amx, Avx}
 use Rattle.xs_bench.specs.declared.command.Command.{Command}
 use Rattle.xs_bench.specs.declared.command.Command.TheVariants.{Layout, Places, Repeat}
 use Rattle.xs_bench.specs.declared.command.Call.{Call}
-use Rattle.xs_bench.specs.declared.command.Call.TheVariants.{StandardInto, StandardOf, CompactOf, CopyArea, Copy, CopyCompacted, Nothing}
+use Rattle.xs_bench.specs.declared.command.Call.TheVariants.{StandardInto, StandardOf, CompactOf, CopyArea, Copy, CopyCompacted, CopyOne, CopyHeader, Bank, Nothing}
+use Rattle.xs_bench.specs.declared.command.BankKind.{BankKind}
+use Rattle.xs_bench.specs.declared.command.BankKind.TheVariants.{Plain, Track}
+use Rattle.xs_bench.specs.declared.command.BankCall.{BankCall}
+use Rattle.xs_bench.specs.declared.command.BankCall.TheVariants.{SaveFull, SaveOne, SaveUnmodified, SaveInitial, LoadFull, LoadOne, LoadInitial}
 
 abbrev pub machine_word : Machine → List ℕ
 machine_word Amx = codes "amx"
@@ -20,6 +24,23 @@ abbrev pub machine_rows : Machine → List Row
 machine_rows Amx = amx_rows
 machine_rows Avx = avx_rows
 
+abbrev pub kind_word : BankKind → List ℕ
+kind_word Plain = codes "plain"
+kind_word Track = codes "track"
+
+abbrev pub bank_call_word : BankCall → List ℕ
+bank_call_word SaveFull = codes "xsaves-full"
+bank_call_word SaveOne = codes "xsaves-one"
+bank_call_word SaveUnmodified = codes "xsaves-unmodified"
+bank_call_word SaveInitial = codes "xsaves-initial"
+bank_call_word LoadFull = codes "xrstors-full"
+bank_call_word LoadOne = codes "xrstors-one"
+bank_call_word LoadInitial = codes "xrstors-initial"
+
+-- the bank, and the instruction with what it has to move
+abbrev pub bank_word : BankKind → BankCall → List ℕ
+bank_word kind call = kind_word kind ++ (codes "-" ++ bank_call_word call)
+
 abbrev pub call_word : Call → List ℕ
 call_word StandardInto = codes "standard-into"
 call_word StandardOf = codes "standard-of"
@@ -27,6 +48,9 @@ call_word CompactOf = codes "compact-of"
 call_word CopyArea = codes "copy-area"
 call_word Copy = codes "copy"
 call_word CopyCompacted = codes "copy-compacted"
+call_word CopyOne = codes "copy-one"
+call_word CopyHeader = codes "copy-header"
+call_word (Bank kind call) = bank_word kind call
 call_word Nothing = codes "nothing"
 
 -- the words of a command; the last of places is the mask, and the last of a call its number of turns

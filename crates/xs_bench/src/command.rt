@@ -1,7 +1,8 @@
 //! The words of the command line.
 
 ghost use Rattle.std.specs.Prelude.{◌≡◌, decimal, map, string_bytes, IfSome};
-ghost use Rattle.xs_bench.specs.Words.{call_word, machine_word, machine_rows, Spells};
+ghost use Rattle.xs_bench.specs.Words.{bank_word, call_word, machine_word, machine_rows, Spells};
+ghost use Rattle.xs_bench.specs.declared.command.BankKind.TheVariants as kinds;
 
 use xs_base::Features;
 use xs_layout::Layout;
@@ -13,6 +14,34 @@ pub enum Machine {
     Amx,
     /// x87, SSE and AVX alone.
     Avx,
+}
+
+/// A bank of registers.
+#[derive(Clone, Copy, PartialEq, Eq, Debug)]
+pub enum BankKind {
+    /// `xs_bank::PlainBank`.
+    Plain,
+    /// `xs_bank::TrackBank`.
+    Track,
+}
+
+/// An instruction of a bank, by what it has to move. Its components are those of the machine but PKRU.
+#[derive(Clone, Copy, PartialEq, Eq, Debug)]
+pub enum BankCall {
+    /// `Bank::xsaves` where every component is in use, into another area than the one that was loaded.
+    SaveFull,
+    /// `Bank::xsaves` where every component is in use, into the area that was loaded; since then SSE alone was written.
+    SaveOne,
+    /// `Bank::xsaves` where every component is in use, into the area that was loaded; since then none was written.
+    SaveUnmodified,
+    /// `Bank::xsaves` where every component is initial.
+    SaveInitial,
+    /// `Bank::xrstors` of an area that has state of every component.
+    LoadFull,
+    /// `Bank::xrstors` of an area that has state of SSE alone.
+    LoadOne,
+    /// `Bank::xrstors` of an area that has no state.
+    LoadInitial,
 }
 
 /// A call that is made many times.
@@ -30,6 +59,17 @@ pub enum Call {
     Copy,
     /// A plain copy of as many bytes as the compacted format has without PKRU.
     CopyCompacted,
+    /// A plain copy of as many bytes as SSE has with the header.
+    CopyOne,
+    /// A plain copy of as many bytes as the header has.
+    CopyHeader,
+    /// An instruction of a bank.
+    Bank {
+        /// The bank.
+        kind: BankKind,
+        /// The instruction.
+        call: BankCall,
+    },
     /// None: the loop alone.
     Nothing,
 }
@@ -125,7 +165,58 @@ fn call_of(word: &str) -> Option<Call>
         "copy-area" => Some(Call::CopyArea),
         "copy" => Some(Call::Copy),
         "copy-compacted" => Some(Call::CopyCompacted),
+        "copy-one" => Some(Call::CopyOne),
+        "copy-header" => Some(Call::CopyHeader),
         "nothing" => Some(Call::Nothing),
+        _ => bank_call_of(word),
+    }
+}
+
+/// The call on a bank of this name.
+fn bank_call_of(word: &str) -> Option<Call>
+    ensures { IfSome result (λ call. word.now ≡ call_word call) }
+{
+    if let Some(call) = plain_call_of(word) {
+        return Some(Call::Bank {
+            kind: BankKind::Plain,
+            call,
+        });
+    }
+    let call = track_call_of(word)?;
+    Some(Call::Bank {
+        kind: BankKind::Track,
+        call,
+    })
+}
+
+/// The call on a plain bank of this name.
+fn plain_call_of(word: &str) -> Option<BankCall>
+    ensures { IfSome result (λ call. word.now ≡ bank_word kinds.Plain call) }
+{
+    match word {
+        "plain-xsaves-full" => Some(BankCall::SaveFull),
+        "plain-xsaves-one" => Some(BankCall::SaveOne),
+        "plain-xsaves-unmodified" => Some(BankCall::SaveUnmodified),
+        "plain-xsaves-initial" => Some(BankCall::SaveInitial),
+        "plain-xrstors-full" => Some(BankCall::LoadFull),
+        "plain-xrstors-one" => Some(BankCall::LoadOne),
+        "plain-xrstors-initial" => Some(BankCall::LoadInitial),
+        _ => None,
+    }
+}
+
+/// The call on a tracking bank of this name.
+fn track_call_of(word: &str) -> Option<BankCall>
+    ensures { IfSome result (λ call. word.now ≡ bank_word kinds.Track call) }
+{
+    match word {
+        "track-xsaves-full" => Some(BankCall::SaveFull),
+        "track-xsaves-one" => Some(BankCall::SaveOne),
+        "track-xsaves-unmodified" => Some(BankCall::SaveUnmodified),
+        "track-xsaves-initial" => Some(BankCall::SaveInitial),
+        "track-xrstors-full" => Some(BankCall::LoadFull),
+        "track-xrstors-one" => Some(BankCall::LoadOne),
+        "track-xrstors-initial" => Some(BankCall::LoadInitial),
         _ => None,
     }
 }

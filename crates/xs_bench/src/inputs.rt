@@ -1,9 +1,11 @@
 //! What the calls read and write: a file with every component in use, its image in the standard format, and areas of
 //! the compacted format.
 
+ghost use Rattle.std.specs.Prelude.{◌≡◌, IfOk};
+
 use std::alloc::{AllocError, Global};
-use xs_area::Area;
-use xs_base::{Features, Lane, put};
+use xs_area::{Area, Class, class_features, class_size, compacted};
+use xs_base::{Features, Lane, clear, put};
 use xs_layout::Layout;
 use xs_regs::{File, place_of};
 
@@ -14,6 +16,9 @@ const REGISTERS: [&str; 9] = [
 
 /// The bytes that are written into each register.
 const ONES: [u8; 64] = [1; 64];
+
+/// MXCSR after initialisation (SDM volume 1, 10.2.3).
+const INITIAL_MXCSR: u32 = 0x1f80;
 
 /// The file of a machine with every component in use.
 pub fn full_file(alloc: Global, layout: &Layout) -> Result<File, AllocError> {
@@ -44,5 +49,27 @@ pub fn full_area(alloc: Global, id: u64, layout: &Layout) -> Result<Area, AllocE
     let mut bytes = vec![in alloc; 0u8; size]?;
     put(&mut bytes, 512, &names.to_le_bytes());
     put(&mut bytes, 520, &(names | 1 << 63).to_le_bytes());
+    Ok(Area { id, bytes })
+}
+
+/// An area of the compacted format with every component but PKRU, whose registers have the byte 1 throughout, that has state
+/// of those of them that are of the set.
+pub fn area_of(alloc: Global, id: u64, layout: &Layout, set: Features) -> Result<Area, AllocError>
+    ensures { IfOk result (λ area. area.id ≡ id) }
+{
+    let names = class_features(layout, Class::Large);
+    let mut bytes = vec![in alloc; 1u8; class_size(layout, Class::Large) as usize]?;
+    put(&mut bytes, 24, &INITIAL_MXCSR.to_le_bytes());
+    clear(&mut bytes, 512, 64);
+    put(&mut bytes, 512, &(names.0 & set.0).to_le_bytes());
+    put(&mut bytes, 520, &compacted(names).0.to_le_bytes());
+    Ok(Area { id, bytes })
+}
+
+/// An area of zeros.
+pub fn zero_area(alloc: Global, id: u64, len: usize) -> Result<Area, AllocError>
+    ensures { IfOk result (λ area. area.id ≡ id) }
+{
+    let bytes = vec![in alloc; 0u8; len]?;
     Ok(Area { id, bytes })
 }

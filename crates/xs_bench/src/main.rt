@@ -2,6 +2,7 @@
 //! tell its time.
 #![tactic(auto)]
 
+mod banks;
 mod command;
 mod inputs;
 mod places;
@@ -21,7 +22,7 @@ use std::process::ExitCode;
 
 /// The line that answers other words than a command.
 const USAGE: &str =
-    "usage: xs_bench layout amx|avx | places amx|avx MASK | repeat standard-into|standard-of|compact-of|copy-area|copy|copy-compacted|nothing N";
+    "usage: xs_bench layout amx|avx | places amx|avx MASK | repeat standard-into|standard-of|compact-of|copy-area|copy|copy-compacted|copy-one|copy-header|nothing N | repeat plain|track-xsaves-full|one|unmodified|initial N | repeat plain|track-xrstors-full|one|initial N";
 
 /// Does what the command line asks. The status is 0, 64 for words that are no command, 6 where there was no memory, 5
 /// where standard output failed, and 70 where the inputs of a call don't meet its conditions.

@@ -4,6 +4,7 @@
 ghost use Rattle.std.specs.Prelude.{◌≡◌, ◌≤◌, length};
 ghost use Rattle.xs_base.specs.Header as header;
 
+use crate::banks::repeat_on_bank;
 use crate::command::Call;
 use crate::inputs::{full_area, full_file, full_image};
 use std::alloc::{AllocError, Global};
@@ -34,12 +35,15 @@ pub fn repeat(alloc: Global, call: Call, turns: u64) -> Result<Option<u64>, Allo
         Call::CopyArea => repeat_copy_area(&layout, &mut area, &mut other, turns),
         Call::Copy => repeat_copy(&mut image, &mut out, turns),
         Call::CopyCompacted => repeat_copy(&mut area.bytes, &mut other.bytes, turns),
+        Call::CopyOne => repeat_copy_part(&mut image, &mut out, 320, turns),
+        Call::CopyHeader => repeat_copy_part(&mut image, &mut out, 64, turns),
+        Call::Bank { kind, call } => repeat_on_bank(alloc, kind, call, turns)?,
         Call::Nothing => repeat_nothing(&mut image, &out, turns),
     })
 }
 
 /// The sum with a byte of an output.
-fn sum_with(sum: u64, out: &[u8], turn: u64) -> u64
+pub fn sum_with(sum: u64, out: &[u8], turn: u64) -> u64
     requires { 8192 ≤ length out.now }
 {
     sum.wrapping_mul(31)
@@ -136,6 +140,22 @@ fn repeat_copy(from: &mut [u8], to: &mut [u8], turns: u64) -> Option<u64> {
     Some(sum)
 }
 
+/// A plain copy of so many bytes, from byte 128 on.
+fn repeat_copy_part(from: &mut [u8], to: &mut [u8], len: usize, turns: u64) -> Option<u64>
+    requires { len ≤ 1024 }
+{
+    if from.len() < 8192 || to.len() < 8192 {
+        return None;
+    }
+    let mut sum = 0;
+    'turns: for turn in 0..turns {
+        change(from, turn);
+        to[128..128 + len].copy_from_slice(&from[128..128 + len]);
+        sum = sum_with(sum, to, turn);
+    }
+    Some(sum)
+}
+
 /// No call.
 fn repeat_nothing(from: &mut [u8], to: &[u8], turns: u64) -> Option<u64> {
     if from.len() < 8192 || to.len() < 8192 {
@@ -150,7 +170,7 @@ fn repeat_nothing(from: &mut [u8], to: &[u8], turns: u64) -> Option<u64> {
 }
 
 /// Changes eight bytes of an image or an area, of its legacy region.
-fn change(bytes: &mut [u8], turn: u64)
+pub fn change(bytes: &mut [u8], turn: u64)
     requires { 576 ≤ length bytes.old }
     ensures len { length bytes.new ≡ length bytes.old }
     ensures bits { header.xstate_bv bytes.new ≡ header.xstate_bv bytes.old }

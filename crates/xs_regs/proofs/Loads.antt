@@ -8,14 +8,14 @@ use Rattle.std.specs.List.{range_with_len}
 use Rattle.std.specs.Vec.{with_items}
 use Rattle.std.specs.Int.{to_le_bytes, w32}
 use Rattle.xs_base.specs.declared.component.Row.{Row}
-use Rattle.xs_base.specs.Bytes.{zeros, splice, is_within}
+use Rattle.xs_base.specs.Bytes.{zeros, is_within}
 use Rattle.xs_base.specs.Component.{component_count, component_size, initial_part}
 use Rattle.xs_base.specs.File.{File, part, with_part, is_own, IsFile}
 use Rattle.xs_base.specs.Layout.{has_row}
 use Rattle.xs_base.specs.Standard.{IsCleaned}
 use Rattle.xs_base.proofs.ByteLemmas.{within_in}
 use Rattle.xs_base.proofs.ComponentLemmas.{length_initial, length_zeros, zero_at, pkru_size}
-use Rattle.xs_base.proofs.FileLemmas.{part_is_file, part_here, part_other, initial_clean, splice_whole}
+use Rattle.xs_base.proofs.FileLemmas.{part_here, part_other, initial_clean}
 use Rattle.xs_regs.proofs.Parts.{shown, shown_at, shown_file, shown_written}
 use Rattle.xs_regs.specs.Loads.{IsCleanCopy, IsPartLoaded}
 
@@ -118,13 +118,7 @@ loaded file c bytes out small h copy =
       control = refl;
     }
 
--- ---- tests in another order
-
-pub turned : (a b d : Bool) → (a && (b && d)) ≡ (b && (a && d))
-turned true true d = refl
-turned true false d = refl
-turned false true d = refl
-turned false false d = refl
+-- ---- a test that fails with its first part
 
 pub none_of : (a b : Bool) → a ≡ false → (a && b) ≡ false
 none_of true b e = absurd (false≢true (sym e))

@@ -37,14 +37,25 @@ module _ (rows : List Row) (parts : List (Vec ℕ Global)) (mxcsr : ℕ) where
   shown_file = record { rows = rows; parts = shown parts; mxcsr = mxcsr }
 
   module _ (place : Place) (v : Vec ℕ Global) (bytes old : List ℕ) (register : (name : List ℕ) × IsRegister rows name place) where
+    register_inside : IsFile shown_file → place.comp.0 < length parts
+    register_inside h =
+        let number : place.comp.0 < component_count = place_component register.0 place register.1.0 in
+        omega (arith, h.count, length-map parts (λ p. p.items))
+
+    pub register_size : IsFile shown_file → v ≡ get_or parts place.comp.0 v → old ≡ v.items → length old ≡ component_size place.comp.0
+    register_size h is items =
+        ap length items ∙ ap length (sym (shown_at parts place.comp.0 v (register_inside h) is)) ∙ h.sizes place.comp.0 (place_component register.0 place register.1.0)
+
     pub register_fits : IsFile shown_file → is_mxcsr place ≡ false → length bytes ≡ place.len → v ≡ get_or parts place.comp.0 v → old ≡ v.items → (place.comp.0 < length parts) × (place.offset + length bytes ≤ length old)
     register_fits h apart len is items =
-        let named = register.1.0 in
-        let number : place.comp.0 < component_count = place_component register.0 place named in
-        let inside : place.comp.0 < length parts = omega (arith, h.count, length-map parts (λ p. p.items)) in
-        let within = place_within register.0 place named apart in
-        let size : length old ≡ component_size place.comp.0 = ap length items ∙ ap length (sym (shown_at parts place.comp.0 v inside is)) ∙ h.sizes place.comp.0 number in
+        let inside = register_inside h in
+        let within = place_within register.0 place register.1.0 apart in
+        let size = register_size h is items in
         (inside, omega arith)
+
+    -- the vector with a register written over it
+    pub register_part : (out : List ℕ) → IsFile shown_file → v ≡ get_or parts place.comp.0 v → old ≡ v.items → out ≡ splice place.offset bytes old → out ≡ splice place.offset bytes (part shown_file place.comp.0)
+    register_part out h is items written = written ∙ ap (λ bs. splice place.offset bytes bs) (items ∙ sym (shown_at parts place.comp.0 v (register_inside h) is))
 
     pub register_spliced : (out : List ℕ) → IsFile shown_file → is_mxcsr place ≡ false → length bytes ≡ place.len → v ≡ get_or parts place.comp.0 v → old ≡ v.items → length old ≡ v.len → out ≡ splice place.offset bytes old → shown (set parts place.comp.0 (with_items v out)) ≡ set (shown parts) place.comp.0 (splice place.offset bytes (part shown_file place.comp.0))
     register_spliced out h apart len is items whole written =

@@ -1,6 +1,6 @@
 -- One component of a file that takes bytes.
-use Rattle.std.specs.Prelude.{◌≡◌, ℕ, Bool, true, false, not, List, length, bytes_eq, slice_index}
-use Rattle.xs_base.specs.Component.{component_size, initial_part}
+use Rattle.std.specs.Prelude.{◌≡◌, ℕ, true, false, List, length, slice_index}
+use Rattle.xs_base.specs.Component.{component_size}
 use Rattle.xs_base.specs.File.{File, part, is_own}
 
 -- The component has the bytes, and zero where they belong to no register.
@@ -15,7 +15,3 @@ pub record IsPartLoaded (c : ℕ) (bytes : List ℕ) (old new : File) : Type 0 w
   pub own : (k : ℕ) → is_own c k ≡ true → slice_index (part new c) k ≡ slice_index bytes k
   pub others : (d : ℕ) → (d ≡ c → ⊥) → part new d ≡ part old d
   pub control : new.mxcsr ≡ old.mxcsr
-
--- the component isn't initial
-abbrev pub is_changed : File → ℕ → Bool
-is_changed file c = not (bytes_eq (part file c) (initial_part c))

@@ -1,6 +1,6 @@
 //! Register files.
 
-ghost use Rattle.std.specs.Prelude.{◌≡◌, ℕ, ◌<◌, ◌≤◌, ◌==◌, false, List, length, slice_index, IfOk};
+ghost use Rattle.std.specs.Prelude.{◌≡◌, ℕ, ◌+◌, ◌<◌, ◌≤◌, ◌==◌, false, not, List, length, slice_index, IfOk, if◌then◌else◌};
 ghost use Rattle.std.specs.List.{list_all};
 ghost use Rattle.std.specs.Str.{bytes_eq};
 ghost use Rattle.xs_base.specs.Component.{component_count, component_size, initial_part};
@@ -9,6 +9,7 @@ ghost use Rattle.xs_base.specs.Layout.{standard_size};
 ghost use Rattle.xs_base.specs.Register.{IsRegister};
 ghost use Rattle.xs_base.specs.Sets.{has};
 ghost use Rattle.xs_base.specs.Standard.{IsStandard, component_byte, saved_byte, has_control, control_bytes};
+ghost use Rattle.xs_base.specs.Bytes.{splice};
 
 mod loading;
 
@@ -24,23 +25,27 @@ const COMPONENTS: u8 = 19;
 const INITIAL_MXCSR: u32 = 0x1F80;
 
 /// The registers of one processor or one task: the bytes of every component, by its number, and MXCSR beside them.
-/// Contracts see the record `File`. What belongs to no register is zero, and what the machine lacks is initial.
+/// Contracts see the record `File`. What belongs to no register is zero, and what the machine lacks is initial. Which
+/// components are in use is kept beside, so that no save has to look through their bytes.
 #[derive(Drop)]
 pub struct File {
     layout: Layout,
     parts: Vec<Vec<u8>>,
     mxcsr: u32,
+    used: Features,
 }
 
 impl Model for File {
     ghost use Rattle.std.specs.Prelude.{map};
     ghost use Rattle.xs_base.specs.File as files;
+    ghost use Rattle.xs_regs.specs.Used.{HasUsed};
 
     ghost Value = { files.File };
 
     ghost view = { λ f. record { rows = f.layout; parts = map (λ p. p.items) f.parts.items; mxcsr = f.mxcsr } };
 
-    ghost invariant = { λ f. files.IsFile (record { rows = f.layout; parts = map (λ p. p.items) f.parts.items; mxcsr = f.mxcsr }) };
+    ghost invariant = { λ f. files.IsFile (record { rows = f.layout; parts = map (λ p. p.items) f.parts.items; mxcsr = f.mxcsr })
+        × HasUsed (record { rows = f.layout; parts = map (λ p. p.items) f.parts.items; mxcsr = f.mxcsr }) f.used.0 };
 }
 
 impl File {
@@ -59,6 +64,7 @@ impl File {
             layout: *layout,
             parts,
             mxcsr: INITIAL_MXCSR,
+            used: Features(0),
         })
     }
 
@@ -110,11 +116,13 @@ impl File {
         if is_mxcsr(place) {
             self.mxcsr = u32::from_le_bytes([bytes[0], bytes[1], bytes[2], bytes[3]]);
         } else {
-            put(
+            let used = put_register(
                 &mut self.parts[place.comp.0 as usize],
+                place.comp,
                 place.offset as usize,
                 bytes,
             );
+            self.used = with(self.used, place.comp, used);
         }
     }
 
@@ -123,28 +131,9 @@ impl File {
         ensures each { (c : ℕ) → has result.0 c ≡ in_use self.now c }
         ensures above { (c : ℕ) → component_count ≤ c → has result.0 c ≡ false }
     {
-        let layout = self.layout();
-        let mut bits = 0;
-        'rows: for i in 0..layout.len() {
-            let comp = layout.row_at(i).comp;
-            if !self.is_initial(comp) {
-                bits |= 1u64 << comp.0;
-            }
-        }
-        Features(bits)
-    }
-
-    fn is_initial(&self, c: Comp) -> bool
-        requires { c.0 < component_count }
-        ensures { result ≡ bytes_eq (part self.now c.0) (initial_part c.0) }
-    {
-        let bytes = self.part(c);
-        if c.0 == 0 {
-            let (control, others) = bytes.split_at(2);
-            control == [0x7f, 0x03].as_slice() && are_zero(others)
-        } else {
-            are_zero(bytes)
-        }
+        // The rows pass every test of a table.
+        let _ = self.layout();
+        self.used
     }
 
     /// Writes the file's components of the mask in the standard format, each at its place, and MXCSR with its mask where
@@ -189,10 +178,52 @@ fn is_mxcsr(place: Place) -> bool
     place.comp.0 == 1 && place.offset == 256
 }
 
+/// Writes a register over bytes of a component, from byte `at` on, and answers whether the component is then not initial.
+fn put_register(out: &mut [u8], c: Comp, at: usize, bytes: &[u8]) -> bool
+    requires size { length out.old ≡ component_size c.0 }
+    requires fits { at + length bytes.now ≤ length out.old }
+    ensures written { out.new ≡ splice at bytes.now out.old }
+    ensures used { result ≡ not (bytes_eq out.new (initial_part c.0)) }
+{
+    put(out, at, bytes);
+    !is_initial(out, c)
+}
+
+/// The set, with or without the component.
+fn with(set: Features, c: Comp, wanted: bool) -> Features
+    requires { c.0 < 64 }
+    ensures { (d : ℕ) → has result.0 d ≡ (if d == c.0 then wanted else has set.0 d) }
+{
+    if wanted {
+        Features(set.0 | 1 << c.0)
+    } else {
+        Features(set.0 & !(1 << c.0))
+    }
+}
+
+/// Whether these are the initial bytes of the component.
+fn is_initial(bytes: &[u8], c: Comp) -> bool
+    requires { length bytes.now ≡ component_size c.0 }
+    ensures { result ≡ bytes_eq bytes.now (initial_part c.0) }
+{
+    if c.0 == 0 {
+        let (control, others) = bytes.split_at(2);
+        control == [0x7f, 0x03].as_slice() && are_zero(others)
+    } else {
+        are_zero(bytes)
+    }
+}
+
+/// Whether every byte is zero: the first is, and each other is as the one before it.
 fn are_zero(bytes: &[u8]) -> bool
     ensures { result ≡ list_all (λ b. b == 0) bytes.now }
 {
-    bytes.iter().all(|b| *b == 0)
+    let Some(first) = bytes.first() else {
+        return true;
+    };
+    let (_, others) = bytes.split_at(1);
+    let (before, _) = bytes.split_at(others.len());
+    *first == 0 && others == before
 }
 
 /// MXCSR and its mask: every bit up to 15 may be set.

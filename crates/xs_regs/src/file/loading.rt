@@ -1,16 +1,17 @@
 //! Changes of whole components of a register file: loads, resets, PKRU and MXCSR.
 
-ghost use Rattle.std.specs.Prelude.{◌≡◌, ℕ, ◌<◌, ◌≤◌, ◌&&◌, ◌++◌, true, false, length, take};
+ghost use Rattle.std.specs.Prelude.{◌≡◌, ℕ, ◌<◌, ◌≤◌, ◌&&◌, ◌++◌, ◌==◌, true, false, not, length, take, if◌then◌else◌};
 ghost use Rattle.std.specs.Int.{from_le_bytes, to_le_bytes, w32};
 ghost use Rattle.xs_base.specs.Bytes.{zeros};
 ghost use Rattle.xs_base.specs.Component.{component_count, component_size, initial_part};
 ghost use Rattle.xs_base.specs.File.{IsFile, part, with_part, with_pkru, initial_file, in_use};
 ghost use Rattle.xs_base.specs.Layout.{has_row};
 ghost use Rattle.xs_base.specs.Sets.{has};
-ghost use Rattle.xs_regs.specs.Loads.{IsPartLoaded, IsCleanCopy, is_changed};
+ghost use Rattle.xs_regs.specs.Loads.{IsPartLoaded, IsCleanCopy};
+ghost use Rattle.std.specs.Str.{bytes_eq};
 
-use super::{COMPONENTS, File, INITIAL_MXCSR};
-use xs_base::{Comp, Features, clean, put, put_initial};
+use super::{COMPONENTS, File, INITIAL_MXCSR, is_initial, put_register, with};
+use xs_base::{Comp, Features, clean, put_initial};
 use xs_layout::{Layout, component_size};
 
 impl File {
@@ -22,7 +23,8 @@ impl File {
         requires len { length bytes.now ≡ component_size c.0 }
         ensures { IsPartLoaded c.0 bytes.now self.old self.new }
     {
-        put_cleaned(&mut self.parts[c.0 as usize], c, bytes);
+        let used = put_cleaned(&mut self.parts[c.0 as usize], c, bytes);
+        self.used = with(self.used, c, used);
     }
 
     /// Makes a component initial. A component that the machine lacks is so already.
@@ -31,7 +33,12 @@ impl File {
         ensures written { self.new ≡ with_part self.old c.0 (initial_part c.0) }
         ensures file { IsFile self.new }
     {
+        // Where it isn't in use it is initial already. PKRU may have state on a machine that lacks it.
+        if !self.used.has(c) && c.0 != 9 {
+            return;
+        }
         put_initial_part(&mut self.parts[c.0 as usize], c);
+        self.used = with(self.used, c, false);
     }
 
     /// Makes every component initial, and the machine another one.
@@ -45,6 +52,7 @@ impl File {
         let _ = layout.len();
         self.layout = *layout;
         self.mxcsr = INITIAL_MXCSR;
+        self.used = Features(0);
     }
 
     /// PKRU, which every file has (SDM volume 1, 13.5.7).
@@ -60,7 +68,8 @@ impl File {
     pub fn set_pkru(&mut self, value: u32)
         ensures { self.new ≡ with_pkru self.old value }
     {
-        put(&mut self.parts[9], 0, &pkru_bytes(value));
+        let used = put_register(&mut self.parts[9], Comp(9), 0, &pkru_bytes(value));
+        self.used = with_row(self.used, &self.layout, Comp(9), used);
     }
 
     /// Writes MXCSR. Nothing else changes.
@@ -71,41 +80,29 @@ impl File {
         self.mxcsr = value;
     }
 
-    /// The components of the mask that aren't in their initial configuration. MXCSR doesn't count, and no other component
-    /// is looked at.
+    /// The components of the mask that aren't in their initial configuration. MXCSR doesn't count.
     pub fn in_use_of(&self, mask: Features) -> Features
         ensures each { (c : ℕ) → has result.0 c ≡ (has mask.0 c && in_use self.now c) }
         ensures above { (c : ℕ) → component_count ≤ c → has result.0 c ≡ false }
     {
-        let layout = self.layout();
-        let mut bits = 0;
-        'rows: for i in 0..layout.len() {
-            let comp = layout.row_at(i).comp;
-            if self.is_used(mask, comp) {
-                bits |= 1u64 << comp.0;
-            }
-        }
-        Features(bits)
-    }
-
-    /// Whether the component is of the mask and isn't initial.
-    fn is_used(&self, mask: Features, c: Comp) -> bool
-        requires { c.0 < component_count }
-        ensures { result ≡ (has mask.0 c.0 && is_changed self.now c.0) }
-    {
-        mask.has(c) && !self.is_initial(c)
+        // The rows pass every test of a table.
+        let _ = self.layout();
+        Features(mask.0 & self.used.0)
     }
 }
 
-/// Writes a component over bytes of its size. What belongs to no register is zero.
+/// Writes a component over bytes of its size, and answers whether it is then not initial. What belongs to no register is
+/// zero.
 #[tactic(auto, using(crate::proofs::Loads::clean_copy))]
-fn put_cleaned(out: &mut [u8], c: Comp, bytes: &[u8])
+fn put_cleaned(out: &mut [u8], c: Comp, bytes: &[u8]) -> bool
     requires whole { length out.old ≡ component_size c.0 }
     requires len { length bytes.now ≡ component_size c.0 }
-    ensures { IsCleanCopy c.0 bytes.now out.new }
+    ensures copy { IsCleanCopy c.0 bytes.now out.new }
+    ensures used { result ≡ not (bytes_eq out.new (initial_part c.0)) }
 {
     out.copy_from_slice(bytes);
     clean(out, 0, c);
+    !is_initial(out, c)
 }
 
 /// Writes the initial configuration over bytes of a component's size.
@@ -115,6 +112,14 @@ fn put_initial_part(out: &mut [u8], c: Comp)
     ensures { out.new ≡ initial_part c.0 }
 {
     put_initial(out, 0, c, component_size(c) as usize);
+}
+
+/// The set, with or without the component; without it where the machine lacks it.
+fn with_row(set: Features, layout: &Layout, c: Comp, wanted: bool) -> Features
+    requires { c.0 < 64 }
+    ensures { (d : ℕ) → has result.0 d ≡ (if d == c.0 then has_row layout.now c.0 && wanted else has set.0 d) }
+{
+    with(set, c, layout.has_row(c) && wanted)
 }
 
 /// The bytes of component 9.
