@@ -1,6 +1,6 @@
 -- A bank: the extended registers of one processor, and what its instructions do (SDM volume 1, chapter 13). The counts and
 -- the trail are this project's own, as is that a trap changes nothing.
-use Rattle.std.specs.Prelude.{◌≡◌, ℕ, ◌^◌, Bool, true, false, not, ◌&&◌, ◌||◌, ◌==◌, List, slice_get, take, Option, Some, None, ◌⊎◌, if◌then◌else◌, bit_or}
+use Rattle.std.specs.Prelude.{◌≡◌, ℕ, ◌^◌, Bool, true, false, not, ◌&&◌, ◌||◌, ◌==◌, List, slice_get, take, Option, Some, None, if◌then◌else◌, bit_or}
 use Rattle.std.specs.Int.{from_le_bytes, w32}
 use Rattle.xs_base.specs.declared.component.Row.{Row}
 use Rattle.xs_base.specs.declared.component.Place.{Place}
@@ -80,22 +80,21 @@ after_xfd bank armed = record (changed bank (disarmed_file bank.file armed) arme
 abbrev pub set_up : Bank → List Row → Bank
 set_up bank rows = record bank { file = initial_file rows; armed = if has_row rows 18 then tiles else 0; tracked = None }
 
--- ---- #NM of an instruction on registers (SDM volume 1, 13.14; that a write of TILECFG traps is this project's own)
+-- ---- #NM of an instruction on registers where these components are armed (SDM volume 1, 13.14; that a write of TILECFG
+-- traps is this project's own)
 
-abbrev pub read_trap : Bank → Place → Option Trap
-read_trap bank place = if has bank.armed 18 && (place.comp.0 == 18) then Some (Nm (record { 0 = tiles })) else None
+abbrev pub read_trap : ℕ → Place → Option Trap
+read_trap armed place = if has armed 18 && (place.comp.0 == 18) then Some (Nm (record { 0 = tiles })) else None
 
-abbrev pub write_trap : Bank → Place → Option Trap
-write_trap bank place = if has bank.armed 18 && ((place.comp.0 == 17) || (place.comp.0 == 18)) then Some (Nm (record { 0 = tiles })) else None
+abbrev pub write_trap : ℕ → Place → Option Trap
+write_trap armed place = if has armed 18 && ((place.comp.0 == 17) || (place.comp.0 == 18)) then Some (Nm (record { 0 = tiles })) else None
 
--- ---- the tracked area
+-- ---- the tracked area (SDM volume 1, 13.6: XRSTOR_INFO and XMODIFIED; that an area is known by its number, and not by its
+-- address, is this project's own)
 
--- A load tracks this area, or none. The components outside its mask count as changed.
+-- A load tracks its area. The components outside its mask count as changed.
 abbrev pub loaded_from : List Row → ℕ → ℕ → List ℕ → Tracked
 loaded_from rows id mask area = record { id = id; names = xcomp_bv area; modified = set_of (λ c. has_row rows c && not (has mask c)) component_numbers }
-
-abbrev pub TracksAtMost : Option Tracked → Tracked → Type 0
-TracksAtMost tracked area = (tracked ≡ None) ⊎ (tracked ≡ Some area)
 
 -- The bank tracks an area of this number and this XCOMP_BV, and component c wasn't changed since.
 abbrev pub is_unmodified : Option Tracked → ℕ → ℕ → ℕ → Bool
@@ -109,9 +108,13 @@ pub record IsKept (file : File) (area : List ℕ) (r : Row) : Type 0 where
   pub absent : has (xstate_bv area) r.comp.0 ≡ false → part file r.comp.0 ≡ initial_part r.comp.0
   pub control : r.comp.0 ≡ 1 → is_compacted (xcomp_bv area) ≡ true → file.mxcsr ≡ control_in area
 
--- What a save may rely on: each component of the mask that the bank holds for unmodified stands in the area.
+-- Each component of the mask that wasn't changed since this area was loaded stands in it for the file's.
+abbrev pub StandsUnmodified : File → Option Tracked → ℕ → ℕ → List ℕ → Type 0
+StandsUnmodified file tracked id mask area = (i : ℕ) (r : Row) → slice_get file.rows i ≡ Some r → has mask r.comp.0 ≡ true → is_unmodified tracked id (xcomp_bv area) r.comp.0 ≡ true → IsKept file area r
+
+-- What a save may rely on.
 abbrev pub IsReady : Bank → ℕ → ℕ → List ℕ → Type 0
-IsReady bank id mask area = (i : ℕ) (r : Row) → slice_get bank.file.rows i ≡ Some r → has mask r.comp.0 ≡ true → is_unmodified bank.tracked id (xcomp_bv area) r.comp.0 ≡ true → IsKept bank.file area r
+IsReady bank id mask area = StandsUnmodified bank.file bank.tracked id mask area
 
 -- ---- saves with a free choice
 

@@ -37,7 +37,7 @@ pub trait Bank: Drop {
     /// (SDM volume 1, 13.14).
     fn read(&mut self, place: Place) -> Result<Lane, Trap>
         requires { (name : List ℕ) × IsRegister (state self.old).file.rows name place }
-        ensures trap { MatchResult result (λ _. banks.read_trap (state self.old) place ≡ None) (λ t. banks.read_trap (state self.old) place ≡ Some t) }
+        ensures trap { MatchResult result (λ _. banks.read_trap (state self.old).armed place ≡ None) (λ t. banks.read_trap (state self.old).armed place ≡ Some t) }
         ensures lane { IfOk result (λ lane. lane ≡ read_place (state self.old).file place) }
         ensures after { IfOk result (λ lane. state self.new ≡ banks.after_read (state self.old) place lane) }
         ensures kept { IfErr result (λ _. state self.new ≡ state self.old) };
@@ -48,7 +48,7 @@ pub trait Bank: Drop {
         requires register { (name : List ℕ) × IsRegister (state self.old).file.rows name place }
         requires len { length lane.now ≡ place.len }
         requires control { is_mxcsr place ≡ true → (slice_index lane.now 2 ≡ 0) × (slice_index lane.now 3 ≡ 0) }
-        ensures trap { MatchResult result (λ _. banks.write_trap (state self.old) place ≡ None) (λ t. banks.write_trap (state self.old) place ≡ Some t) }
+        ensures trap { MatchResult result (λ _. banks.write_trap (state self.old).armed place ≡ None) (λ t. banks.write_trap (state self.old).armed place ≡ Some t) }
         ensures after { IfOk result (λ _. state self.new ≡ banks.after_write (state self.old) place lane.now) }
         ensures ready { IfOk result (λ _. (id m : ℕ) (area : List ℕ) → banks.IsReady (state self.old) id m area → banks.IsReady (state self.new) id m area) }
         ensures kept { IfErr result (λ _. state self.new ≡ state self.old) };
@@ -105,7 +105,7 @@ pub trait Bank: Drop {
         requires places { (i : ℕ) (r : Row) → slice_get (state self.old).file.rows i ≡ Some r → has mask.0 r.comp.0 ≡ true → has (xstate_bv area.now.bytes.items) r.comp.0 ≡ true → r.offset + r.size ≤ length area.now.bytes.items }
         ensures trap { MatchResult result (λ _. load.standard_trap (state self.old).file.rows (state self.old).armed mask.0 area.now.bytes.items ≡ None) (λ t. load.standard_trap (state self.old).file.rows (state self.old).armed mask.0 area.now.bytes.items ≡ Some t) }
         ensures loaded { IfOk result (λ _. load.IsLoaded mask.0 area.now.bytes.items (load.standard_control mask.0 area.now.bytes.items (state self.old).file.mxcsr) (state self.old).file (state self.new).file) }
-        ensures tracked { IfOk result (λ _. banks.TracksAtMost (state self.new).tracked (banks.loaded_from (state self.old).file.rows area.now.id mask.0 area.now.bytes.items)) }
+        ensures tracked { IfOk result (λ _. (state self.new).tracked ≡ Some (banks.loaded_from (state self.old).file.rows area.now.id mask.0 area.now.bytes.items)) }
         ensures bank { IfOk result (λ _. state self.new ≡ record (state self.old) { file = (state self.new).file; tracked = (state self.new).tracked; loads = trail.counted (state self.old).loads }) }
         ensures kept { IfErr result (λ _. state self.new ≡ state self.old) }
         ensures ready { IfOk result (λ _. (m : ℕ) → banks.IsReady (state self.new) area.now.id m area.now.bytes.items) }
@@ -121,7 +121,7 @@ pub trait Bank: Drop {
         requires places { is_compacted (xcomp_bv area.now.bytes.items) ≡ true → HoldsPlaces (state self.old).file.rows area.now.bytes.items (xcomp_bv area.now.bytes.items) }
         ensures trap { MatchResult result (λ _. load.compacted_trap (state self.old).file.rows (state self.old).armed mask.0 area.now.bytes.items ≡ None) (λ t. load.compacted_trap (state self.old).file.rows (state self.old).armed mask.0 area.now.bytes.items ≡ Some t) }
         ensures loaded { IfOk result (λ _. load.IsLoaded mask.0 area.now.bytes.items (load.compacted_control mask.0 area.now.bytes.items (state self.old).file.mxcsr) (state self.old).file (state self.new).file) }
-        ensures tracked { IfOk result (λ _. banks.TracksAtMost (state self.new).tracked (banks.loaded_from (state self.old).file.rows area.now.id mask.0 area.now.bytes.items)) }
+        ensures tracked { IfOk result (λ _. (state self.new).tracked ≡ Some (banks.loaded_from (state self.old).file.rows area.now.id mask.0 area.now.bytes.items)) }
         ensures bank { IfOk result (λ _. state self.new ≡ record (state self.old) { file = (state self.new).file; tracked = (state self.new).tracked; loads = trail.counted (state self.old).loads }) }
         ensures kept { IfErr result (λ _. state self.new ≡ state self.old) }
         ensures ready { IfOk result (λ _. (m : ℕ) → banks.IsReady (state self.new) area.now.id m area.now.bytes.items) }

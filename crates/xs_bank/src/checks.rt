@@ -22,7 +22,7 @@ const MOST_MXCSR: u32 = 0xffff;
 
 /// Whether a read of the register traps: it is one of TILEDATA, and that is armed.
 pub fn read_trap(armed: Features, place: Place) -> Option<Trap>
-    ensures { result ≡ (if has armed.0 18 && (place.comp.0 == 18) then Some (Nm (record { 0 = load.tiles })) else None) }
+    ensures { result ≡ banks.read_trap armed.0 place }
 {
     if armed.has(Comp(18)) && place.comp.0 == 18 {
         return Some(Trap::Nm(TILES));
@@ -32,7 +32,7 @@ pub fn read_trap(armed: Features, place: Place) -> Option<Trap>
 
 /// Whether a write of the register traps: it is one of TILECFG or of TILEDATA, and TILEDATA is armed.
 pub fn write_trap(armed: Features, place: Place) -> Option<Trap>
-    ensures { result ≡ (if has armed.0 18 && ((place.comp.0 == 17) || (place.comp.0 == 18)) then Some (Nm (record { 0 = load.tiles })) else None) }
+    ensures { result ≡ banks.write_trap armed.0 place }
 {
     if armed.has(Comp(18)) && (place.comp.0 == 17 || place.comp.0 == 18) {
         return Some(Trap::Nm(TILES));

@@ -15,7 +15,7 @@ use xs_area::Area;
 use xs_base::{Features, Lane, Place};
 use xs_layout::Layout;
 
-/// A bank that writes every component that it is asked to save, and tracks no area.
+/// A bank that writes every component that it is asked to save.
 #[derive(Drop)]
 pub struct PlainBank {
     registers: Registers,
@@ -40,7 +40,7 @@ impl PlainBank {
 }
 
 impl Bank for PlainBank {
-    ghost state = { λ b. record { file = b.registers.file; armed = b.registers.armed; tracked = None; execs = b.execs; loads = b.loads; saves = b.saves } };
+    ghost state = { λ b. record { file = b.registers.file; armed = b.registers.armed; tracked = b.registers.tracked; execs = b.execs; loads = b.loads; saves = b.saves } };
 
     fn set_up(&mut self, layout: &Layout) {
         self.registers.set_up(layout);
@@ -79,13 +79,13 @@ impl Bank for PlainBank {
     }
 
     fn xrstor(&mut self, mask: Features, area: &Area) -> Result<(), Trap> {
-        self.registers.load_standard(mask, &area.bytes)?;
+        self.registers.load_standard(area.id, mask, &area.bytes)?;
         self.loads = counted(self.loads);
         Ok(())
     }
 
     fn xrstors(&mut self, mask: Features, area: &Area) -> Result<(), Trap> {
-        self.registers.load_compacted(mask, &area.bytes)?;
+        self.registers.load_compacted(area.id, mask, &area.bytes)?;
         self.loads = counted(self.loads);
         Ok(())
     }
@@ -107,6 +107,7 @@ impl Bank for PlainBank {
     }
 
     fn loads(&self) -> u64 {
+        // The file is one of its machine.
         let _ = self.registers.file().layout();
         self.loads
     }

@@ -4,13 +4,12 @@ ghost use Rattle.std.specs.Prelude.{◌≡◌, None, IfOk};
 ghost use Rattle.xs_bank.specs.Bank as banks;
 ghost use Rattle.xs_base.specs.File.{initial_file};
 ghost use Rattle.xs_base.specs.Layout.{avx_rows};
-ghost use Rattle.xs_bank.specs.Tracking.{shown};
 
 use crate::bank::Bank;
 use crate::instruction::{Execs, Trap};
 use crate::registers::Registers;
 use crate::saving::{save_compacted, save_standard};
-use crate::tracking::{LoadedArea, one, to_save_compacted, to_save_standard, touch, track};
+use crate::tracking::{to_save_compacted, to_save_standard};
 use crate::trail::{READ, WRITE, counted, executed, released};
 use std::alloc::{AllocError, Global};
 use xs_area::Area;
@@ -22,7 +21,6 @@ use xs_layout::Layout;
 #[derive(Drop)]
 pub struct TrackBank {
     registers: Registers,
-    tracked: Option<LoadedArea>,
     execs: Execs,
     loads: u64,
     saves: u64,
@@ -36,7 +34,6 @@ impl TrackBank {
     {
         Ok(TrackBank {
             registers: Registers::new(alloc)?,
-            tracked: None,
             execs: Execs { count: 0, trail: 0 },
             loads: 0,
             saves: 0,
@@ -45,11 +42,10 @@ impl TrackBank {
 }
 
 impl Bank for TrackBank {
-    ghost state = { λ b. record { file = b.registers.file; armed = b.registers.armed; tracked = shown b.tracked; execs = b.execs; loads = b.loads; saves = b.saves } };
+    ghost state = { λ b. record { file = b.registers.file; armed = b.registers.armed; tracked = b.registers.tracked; execs = b.execs; loads = b.loads; saves = b.saves } };
 
     fn set_up(&mut self, layout: &Layout) {
         self.registers.set_up(layout);
-        self.tracked = None;
     }
 
     fn read(&mut self, place: Place) -> Result<Lane, Trap> {
@@ -60,14 +56,12 @@ impl Bank for TrackBank {
 
     fn write(&mut self, place: Place, lane: &Lane) -> Result<(), Trap> {
         self.registers.write(place, lane)?;
-        self.tracked = touch(self.tracked, one(place.comp));
         self.execs = executed(self.execs, WRITE, place, lane.as_slice());
         Ok(())
     }
 
     fn tile_release(&mut self) {
         self.registers.release();
-        self.tracked = touch(self.tracked, Features(0x60000));
         self.execs = released(self.execs);
     }
 
@@ -80,7 +74,7 @@ impl Bank for TrackBank {
         let written = to_save_standard(
             self.registers.file(),
             mask,
-            self.tracked,
+            self.registers.tracked(),
             area.id,
             &area.bytes,
         );
@@ -92,7 +86,7 @@ impl Bank for TrackBank {
         let written = to_save_compacted(
             self.registers.file(),
             mask,
-            self.tracked,
+            self.registers.tracked(),
             area.id,
             &area.bytes,
         );
@@ -101,15 +95,13 @@ impl Bank for TrackBank {
     }
 
     fn xrstor(&mut self, mask: Features, area: &Area) -> Result<(), Trap> {
-        self.registers.load_standard(mask, &area.bytes)?;
-        self.tracked = track(self.registers.file().layout(), area.id, mask, &area.bytes);
+        self.registers.load_standard(area.id, mask, &area.bytes)?;
         self.loads = counted(self.loads);
         Ok(())
     }
 
     fn xrstors(&mut self, mask: Features, area: &Area) -> Result<(), Trap> {
-        self.registers.load_compacted(mask, &area.bytes)?;
-        self.tracked = track(self.registers.file().layout(), area.id, mask, &area.bytes);
+        self.registers.load_compacted(area.id, mask, &area.bytes)?;
         self.loads = counted(self.loads);
         Ok(())
     }
@@ -120,12 +112,10 @@ impl Bank for TrackBank {
 
     fn wrpkru(&mut self, value: u32) {
         self.registers.set_pkru(value);
-        self.tracked = touch(self.tracked, Features::PKRU);
     }
 
     fn set_xfd(&mut self, armed: Features) {
         self.registers.arm(armed);
-        self.tracked = touch(self.tracked, armed);
     }
 
     fn execs(&self) -> Execs {
@@ -133,6 +123,7 @@ impl Bank for TrackBank {
     }
 
     fn loads(&self) -> u64 {
+        // The file is one of its machine.
         let _ = self.registers.file().layout();
         self.loads
     }

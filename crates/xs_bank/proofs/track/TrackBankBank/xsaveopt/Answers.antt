@@ -18,14 +18,14 @@ returns-clause-area c =
     rw (with_items_is c.args.area.now.bytes c.save_standard.new.into len) (record {
       written = c.to_save_standard-written.result.0;
       within = c.to_save_standard-written.ensures.within;
-      left = rw (c.file.ensures.file, c.deref.ensures.value) at c.to_save_standard-written.ensures.left;
+      left = rw (c.file.ensures.file, c.tracked.ensures, c.deref.ensures.value) at c.to_save_standard-written.ensures.left;
       saved = rw (c.file-2.ensures.file, c.deref_mut.ensures.value) at c.save_standard.ensures.saved;
     })
 
 -- what is left out stands in the area
 stands_is : (c : goal.After-self-1) → StandsWithin c.args.mask.0 c.save_standard.new.into c.args.self.now.registers.file
 stands_is c =
-    let left = rw (c.file.ensures.file, c.deref.ensures.value) at c.to_save_standard-written.ensures.left in
+    let left = rw (c.file.ensures.file, c.tracked.ensures, c.deref.ensures.value) at c.to_save_standard-written.ensures.left in
     let stands = rw (c.file-2.ensures.file, c.deref_mut.ensures.value) at c.save_standard.ensures.stands in
     stands c.requires.standard (λ i r row wanted used off. c.requires.ready i r row wanted (left r.comp.0 wanted used off))
 
