@@ -1,12 +1,10 @@
 -- What the instructions of a bank keep from turn to turn.
 use Rattle.std.proofs.Common.{◌≡◌, ℕ, ◌≤◌, true, List, length}
 use Rattle.xs_base.specs.declared.component.Row.{Row}
-use Rattle.xs_base.specs.declared.component.Place.{Place}
 use Rattle.xs_base.specs.Area.{HoldsPlaces}
 use Rattle.xs_base.specs.Compact.{compact_size}
 use Rattle.xs_base.specs.Header.{xcomp_bv}
 use Rattle.xs_base.specs.Layout.{has_row}
-use Rattle.xs_base.specs.Register.{IsRegister}
 use Rattle.xs_base.specs.Sets.{has}
 use Rattle.xs_bank.specs.Bank.{Bank, IsReady}
 
@@ -18,9 +16,8 @@ pub record CanBeSaved (bank : Bank) (rows : List Row) (mask id : ℕ) (area : Li
   pub long : 8192 ≤ length area
   pub ready : IsReady bank id mask area
 
--- The area can be loaded in the compacted format, and the register read.
-pub record CanBeLoaded (bank : Bank) (rows : List Row) (place : Place) (area : List ℕ) : Type 0 where
+-- The area can be loaded in the compacted format.
+pub record CanBeLoaded (bank : Bank) (rows : List Row) (area : List ℕ) : Type 0 where
   pub rows_are : bank.file.rows ≡ rows
   pub header : 576 ≤ length area
   pub places : HoldsPlaces rows area (xcomp_bv area)
-  pub register : (name : List ℕ) × IsRegister rows name place

@@ -17,21 +17,21 @@ use Rattle.xs_base.proofs.SetLemmas.{has_or}
 use Rattle.std.proofs.lemmas.Bool.{ne_eqb, false≢true}
 use Rattle.xs_base.proofs.ByteLemmas.{length_splice, splice_above, range_same}
 
--- ---- a change of bytes 160 to 167
+-- ---- a change of eight bytes: 160 to 167, and XSTATE_BV
 
-changed_range : (bytes old : List ℕ) (from to : ℕ) → length bytes ≡ 8 → 168 ≤ from → 576 ≤ length old → to ≤ 576 → slice_range (splice 160 bytes old) from to ≡ slice_range old from to
-changed_range bytes old from to eight low long high =
-    let fits : 160 + length bytes ≤ length old = omega arith in
-    let len = length_splice 160 bytes old fits in
-    range_same from to (splice 160 bytes old) old (omega arith) (omega arith) (λ k above below. splice_above 160 bytes old k fits (omega arith))
+changed_range : (at : ℕ) (bytes old : List ℕ) (from to : ℕ) → length bytes ≡ 8 → at + 8 ≤ from → 576 ≤ length old → from ≤ to → to ≤ 576 → slice_range (splice at bytes old) from to ≡ slice_range old from to
+changed_range at bytes old from to eight low long order high =
+    let fits : at + length bytes ≤ length old = omega arith in
+    let len = length_splice at bytes old fits in
+    range_same from to (splice at bytes old) old (omega arith) (omega arith) (λ k above below. splice_above at bytes old k fits (omega arith))
 
 pub changed_bits : (bytes old : List ℕ) → length bytes ≡ 8 → 576 ≤ length old → xstate_bv (splice 160 bytes old) ≡ xstate_bv old
 unfolding xstate_bv
-changed_bits bytes old eight long = ap (from_le_bytes w64) (changed_range bytes old 512 520 eight (omega arith) long (omega arith))
+changed_bits bytes old eight long = ap (from_le_bytes w64) (changed_range 160 bytes old 512 520 eight (omega arith) long (omega arith) (omega arith))
 
-pub changed_names : (bytes old : List ℕ) → length bytes ≡ 8 → 576 ≤ length old → xcomp_bv (splice 160 bytes old) ≡ xcomp_bv old
+pub changed_names : (at : ℕ) (bytes old : List ℕ) → length bytes ≡ 8 → 576 ≤ length old → at ≤ 512 → xcomp_bv (splice at bytes old) ≡ xcomp_bv old
 unfolding xcomp_bv
-changed_names bytes old eight long = ap (from_le_bytes w64) (changed_range bytes old 520 528 eight (omega arith) long (omega arith))
+changed_names at bytes old eight long low = ap (from_le_bytes w64) (changed_range at bytes old 520 528 eight (omega arith) long (omega arith) (omega arith))
 
 -- ---- an area that can be read
 

@@ -6,14 +6,17 @@ ghost use Rattle.std.specs.Prelude.{◌≡◌, ℕ, List, IfSome};
 ghost use Rattle.xs_bank.specs.Bank.{IsReady};
 
 use crate::command::{BankCall, BankKind};
-use crate::inputs::{area_of, zero_area};
-use crate::repeats::{change, sum_with};
+use crate::inputs::{full_area, zero_area};
+use crate::repeats::{change, put_state, sum_with};
 use std::alloc::{AllocError, Global};
 use xs_area::{Area, Class, class_features, holds_named};
 use xs_bank::{Bank, PlainBank, TrackBank};
 use xs_base::{Features, Lane};
 use xs_layout::Layout;
 use xs_regs::place_of;
+
+/// Every component.
+const ALL: Features = Features(u64::MAX);
 
 /// Makes an instruction so many times over the machine `amx`, and answers the sum; None where its inputs don't meet its
 /// conditions.
@@ -37,7 +40,7 @@ fn repeat_call<B: Bank>(
     turns: u64,
 ) -> Result<Option<u64>, AllocError> {
     let layout = Layout::amx();
-    let mut area = area_of(alloc, 1, &layout, state_of(call))?;
+    let mut area = full_area(alloc, 1, &layout)?;
     let mut other = zero_area(alloc, 2, area.bytes.len())?;
     start(bank, &layout);
     Ok(match call {
@@ -45,19 +48,10 @@ fn repeat_call<B: Bank>(
         BankCall::SaveOne => save_one(bank, &layout, &mut area, turns),
         BankCall::SaveUnmodified => save_unmodified(bank, &layout, &mut area, turns),
         BankCall::SaveInitial => repeat_saves(bank, &layout, &mut area, turns),
-        BankCall::LoadFull | BankCall::LoadOne | BankCall::LoadInitial => {
-            repeat_loads(bank, &layout, &mut area, turns)
-        }
+        BankCall::LoadFull => repeat_loads(bank, &layout, &mut area, ALL, turns),
+        BankCall::LoadOne => repeat_loads(bank, &layout, &mut area, Features::SSE, turns),
+        BankCall::LoadInitial => repeat_loads(bank, &layout, &mut area, Features(0), turns),
     })
-}
-
-/// The components that the first area has state of.
-fn state_of(call: BankCall) -> Features {
-    match call {
-        BankCall::LoadOne => Features::SSE,
-        BankCall::LoadInitial => Features(0),
-        _ => Features(u64::MAX),
-    }
 }
 
 /// Sets a bank up with nothing armed: it tracks no area.
@@ -155,11 +149,18 @@ fn repeat_saves<B: Bank>(bank: &mut B, layout: &Layout, area: &mut Area, turns: 
     Some(sum)
 }
 
-/// Loads every component of the machine but PKRU, and takes the first byte of XMM0 into the sum at the end.
-fn repeat_loads<B: Bank>(bank: &mut B, layout: &Layout, area: &mut Area, turns: u64) -> Option<u64>
+/// Loads every component of the machine but PKRU, from the area that in turn has state of each of them and of those of the
+/// set alone. So a component outside the set comes from the area in one turn and is made initial in the next, and each load has
+/// to move all of them. Takes the first byte of XMM0 and that of TMM0 into the sum at the end.
+fn repeat_loads<B: Bank>(
+    bank: &mut B,
+    layout: &Layout,
+    area: &mut Area,
+    set: Features,
+    turns: u64,
+) -> Option<u64>
     requires { (B.state bank.old).file.rows ≡ layout.now }
 {
-    let place = place_of("xmm0", layout)?;
     let mask = class_features(layout, Class::Large);
     if !holds_named(layout, area) {
         return None;
@@ -167,10 +168,32 @@ fn repeat_loads<B: Bank>(bank: &mut B, layout: &Layout, area: &mut Area, turns: 
     let mut sum: u64 = 0;
     'turns: for turn in 0..turns {
         change(&mut area.bytes, turn);
+        put_state(&mut area.bytes, state_of(mask, set, turn));
         bank.xrstors(mask, area).ok()?;
         sum = sum.wrapping_mul(31).wrapping_add(u64::from(bank.rdpkru()));
     }
-    let lane = bank.read(place).ok()?;
-    let first = *lane.as_slice().first()?;
-    Some(sum.wrapping_add(u64::from(first)))
+    let sse = first_byte(bank, layout, "xmm0")?;
+    let tile = first_byte(bank, layout, "tmm0.0")?;
+    Some(
+        sum.wrapping_add(u64::from(sse))
+            .wrapping_add(u64::from(tile)),
+    )
+}
+
+/// The components that an area has state of in a turn: all of the mask in the even ones, those of the set in the odd ones.
+fn state_of(mask: Features, set: Features, turn: u64) -> Features {
+    if turn % 2 == 0 {
+        mask
+    } else {
+        Features(mask.0 & set.0)
+    }
+}
+
+/// The first byte of a register. None where the machine lacks it, or the instruction is refused.
+fn first_byte<B: Bank>(bank: &mut B, layout: &Layout, name: &str) -> Option<u8>
+    requires { (B.state bank.old).file.rows ≡ layout.now }
+    ensures { IfSome result (λ _. (B.state bank.new).file.rows ≡ layout.now) }
+{
+    let lane = bank.read(place_of(name, layout)?).ok()?;
+    lane.as_slice().first().copied()
 }

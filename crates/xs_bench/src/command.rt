@@ -1,8 +1,7 @@
 //! The words of the command line.
 
 ghost use Rattle.std.specs.Prelude.{◌≡◌, decimal, map, string_bytes, IfSome};
-ghost use Rattle.xs_bench.specs.Words.{bank_word, call_word, machine_word, machine_rows, Spells};
-ghost use Rattle.xs_bench.specs.declared.command.BankKind.TheVariants as kinds;
+ghost use Rattle.xs_bench.specs.Words.{bank_call_word, call_word, kind_word, machine_word, machine_rows, Spells};
 
 use xs_base::Features;
 use xs_layout::Layout;
@@ -38,9 +37,9 @@ pub enum BankCall {
     SaveInitial,
     /// `Bank::xrstors` of an area that has state of every component.
     LoadFull,
-    /// `Bank::xrstors` of an area that has state of SSE alone.
+    /// `Bank::xrstors` of an area that in turn has state of every component and of SSE alone.
     LoadOne,
-    /// `Bank::xrstors` of an area that has no state.
+    /// `Bank::xrstors` of an area that in turn has state of every component and of none.
     LoadInitial,
 }
 
@@ -172,51 +171,40 @@ fn call_of(word: &str) -> Option<Call>
     }
 }
 
-/// The call on a bank of this name.
+/// The call on a bank of this name: the bank, a dash, and the instruction.
 fn bank_call_of(word: &str) -> Option<Call>
     ensures { IfSome result (λ call. word.now ≡ call_word call) }
 {
-    if let Some(call) = plain_call_of(word) {
-        return Some(Call::Bank {
-            kind: BankKind::Plain,
-            call,
-        });
-    }
-    let call = track_call_of(word)?;
+    let (bank, instruction) = word.split_once('-')?;
     Some(Call::Bank {
-        kind: BankKind::Track,
-        call,
+        kind: kind_of(bank)?,
+        call: instruction_of(instruction)?,
     })
 }
 
-/// The call on a plain bank of this name.
-fn plain_call_of(word: &str) -> Option<BankCall>
-    ensures { IfSome result (λ call. word.now ≡ bank_word kinds.Plain call) }
+/// The bank of this name.
+fn kind_of(word: &str) -> Option<BankKind>
+    ensures { IfSome result (λ kind. word.now ≡ kind_word kind) }
 {
     match word {
-        "plain-xsaves-full" => Some(BankCall::SaveFull),
-        "plain-xsaves-one" => Some(BankCall::SaveOne),
-        "plain-xsaves-unmodified" => Some(BankCall::SaveUnmodified),
-        "plain-xsaves-initial" => Some(BankCall::SaveInitial),
-        "plain-xrstors-full" => Some(BankCall::LoadFull),
-        "plain-xrstors-one" => Some(BankCall::LoadOne),
-        "plain-xrstors-initial" => Some(BankCall::LoadInitial),
+        "plain" => Some(BankKind::Plain),
+        "track" => Some(BankKind::Track),
         _ => None,
     }
 }
 
-/// The call on a tracking bank of this name.
-fn track_call_of(word: &str) -> Option<BankCall>
-    ensures { IfSome result (λ call. word.now ≡ bank_word kinds.Track call) }
+/// The instruction of this name.
+fn instruction_of(word: &str) -> Option<BankCall>
+    ensures { IfSome result (λ call. word.now ≡ bank_call_word call) }
 {
     match word {
-        "track-xsaves-full" => Some(BankCall::SaveFull),
-        "track-xsaves-one" => Some(BankCall::SaveOne),
-        "track-xsaves-unmodified" => Some(BankCall::SaveUnmodified),
-        "track-xsaves-initial" => Some(BankCall::SaveInitial),
-        "track-xrstors-full" => Some(BankCall::LoadFull),
-        "track-xrstors-one" => Some(BankCall::LoadOne),
-        "track-xrstors-initial" => Some(BankCall::LoadInitial),
+        "xsaves-full" => Some(BankCall::SaveFull),
+        "xsaves-one" => Some(BankCall::SaveOne),
+        "xsaves-unmodified" => Some(BankCall::SaveUnmodified),
+        "xsaves-initial" => Some(BankCall::SaveInitial),
+        "xrstors-full" => Some(BankCall::LoadFull),
+        "xrstors-one" => Some(BankCall::LoadOne),
+        "xrstors-initial" => Some(BankCall::LoadInitial),
         _ => None,
     }
 }

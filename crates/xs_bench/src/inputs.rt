@@ -42,26 +42,16 @@ pub fn full_image(alloc: Global, file: &File) -> Result<Vec<u8>, AllocError> {
     Ok(image)
 }
 
-/// An area of the compacted format with every component but PKRU, each named in XSTATE_BV too.
-pub fn full_area(alloc: Global, id: u64, layout: &Layout) -> Result<Area, AllocError> {
-    let names = layout.features().0 & !Features::PKRU.0;
-    let size = layout.compact_size(Features(names)) as usize;
-    let mut bytes = vec![in alloc; 0u8; size]?;
-    put(&mut bytes, 512, &names.to_le_bytes());
-    put(&mut bytes, 520, &(names | 1 << 63).to_le_bytes());
-    Ok(Area { id, bytes })
-}
-
-/// An area of the compacted format with every component but PKRU, whose registers have the byte 1 throughout, that has state
-/// of those of them that are of the set.
-pub fn area_of(alloc: Global, id: u64, layout: &Layout, set: Features) -> Result<Area, AllocError>
+/// An area of the compacted format with every component but PKRU, whose registers have the byte 1 throughout. It has state
+/// of each of its components.
+pub fn full_area(alloc: Global, id: u64, layout: &Layout) -> Result<Area, AllocError>
     ensures { IfOk result (λ area. area.id ≡ id) }
 {
     let names = class_features(layout, Class::Large);
     let mut bytes = vec![in alloc; 1u8; class_size(layout, Class::Large) as usize]?;
     put(&mut bytes, 24, &INITIAL_MXCSR.to_le_bytes());
     clear(&mut bytes, 512, 64);
-    put(&mut bytes, 512, &(names.0 & set.0).to_le_bytes());
+    put(&mut bytes, 512, &names.0.to_le_bytes());
     put(&mut bytes, 520, &compacted(names).0.to_le_bytes());
     Ok(Area { id, bytes })
 }

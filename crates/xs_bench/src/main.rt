@@ -1,5 +1,5 @@
-//! `xs_bench`: prints the table of a machine or the places of its components, or makes one of the calls of the layers many times so that a clock can
-//! tell its time.
+//! `xs_bench`: prints the table of a machine or the places of its components, or makes one of the calls of the layers many
+//! times so that a clock can tell its time.
 #![tactic(auto)]
 
 mod banks;
@@ -20,9 +20,18 @@ use std::env;
 use std::io::{self, ErrorKind};
 use std::process::ExitCode;
 
-/// The line that answers other words than a command.
-const USAGE: &str =
-    "usage: xs_bench layout amx|avx | places amx|avx MASK | repeat standard-into|standard-of|compact-of|copy-area|copy|copy-compacted|copy-one|copy-header|nothing N | repeat plain|track-xsaves-full|one|unmodified|initial N | repeat plain|track-xrstors-full|one|initial N";
+/// What answers other words than a command.
+const USAGE: &str = "\
+usage: xs_bench layout MACHINE
+       xs_bench places MACHINE MASK
+       xs_bench repeat CALL N
+       xs_bench repeat BANK-INSTRUCTION N
+MACHINE: amx, avx
+MASK: the number of a set of components, in decimal
+N: how many times the call is made
+CALL: standard-into, standard-of, compact-of, copy-area, copy, copy-compacted, copy-one, copy-header, nothing
+BANK: plain, track
+INSTRUCTION: xsaves-full, xsaves-one, xsaves-unmodified, xsaves-initial, xrstors-full, xrstors-one, xrstors-initial";
 
 /// Does what the command line asks. The status is 0, 64 for words that are no command, 6 where there was no memory, 5
 /// where standard output failed, and 70 where the inputs of a call don't meet its conditions.

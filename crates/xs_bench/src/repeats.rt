@@ -178,3 +178,12 @@ pub fn change(bytes: &mut [u8], turn: u64)
 {
     put(bytes, CHANGED, &turn.to_le_bytes());
 }
+
+/// Writes XSTATE_BV of an area (SDM volume 1, 13.4.2).
+pub fn put_state(bytes: &mut [u8], bits: Features)
+    requires { 576 ≤ length bytes.old }
+    ensures len { length bytes.new ≡ length bytes.old }
+    ensures names { header.xcomp_bv bytes.new ≡ header.xcomp_bv bytes.old }
+{
+    put(bytes, 512, &bits.0.to_le_bytes());
+}
