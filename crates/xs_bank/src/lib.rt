@@ -14,6 +14,8 @@ mod instruction;
 mod loading;
 #[cfg(test)]
 mod log;
+#[cfg(test)]
+mod optimisation_tests;
 mod plain;
 #[cfg(test)]
 mod random;

@@ -1,6 +1,10 @@
 //! Reasons against a load, in every set, and instructions on armed tiles.
 
-use crate::fixtures::{Refusal, arm, load_compacted, load_standard, read, write, zeros};
+ghost use Rattle.std.specs.Prelude.{◌≡◌};
+
+use crate::fixtures::{
+    Refusal, arm, load_compacted, load_standard, read, save_buffer, start, write, zeros,
+};
 use crate::{Bank, PlainBank, TrackBank, Trap};
 use std::process::Abort;
 use std::test::Fail;
@@ -238,5 +242,70 @@ fn tiles_trap<B: Bank>(rt: &impl Abort, bank: &mut B) {
 fn armed_tiles_trap(rt: HostRuntime) -> Result<(), Fail> {
     tiles_trap(&rt, &mut PlainBank::new(rt.alloc())?);
     tiles_trap(&rt, &mut TrackBank::new(rt.alloc())?);
+    Ok(())
+}
+
+/// Loads that are refused for a byte of the header, for tiles, and for MXCSR.
+fn refused_loads<B: Bank>(rt: &impl Abort, bank: &mut B, layout: &Layout, area: &mut Area)
+    requires { (B.state bank.old).file.rows ≡ layout.now }
+    ensures { (B.state bank.new).file.rows ≡ layout.now }
+{
+    let mask = Features(0x600e7);
+    let _ = put_causes(area, COMPACTED | 0x60003, &[Cause::Byte(528)], 1);
+    assert_eq!(rt;
+        load_compacted(bank, layout, mask, area),
+        refused(Some(Trap::Gp(HeaderError::Reserved)))
+    );
+    let _ = put_causes(area, COMPACTED | 0x60003, &[Cause::Tiles], 1);
+    assert_eq!(rt;
+        load_compacted(bank, layout, mask, area),
+        refused(Some(Trap::Nm(Features::TILEDATA)))
+    );
+    let _ = put_causes(area, 0, &[Cause::WrongMxcsr], 1);
+    assert_eq!(rt;
+        load_standard(bank, layout, mask, area),
+        refused(Some(Trap::Gp(HeaderError::Mxcsr)))
+    );
+}
+
+/// Traps of every kind, after which each register is as a save had it before, and so is each count.
+fn traps_change_nothing<B: Bank>(
+    rt: &impl Abort,
+    bank: &mut B,
+    area: &mut Area,
+    before: &mut Area,
+    after: &mut Area,
+) {
+    let amx = Layout::amx();
+    let bytes = [1; 64];
+    let trap = Trap::Nm(Features::TILEDATA);
+    start(bank, &amx);
+    assert_eq!(rt; write(bank, &amx, "st0", bytes), Ok(()));
+    assert_eq!(rt; write(bank, &amx, "mxcsr", bytes), Ok(()));
+    assert_eq!(rt; write(bank, &amx, "zmm16", bytes), Ok(()));
+    let all = amx.features();
+    assert_eq!(rt; save_buffer(bank, &amx, all, &mut before.bytes), Ok(()));
+    let counts = (bank.execs(), bank.loads(), bank.saves());
+    refused_loads(rt, bank, &amx, area);
+    assert_eq!(rt; read(bank, &amx, "tmm0.0"), Err(Refusal::Trapped(trap)));
+    assert_eq!(rt;
+        write(bank, &amx, "tilecfg", bytes),
+        Err(Refusal::Trapped(trap))
+    );
+    assert_eq!(rt; (bank.execs(), bank.loads(), bank.saves()), counts);
+    assert_eq!(rt; save_buffer(bank, &amx, all, &mut after.bytes), Ok(()));
+    assert!(rt; before.bytes == after.bytes);
+}
+
+#[test]
+fn a_trap_changes_nothing(rt: HostRuntime) -> Result<(), Fail> {
+    let alloc = rt.alloc();
+    let mut area = zeros(alloc, 7, 16384)?;
+    let mut before = zeros(alloc, 0, 11008)?;
+    let mut after = zeros(alloc, 0, 11008)?;
+    let mut plain = PlainBank::new(alloc)?;
+    traps_change_nothing(&rt, &mut plain, &mut area, &mut before, &mut after);
+    let mut track = TrackBank::new(alloc)?;
+    traps_change_nothing(&rt, &mut track, &mut area, &mut before, &mut after);
     Ok(())
 }

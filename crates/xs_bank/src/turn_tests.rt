@@ -66,7 +66,7 @@ fn turn<B: Bank>(bank: &mut B, layout: &Layout, areas: &mut Areas, tools: &mut T
     }
 }
 
-/// A machine, four turns of a bank that is set up for it, and now and then new areas.
+/// A machine, the opening and three turns of a bank that is set up for it, and now and then new areas.
 fn round<B: Bank>(bank: &mut B, areas: &mut Areas, tools: &mut Tools) {
     let layout = if tools.random.below(8) == 0 {
         Layout::avx()

@@ -1,0 +1,132 @@
+//! What a save leaves out: a bank with both optimisations leaves bytes as they were, and a plain one writes them.
+
+ghost use Rattle.std.specs.Prelude.{◌≡◌};
+
+use crate::fixtures::{
+    Refusal, load_compacted, load_standard, of_machine, save_compacted, save_standard, start,
+    write, zeros,
+};
+use crate::{Bank, PlainBank, TrackBank};
+use std::alloc::{AllocError, Global};
+use std::test::Fail;
+use xs_area::Area;
+use xs_base::{Features, put};
+use xs_layout::Layout;
+
+/// Every component of the machine `amx` but PKRU and TILEDATA.
+const MASK: Features = Features(0x200e7);
+
+/// Bytes of an area by which a test sees what was written. Byte 5 belongs to x87 and to no register, and a save of x87 makes it
+/// zero. The first byte of AVX, which is initial here, becomes zero where AVX is written.
+#[derive(Clone, Copy, PartialEq, Eq, Debug)]
+struct Traces {
+    x87: Option<u8>,
+    avx: Option<u8>,
+}
+
+/// Where nothing was written.
+const NEITHER: Traces = Traces {
+    x87: Some(1),
+    avx: Some(9),
+};
+
+/// Where x87 was written.
+const X87: Traces = Traces {
+    x87: Some(0),
+    avx: Some(9),
+};
+
+/// Where both were.
+const BOTH: Traces = Traces {
+    x87: Some(0),
+    avx: Some(0),
+};
+
+fn traces_of(area: &Area) -> Traces {
+    Traces {
+        x87: area.bytes.get(5).copied(),
+        avx: area.bytes.get(576).copied(),
+    }
+}
+
+/// An area with state of x87 and SSE, all zero but XMM0, and with both traces. AVX has its place at 576 in either format.
+fn traced(alloc: Global, id: u64, names: u64) -> Result<Area, AllocError> {
+    let mut area = zeros(alloc, id, 2816)?;
+    put(&mut area.bytes, 5, &[1]);
+    put(&mut area.bytes, 160, &[7]);
+    put(&mut area.bytes, 512, &3u64.to_le_bytes());
+    put(&mut area.bytes, 520, &names.to_le_bytes());
+    put(&mut area.bytes, 576, &[9]);
+    Ok(area)
+}
+
+/// The traces after a load and a save into the same area, and after one more save where ST0 was written between.
+fn compacted<B: Bank>(bank: &mut B, area: &mut Area) -> Result<[Traces; 2], Refusal> {
+    let amx = Layout::amx();
+    let mask = of_machine(&amx, MASK);
+    start(bank, &amx);
+    load_compacted(bank, &amx, MASK, area)?;
+    save_compacted(bank, &amx, mask, area)?;
+    let unchanged = traces_of(area);
+    write(bank, &amx, "st0", [1; 64])?;
+    save_compacted(bank, &amx, mask, area)?;
+    Ok([unchanged, traces_of(area)])
+}
+
+/// The same in the standard format.
+fn standard<B: Bank>(bank: &mut B, area: &mut Area) -> Result<[Traces; 2], Refusal> {
+    let amx = Layout::amx();
+    let mask = of_machine(&amx, MASK);
+    start(bank, &amx);
+    load_standard(bank, &amx, MASK, area)?;
+    save_standard(bank, &amx, mask, area)?;
+    let unchanged = traces_of(area);
+    write(bank, &amx, "st0", [1; 64])?;
+    save_standard(bank, &amx, mask, area)?;
+    Ok([unchanged, traces_of(area)])
+}
+
+/// The traces of an area of another number than the one that was loaded, after a save.
+fn moved<B: Bank>(bank: &mut B, from: &Area, to: &mut Area) -> Result<Traces, Refusal> {
+    let amx = Layout::amx();
+    let mask = of_machine(&amx, MASK);
+    if from.id == to.id {
+        return Err(Refusal::NoRoom);
+    }
+    start(bank, &amx);
+    load_compacted(bank, &amx, MASK, from)?;
+    save_compacted(bank, &amx, mask, to)?;
+    Ok(traces_of(to))
+}
+
+/// XCOMP_BV of a compacted area with the places of the mask.
+const NAMES: u64 = 0x8000_0000_0002_00e7;
+
+#[test]
+fn a_bank_that_tracks_leaves_out_what_was_not_changed(rt: HostRuntime) -> Result<(), Fail> {
+    let alloc = rt.alloc();
+    let mut bank = TrackBank::new(alloc)?;
+    let mut area = traced(alloc, 7, NAMES)?;
+    assert_eq!(rt; traces_of(&area), NEITHER);
+    assert_eq!(rt; compacted(&mut bank, &mut area), Ok([NEITHER, X87]));
+    let mut area = traced(alloc, 7, 0)?;
+    assert_eq!(rt; standard(&mut bank, &mut area), Ok([NEITHER, X87]));
+    let from = traced(alloc, 7, NAMES)?;
+    let mut to = traced(alloc, 8, NAMES)?;
+    assert_eq!(rt; moved(&mut bank, &from, &mut to), Ok(X87));
+    Ok(())
+}
+
+#[test]
+fn a_plain_bank_writes_every_component(rt: HostRuntime) -> Result<(), Fail> {
+    let alloc = rt.alloc();
+    let mut bank = PlainBank::new(alloc)?;
+    let mut area = traced(alloc, 7, NAMES)?;
+    assert_eq!(rt; compacted(&mut bank, &mut area), Ok([BOTH, BOTH]));
+    let mut area = traced(alloc, 7, 0)?;
+    assert_eq!(rt; standard(&mut bank, &mut area), Ok([BOTH, BOTH]));
+    let from = traced(alloc, 7, NAMES)?;
+    let mut to = traced(alloc, 8, NAMES)?;
+    assert_eq!(rt; moved(&mut bank, &from, &mut to), Ok(BOTH));
+    Ok(())
+}
