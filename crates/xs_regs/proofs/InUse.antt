@@ -48,19 +48,6 @@ pub not_both : (a b : Bool) → b ≡ false → (a && b) ≡ false
 not_both true b none = none
 not_both false b none = refl
 
--- a bit set, and a bit cleared
-pub put_in : (a same : Bool) → (a || same) ≡ (if same then true else a)
-put_in true true = refl
-put_in true false = refl
-put_in false true = refl
-put_in false false = refl
-
-pub put_out : (a same : Bool) → (a && not same) ≡ (if same then false else a)
-put_out true true = refl
-put_out true false = refl
-put_out false true = refl
-put_out false false = refl
-
 -- Where every part is initial, none is in use.
 pub unused_all : (file : File) → IsLayout file.rows → ((c : ℕ) → c < component_count → part file c ≡ initial_part c) → HasUsed file 0
 unused_all file layout each = record {
