@@ -16,7 +16,6 @@ put_control-requires c = omega (arith, end_low (has c.args.mask.0) c.args.layout
 pub returns-then-has_control-clause-standard : goal.returns-then-has_control-clause-standard
 returns-then-has_control-clause-standard c file h stands =
     let after = with_pkru file c.args.pkru in
-    let area = c.args.area.now.bytes.items in
     let long : 32 ≤ length c.put_components.new.out = omega (arith, end_low (has c.args.mask.0) c.args.layout.now, c.requires.room, c.put_components.ensures.len) in
     let value = stands.control ∙ sym (c.control_in.ensures ∙ ap control_in c.deref-then-has_control.ensures.value) in
     let each = rw c.deref.ensures.value at c.put_components.ensures.each in
