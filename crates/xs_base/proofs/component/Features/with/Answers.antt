@@ -1,5 +1,5 @@
 -- A bit set or cleared.
-use Rattle.std.proofs.Common.{◌≡◌, ◌<◌, ◌^◌, ◌==◌, ◌∙◌, arith}
+use Rattle.std.proofs.Common.{◌<◌, ◌^◌, ◌==◌, ◌∙◌, arith}
 use Rattle.xs_base.specs.Sets.{has}
 use Rattle.xs_base.proofs.SetLemmas.{has_or, has_without, put_in, put_out}
 use Rattle.xs_base.proofs.component.Features.with.Goals as goal

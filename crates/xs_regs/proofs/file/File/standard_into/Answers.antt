@@ -1,5 +1,5 @@
 -- The bytes have room for MXCSR, and with it they are the standard bytes.
-use Rattle.std.proofs.Common.{◌≡◌, length, sym, ap, ◌∙◌, arith}
+use Rattle.std.proofs.Common.{sym, ap, ◌∙◌, arith}
 use Rattle.xs_base.specs.Sets.{has}
 use Rattle.xs_base.specs.Standard.{control_bytes}
 use Rattle.xs_base.specs.Bytes.{splice}
