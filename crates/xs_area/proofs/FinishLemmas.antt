@@ -1,5 +1,6 @@
 -- What is left of an area when its MXCSR and XSTATE_BV are written.
-use Rattle.std.proofs.Common.{◌≡◌, ℕ, ◌+◌, ◌-◌, ◌<◌, ◌≤◌, ◌^◌, ◌==◌, ◌&&◌, ◌||◌, Bool, true, false, List, length, get_or, if◌then◌else◌, refl, sym, ap, ◌∙◌, arith, take, drop}
+use Rattle.std.proofs.Common.{◌≡◌, ℕ, ◌+◌, ◌-◌, ◌<◌, ◌≤◌, ◌^◌, ◌==◌, ◌&&◌, ◌||◌, Bool, true, false, List, length, get_or, if◌then◌else◌, refl, sym, ap, ◌∙◌, arith, take, drop, inl, inr}
+use Rattle.std.proofs.lemmas.Bool.{cases_eq, ne_eqb}
 use Rattle.std.proofs.lemmas.List.{take-take}
 use Rattle.std.proofs.lemmas.Nat.{from_le_bytes-to_le_bytes_4, from_le_bytes-to_le_bytes_8}
 use Rattle.std.specs.Int.{from_le_bytes, to_le_bytes, w32, w64}
@@ -10,8 +11,8 @@ use Rattle.xs_base.specs.Sets.{has}
 use Rattle.xs_base.specs.Standard.{control_bytes}
 use Rattle.xs_base.proofs.ByteLemmas.{length_splice, splice_byte, range_splice, range_same, within_below, within_above, within_in}
 use Rattle.xs_base.proofs.ComponentLemmas.{cleared_byte, length_zeros}
+use Rattle.xs_base.proofs.StandardLemmas.{control_eight}
 use Rattle.xs_area.specs.Copy.{IsFinished}
-use Rattle.xs_area.proofs.HeldLemmas.{control_eight}
 
 -- ---- the numbers of the header
 
@@ -40,6 +41,17 @@ mxcsr_same a b la lb same = ap (from_le_bytes w32) (range_same 24 28 a b la lb s
 pub xcomp_bv_same : (a b : List ℕ) → 528 ≤ length a → 528 ≤ length b → ((k : ℕ) → 520 ≤ k → k < 528 → get_or a k 0 ≡ get_or b k 0) → xcomp_bv a ≡ xcomp_bv b
 unfolding xcomp_bv
 xcomp_bv_same a b la lb same = ap (from_le_bytes w64) (range_same 520 528 a b la lb same)
+
+-- SSE is in the set where its registers were copied, and where its bit is there for MXCSR alone.
+pub sse_more : (copied c : ℕ) (alone : Bool) → (if c == 1 then has copied 1 || alone else has copied c) ≡ (has copied c || ((c == 1) && alone))
+sse_more copied c alone = elim (cases_eq c 1) [
+  | inl same ↦ rw same refl
+  | inr apart ↦ rw (ne_eqb c 1 apart) (or_false (has copied c))
+]
+  where
+    or_false : (b : Bool) → b ≡ (b || false)
+    or_false true = refl
+    or_false false = refl
 
 -- ---- the three writes
 

@@ -1,5 +1,5 @@
 -- What the tests' fixtures look at before a call.
-use Rattle.std.proofs.Common.{◌≡◌, ℕ, ◌+◌, ◌<◌, ◌≤◌, ◌==◌, ◌&&◌, ◌||◌, Bool, true, false, true≢false, not, List, length, get_or, Some, refl, sym, ap, ◌∙◌, arith, inl, inr, ◌⊎◌}
+use Rattle.std.proofs.Common.{◌≡◌, ℕ, ◌+◌, ◌<◌, ◌≤◌, ◌==◌, ◌&&◌, Bool, true, false, true≢false, not, List, length, get_or, if◌then◌else◌, Some, refl, sym, ap, ◌∙◌, arith, inl, inr, ◌⊎◌}
 use Rattle.std.proofs.lemmas.Bool.{cases_lt, ne_eqb, eqb-true}
 use Rattle.std.proofs.lemmas.List.{get_or_default}
 use Rattle.std.specs.Prelude.{slice_get}
@@ -12,24 +12,24 @@ use Rattle.xs_area.specs.Copy.{is_copied}
 use Rattle.xs_area.proofs.TakeLemmas.{row_index}
 
 -- With PKRU again, what is copied is all that is wanted: there is room for it.
-pub room_for : (rows : List Row) (area : List ℕ) (wanted copied back c : ℕ) → ((d : ℕ) → has copied d ≡ is_copied rows area wanted d) → ((d : ℕ) → has back d ≡ (has copied d || ((d == 9) && true))) → (back == wanted) ≡ true → (c ≡ 9 → ⊥) → has wanted c ≡ true → has_room rows area c ≡ true
+pub room_for : (rows : List Row) (area : List ℕ) (wanted copied back c : ℕ) → ((d : ℕ) → has copied d ≡ is_copied rows area wanted d) → ((d : ℕ) → has back d ≡ (if d == 9 then true else has copied d)) → (back == wanted) ≡ true → (c ≡ 9 → ⊥) → has wanted c ≡ true → has_room rows area c ≡ true
 room_for rows area wanted copied back c copies backs same other bit =
-    let first : has back c ≡ true = ap (λ x. has x c) (eqb-true back wanted same) ∙ bit in
-    third (has wanted c) (c == 9) (has_room rows area c) (sym (copies c) ∙ left (has copied c) (c == 9) (ne_eqb c 9 other) (sym (backs c) ∙ first))
+    let there : has back c ≡ true = ap (λ x. has x c) (eqb-true back wanted same) ∙ bit in
+    let first : has copied c ≡ true = sym (backs c ∙ ap (λ b. if b then true else has copied c) (ne_eqb c 9 other)) ∙ there in
+    third (has wanted c) (c == 9) (has_room rows area c) (sym (copies c) ∙ first)
   where
-    left : (a b : Bool) → b ≡ false → (a || (b && true)) ≡ true → a ≡ true
-    left true b off h = refl
-    left false true off h = absurd (true≢false off)
-    left false false off h = h
-
     third : (a b r : Bool) → (a && not b && r) ≡ true → r ≡ true
     third true true r h = absurd (true≢false (sym h))
     third true false r h = h
     third false b r h = absurd (true≢false (sym h))
 
 -- a member is a member of a larger set
-pub or_member : (set larger n c : ℕ) → ((d : ℕ) → has larger d ≡ (has set d || ((d == n) && true))) → has set c ≡ true → has larger c ≡ true
-or_member set larger n c bits bit = bits c ∙ ap (λ b. b || ((c == n) && true)) bit
+pub member_more : (set larger n c : ℕ) → ((d : ℕ) → has larger d ≡ (if d == n then true else has set d)) → has set c ≡ true → has larger c ≡ true
+member_more set larger n c bits bit = bits c ∙ ap (λ b. if c == n then true else b) bit ∙ either (c == n)
+  where
+    either : (b : Bool) → (if b then true else true) ≡ true
+    either true = refl
+    either false = refl
 
 -- The components of the rows before i end within the area.
 abbrev pub AreHeldTo : List Row → List ℕ → ℕ → ℕ → Type 0

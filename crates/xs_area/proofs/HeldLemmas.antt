@@ -1,5 +1,5 @@
 -- What an area holds of a component is the byte of the file that it stands for.
-use Rattle.std.proofs.Common.{◌≡◌, ◌⊎◌, ℕ, ◌+◌, ◌-◌, ◌<◌, ◌≤◌, ◌&&◌, Bool, true, false, List, ◌++◌, length, get_or, drop, Some, if◌then◌else◌, refl, sym, ap, subst, ◌∙◌, arith, inl, inr, get_or-set_same, get_or-set_other, length-append}
+use Rattle.std.proofs.Common.{◌≡◌, ◌⊎◌, ℕ, ◌+◌, ◌-◌, ◌<◌, ◌≤◌, Bool, true, false, List, ◌++◌, length, get_or, drop, Some, if◌then◌else◌, refl, sym, ap, subst, ◌∙◌, arith, inl, inr, get_or-set_same, get_or-set_other, length-append}
 use Rattle.std.proofs.lemmas.Bool.{cases_Bool, cases_eq, cases_lt, ne_eqb}
 use Rattle.std.proofs.lemmas.Bool.Decides.{nat_tests}
 use Rattle.std.proofs.lemmas.List.{get_or-append_right}
@@ -10,27 +10,22 @@ use Rattle.std.specs.Prelude.{slice_range, slice_get}
 use Rattle.xs_base.specs.declared.component.Row.{Row}
 use Rattle.xs_base.specs.Area.{StandsFor}
 use Rattle.xs_base.specs.Sets.{has}
-use Rattle.xs_base.specs.Bytes.{zeros, splice, is_within}
+use Rattle.xs_base.specs.Bytes.{zeros}
 use Rattle.xs_base.specs.Component.{component_size, initial_part}
 use Rattle.xs_base.specs.Compact.{place}
 use Rattle.xs_base.specs.File.{File, IsFile, part, with_pkru, is_own}
 use Rattle.xs_base.specs.Header.{xstate_bv, xcomp_bv}
 use Rattle.xs_base.specs.Layout.{IsLayout, IsSound}
-use Rattle.xs_base.specs.Standard.{IsWritten, IsStandard, component_byte, saved_byte, control_bytes, has_control}
+use Rattle.xs_base.specs.Standard.{IsWritten, component_byte, saved_byte}
 use Rattle.xs_area.specs.Held.{held_byte, pkru_bytes}
 use Rattle.xs_area.specs.declared.cursor.Cursor.{Cursor}
 use Rattle.xs_base.specs.declared.component.Features.{Features}
 use Rattle.xs_area.specs.Cursor.{place_after}
 use Rattle.xs_base.proofs.LayoutLemmas.{sound_at}
 use Rattle.xs_area.proofs.CursorLemmas.{IsBefore, passed, before_first, before_place, before_next}
-use Rattle.xs_base.proofs.ByteLemmas.{splice_byte, length_splice}
 use Rattle.xs_base.proofs.ComponentLemmas.{zero_at, length_zeros, pkru_size}
 use Rattle.xs_base.proofs.StandardLemmas.{written_as, component_written, component_skip, component_all}
-
--- MXCSR and its mask are eight bytes
-pub control_eight : (value : ℕ) → length (control_bytes value) ≡ 8
-unfolding control_bytes
-control_eight value = refl
+pub use Rattle.xs_base.proofs.StandardLemmas.{control_eight}
 
 -- ---- a file with another PKRU
 
@@ -173,33 +168,3 @@ module _ (rows : List Row) (table : IsLayout rows) (area : List ℕ) (pkru mask 
 -- every row
 pub held_all : (rows : List Row) (area : List ℕ) (pkru mask i : ℕ) (cursor : Cursor) (old out : List ℕ) → length rows ≤ i → AreHeld rows area pkru mask i cursor old out → (file : File) → IsFile file → StandsFor rows area file → (k : ℕ) → get_or out k 0 ≡ component_byte (saved_byte (with_pkru file pkru)) (λ r. r.offset) mask k rows (get_or old k 0)
 held_all rows area pkru mask i cursor old out past at file h stands k = sym (component_all (saved_byte (with_pkru file pkru)) (λ (x : Row). x.offset) mask rows i k (get_or out k 0) past) ∙ at.each file h stands k
-
--- ---- the standard bytes
-
--- without MXCSR
-pub standard_without : (rows : List Row) (file : File) (mask : ℕ) (old out : List ℕ) → file.rows ≡ rows → has_control mask ≡ false → length out ≡ length old → ((k : ℕ) → get_or out k 0 ≡ component_byte (saved_byte file) (λ r. r.offset) mask k rows (get_or old k 0)) → IsStandard file mask old out
-standard_without rows file mask old out are none len each = record { len = len; each = λ i lt. here i (is_within 24 8 i) (has_control mask) none (each i) }
-  where
-    here : (i : ℕ) (a b : Bool) → b ≡ false → get_or out i 0 ≡ component_byte (saved_byte file) (λ r. r.offset) mask i rows (get_or old i 0) → get_or out i 0 ≡ (if a && b then get_or (control_bytes file.mxcsr) (i - 24) 0 else component_byte (saved_byte file) (λ r. r.offset) mask i file.rows (get_or old i 0))
-    here i true b e h = rw (e, are) h
-    here i false b e h = rw are h
-
--- with it
-pub standard_with : (rows : List Row) (file : File) (mask value : ℕ) (old out : List ℕ) → file.rows ≡ rows → file.mxcsr ≡ value → has_control mask ≡ true → 32 ≤ length old → length out ≡ length old → ((k : ℕ) → get_or out k 0 ≡ component_byte (saved_byte file) (λ r. r.offset) mask k rows (get_or old k 0)) → IsStandard file mask old (splice 24 (control_bytes value) out)
-standard_with rows file mask value old out are is some long len each = record {
-  len = length_splice 24 (control_bytes value) out fits ∙ len;
-  each = λ i lt. splice_byte 24 (control_bytes value) out i fits ∙ here i;
-}
-  where
-    eight : length (control_bytes value) ≡ 8
-    eight = control_eight value
-
-    fits : 24 + length (control_bytes value) ≤ length out
-    fits = omega (arith, eight)
-
-    here : (i : ℕ) → (if is_within 24 (length (control_bytes value)) i then get_or (control_bytes value) (i - 24) 0 else get_or out i 0) ≡ (if is_within 24 8 i && has_control mask then get_or (control_bytes file.mxcsr) (i - 24) 0 else component_byte (saved_byte file) (λ r. r.offset) mask i file.rows (get_or old i 0))
-    here i = rw (eight, some, are, is) (choose (is_within 24 8 i))
-      where
-        choose : (a : Bool) → (if a then get_or (control_bytes value) (i - 24) 0 else get_or out i 0) ≡ (if a && true then get_or (control_bytes value) (i - 24) 0 else component_byte (saved_byte file) (λ r. r.offset) mask i rows (get_or old i 0))
-        choose true = refl
-        choose false = each i

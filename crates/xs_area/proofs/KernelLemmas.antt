@@ -24,14 +24,13 @@ use Rattle.xs_base.proofs.ComponentLemmas.{length_zeros, zero_at}
 use Rattle.xs_base.proofs.FileLemmas.{initial_at, initial_is_file}
 use Rattle.xs_base.proofs.LayoutLemmas.{sound_at, has_row_at, has_row_known}
 use Rattle.xs_base.proofs.PlaceLemmas.{compacted_within}
-use Rattle.xs_base.proofs.SetLemmas.{has_none, has_set_of, same_set}
-use Rattle.xs_area.proofs.RoomLemmas.{has_more}
+use Rattle.xs_base.proofs.SetLemmas.{has_none, has_or, has_set_of, same_set}
 use Rattle.xs_area.proofs.TakeLemmas.{row_index}
 
 -- ---- XCOMP_BV of a compacted area
 
 pub has_compacted : (mask c : ℕ) → has (compacted mask) c ≡ (has mask c || (c == 63))
-has_compacted mask c = ap (λ n. has n c) (or_comm (2 ^ 63) mask) ∙ has_more mask 63 c (omega arith)
+has_compacted mask c = ap (λ n. has n c) (or_comm (2 ^ 63) mask) ∙ has_or mask 63 c (omega arith)
 
 or_true : (b : Bool) → (b || true) ≡ true
 or_true true = refl

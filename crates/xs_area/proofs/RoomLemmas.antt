@@ -1,12 +1,10 @@
 -- Which components an area has room for, and the set of those that are copied.
-use Rattle.std.proofs.Common.{◌≡◌, ◌⊎◌, ℕ, ◌+◌, ◌<◌, ◌≤◌, ◌==◌, ◌&&◌, ◌||◌, Bool, true, false, true≢false, not, nat_le, List, length, get_or, refl, sym, ap, ◌∙◌, arith, inl, inr}
-use Rattle.std.proofs.lemmas.Bool.{cases_Bool, cases_eq, cases_lt, or_cases, eq-eqb, ne_eqb, eqb-true, le-leb}
-use Rattle.std.proofs.lemmas.Nat.Bits.{bit_at_set_same, bit_at_set_other}
+use Rattle.std.proofs.Common.{◌≡◌, ◌⊎◌, ℕ, ◌+◌, ◌<◌, ◌≤◌, ◌==◌, ◌&&◌, ◌||◌, Bool, true, false, true≢false, not, nat_le, List, length, get_or, if◌then◌else◌, refl, sym, ap, ◌∙◌, arith, inl, inr}
+use Rattle.std.proofs.lemmas.Bool.{cases_Bool, cases_eq, eq-eqb, ne_eqb, le-leb}
 use Rattle.std.proofs.lemmas.Bool.Decides.{nat_tests}
 use Rattle.std.proofs.lemmas.List.{get_or_default}
 use Rattle.std.specs.Prelude.{bit_or, ◌*◌, ◌%◌, ◌^◌}
-use Rattle.xs_base.proofs.SetLemmas.{has_none}
-use Rattle.std.specs.Int.{w64}
+use Rattle.xs_base.proofs.SetLemmas.{has_none, has_or}
 use Rattle.xs_base.specs.declared.component.Row.{Row}
 use Rattle.xs_base.specs.Area.{has_room, ends_inside}
 use Rattle.xs_base.specs.Compact.{is_compacted, place, has_place}
@@ -84,18 +82,7 @@ room_sse rows table area long =
 
 -- one component more
 pub has_more : (set c d : ℕ) → c < 64 → has (bit_or set (1 * 2 ^ c % 2 ^ 64)) d ≡ (has set d || (d == c))
-has_more set c d small = elim (cases_eq d c) [
-  | inl same ↦ rw (same, bit_at_set_same w64 set c small) (sym (ap (λ b. has set c || b) (eq-eqb c c refl) ∙ or_true (has set c)))
-  | inr other ↦ ap (λ n. n == 1) (bit_at_set_other w64 set c small d other) ∙ sym (ap (λ b. has set d || b) (ne_eqb d c other) ∙ or_false (has set d))
-]
-  where
-    or_true : (b : Bool) → (b || true) ≡ true
-    or_true true = refl
-    or_true false = refl
-
-    or_false : (b : Bool) → (b || false) ≡ b
-    or_false true = refl
-    or_false false = refl
+has_more = has_or
 
 -- The set has the components that are copied, of the rows before i.
 pub record AreChosen (rows : List Row) (area : List ℕ) (set i : ℕ) (cursor : Cursor) (copied : ℕ) : Type 0 where
@@ -112,40 +99,30 @@ chosen_row rows table area set i cursor r at wanted lt is before at_is test =
     ∙ ap (λ b. has set r.comp.0 && not (r.comp.0 == 9) && b) (sym (room_at rows table area i r lt is))
 
 -- one row more
-pub chosen_more : (rows : List Row) → IsLayout rows → (area : List ℕ) (set i : ℕ) (cursor : Cursor) (copied more : ℕ) (r : Row) (wanted : Bool) → i < length rows → r ≡ get_or rows i r → AreChosen rows area set i cursor copied → wanted ≡ is_copied rows area set r.comp.0 → ((c : ℕ) → has more c ≡ (has copied c || ((c == r.comp.0) && wanted))) → AreChosen rows area set (i + 1) (passed cursor r) more
+pub chosen_more : (rows : List Row) → IsLayout rows → (area : List ℕ) (set i : ℕ) (cursor : Cursor) (copied more : ℕ) (r : Row) (wanted : Bool) → i < length rows → r ≡ get_or rows i r → AreChosen rows area set i cursor copied → wanted ≡ is_copied rows area set r.comp.0 → ((c : ℕ) → has more c ≡ (if c == r.comp.0 then wanted else has copied c)) → AreChosen rows area set (i + 1) (passed cursor r) more
 chosen_more rows table area set i cursor copied more r wanted lt is at wants bits = record {
   before = before_next rows table (xcomp_bv area) i cursor r lt is at.before;
-  sound = λ c h. sound c (or_cases (has copied c) ((c == r.comp.0) && wanted) (sym (bits c) ∙ h));
-  whole = λ j s later within it chosen. bits s.comp.0 ∙ whole j s within it chosen (cases_lt j i) later;
+  sound = λ c h. elim (cases_eq c r.comp.0) [
+    | inl same ↦ sym (here c same) ∙ h
+    | inr apart ↦ at.sound c (sym (other c apart) ∙ h)
+  ];
+  whole = λ j s later within it chosen. elim (cases_eq s.comp.0 r.comp.0) [
+    | inl same ↦ here s.comp.0 same ∙ chosen
+    | inr apart ↦ other s.comp.0 apart ∙ at.whole j s (earlier j s it apart later) within it chosen
+  ];
 }
   where
-    both : (a b : Bool) → (a && b) ≡ true → (a ≡ true) × (b ≡ true)
-    both true true h = (refl, refl)
-    both true false h = absurd (true≢false (sym h))
-    both false b h = absurd (true≢false (sym h))
+    here : (c : ℕ) → c ≡ r.comp.0 → has more c ≡ is_copied rows area set c
+    here c same = bits c ∙ ap (λ b. if b then wanted else has copied c) (eq-eqb c r.comp.0 same) ∙ wants ∙ ap (is_copied rows area set) (sym same)
 
-    or_left : (a b : Bool) → a ≡ true → (a || b) ≡ true
-    or_left true b h = refl
-    or_left false b h = absurd (true≢false (sym h))
+    other : (c : ℕ) → (c ≡ r.comp.0 → ⊥) → has more c ≡ has copied c
+    other c apart = bits c ∙ ap (λ b. if b then wanted else has copied c) (ne_eqb c r.comp.0 apart)
 
-    or_right : (a b : Bool) → b ≡ true → (a || b) ≡ true
-    or_right true b h = refl
-    or_right false b h = h
-
-    sound : (c : ℕ) → (has copied c ≡ true) ⊎ (((c == r.comp.0) && wanted) ≡ true) → is_copied rows area set c ≡ true
-    sound c (inl old) = at.sound c old
-    sound c (inr new) =
-        let parts = both (c == r.comp.0) wanted new in
-        ap (is_copied rows area set) (eqb-true c r.comp.0 parts.0) ∙ sym wants ∙ parts.1
-
-    whole : (j : ℕ) (s : Row) → j < length rows → s ≡ get_or rows j s → is_copied rows area set s.comp.0 ≡ true → (j < i) ⊎ (i ≤ j) → j < i + 1 → (has copied s.comp.0 || ((s.comp.0 == r.comp.0) && wanted)) ≡ true
-    whole j s within it chosen (inl before) later = or_left (has copied s.comp.0) _ (at.whole j s before within it chosen)
-    whole j s within it chosen (inr after) later =
-        let one : j ≡ i = omega arith in
-        let same : s ≡ r = it ∙ ap (λ n. get_or rows n s) one ∙ get_or_default rows i s r lt ∙ sym is in
-        let number : s.comp.0 ≡ r.comp.0 = ap (λ (x : Row). x.comp.0) same in
-        let want : wanted ≡ true = wants ∙ ap (is_copied rows area set) (sym number) ∙ chosen in
-        or_right (has copied s.comp.0) _ (ap (λ b. b && wanted) (eq-eqb s.comp.0 r.comp.0 number) ∙ want)
+    earlier : (j : ℕ) (s : Row) → s ≡ get_or rows j s → (s.comp.0 ≡ r.comp.0 → ⊥) → j < i + 1 → j < i
+    earlier j s it apart later = elim (cases_eq j i) [
+      | inl one ↦ absurd (apart (ap (λ (x : Row). x.comp.0) (it ∙ ap (λ n. get_or rows n s) one ∙ get_or_default rows i s r lt ∙ sym is)))
+      | inr less ↦ omega arith
+    ]
 
 -- before the first row
 pub chosen_first : (rows : List Row) (area : List ℕ) (set : ℕ) (cursor : Cursor) → IsBefore rows (xcomp_bv area) 0 cursor → AreChosen rows area set 0 cursor 0

@@ -7,14 +7,8 @@ ghost use Rattle.xs_base.specs.HeaderCheck as check;
 
 use crate::area::{mxcsr, xcomp_bv, xstate_bv};
 use byteorder::{ByteOrder, LittleEndian};
-use xs_base::{Comp, Features, HeaderError, Origin, Parts};
+use xs_base::{Comp, Features, HeaderError, INITIAL_MXCSR, MOST_MXCSR, Origin, Parts};
 use xs_layout::Layout;
-
-/// MXCSR after initialisation (SDM volume 1, 10.2.3).
-pub const INITIAL_MXCSR: u32 = 0x1f80;
-
-/// The greatest MXCSR that is taken: bits 16 to 31 are reserved (SDM volume 1, 10.2.3).
-const MOST_MXCSR: u32 = 0xffff;
 
 /// What an image in the standard format has, at least `full_size` bytes, or the first test that it fails where these
 /// components are allowed (Linux 6.6, arch/x86/kernel/fpu/xstate.c, validate_user_xstate_header).

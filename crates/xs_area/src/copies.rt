@@ -1,7 +1,6 @@
 //! Areas that come to stand for a file: that of the parts of an image, or that of another area.
 
 ghost use Rattle.std.specs.Prelude.{◌≡◌, ℕ, ◌+◌, ◌<◌, ◌≤◌, ◌^◌, true, false, not, ◌&&◌, ◌||◌, ◌==◌, nat_le, length, slice_index, slice_get, Some, if◌then◌else◌};
-ghost use Rattle.std.specs.Int.{to_le_bytes, w64};
 ghost use Rattle.xs_base.specs.declared.component.Row.{Row};
 ghost use Rattle.xs_base.specs.Area.{StandsFor, HoldsPlaces, IsOfParts, IsCut, KeepsForm, has_room, is_named, control_in};
 ghost use Rattle.xs_base.specs.Bytes.{splice, zeros};
@@ -16,10 +15,11 @@ ghost use Rattle.xs_area.specs.Copy as copy;
 ghost use Rattle.xs_area.specs.Copy.{IsTaken, is_copied, AreCopied, IsFinished};
 
 use crate::area::{Area, xcomp_bv, xstate_bv};
-use crate::check::INITIAL_MXCSR;
 use crate::cursor::Cursor;
 use crate::standard::control_in;
-use xs_base::{Comp, Features, Parts, Row, clear, put, put_component, put_control};
+use xs_base::{
+    Comp, Features, INITIAL_MXCSR, Parts, Row, clear, put_component, put_control, put_number,
+};
 use xs_layout::Layout;
 
 /// Makes the area stand for the parts of an image in the standard format, `bytes`: its XSTATE_BV becomes the bits
@@ -98,7 +98,7 @@ pub fn copied_of(layout: &Layout, to: &[u8], set: Features) -> Features
         let row = layout.row_at(i);
         let at = cursor.pass(row);
         let wanted = is_copied_row(set, names, row, at, to.len());
-        copied = with(copied, row.comp, wanted);
+        copied = copied.with(row.comp, wanted);
     }
     copied
 }
@@ -112,18 +112,6 @@ fn is_copied_row(set: Features, names: Features, row: Row, at: usize, len: usize
         && row.comp.0 != 9
         && (!names.has(Comp(63)) || names.has(row.comp))
         && at + row.size as usize <= len
-}
-
-/// The set, with the component where it is wanted.
-pub fn with(set: Features, comp: Comp, wanted: bool) -> Features
-    requires { comp.0 < 64 }
-    ensures { (c : ℕ) → has result.0 c ≡ (has set.0 c || ((c == comp.0) && wanted)) }
-{
-    if wanted {
-        Features(set.0 | 1 << comp.0)
-    } else {
-        set
-    }
 }
 
 /// Copies components to their places.
@@ -156,24 +144,17 @@ fn copy_row(from: &[u8], at: usize, row: Row, to: &mut [u8], into: usize)
     put_component(to, into, row.comp, &from[at..at + row.size as usize]);
 }
 
-/// Writes MXCSR and XSTATE_BV. Where a compacted area needs bit 1 for MXCSR alone, the XMM registers become initial.
+/// Writes MXCSR and XSTATE_BV, bytes 512 to 519 (SDM volume 1, 13.4.2). Where a compacted area needs bit 1 for MXCSR alone,
+/// the XMM registers become initial.
 fn finish(to: &mut [u8], copied: Features, control: u32)
     requires { 576 ≤ length to.old }
     ensures { IsFinished copied.0 control (copy.is_alone to.old copied.0 control) to.old to.new }
 {
     let alone = is_alone(to, copied, control);
+    let sse = copied.has(Comp(1)) | alone;
     clear_sse(to, alone);
     put_control(to, control);
-    put_bits(to, with(copied, Comp(1), alone).0);
-}
-
-/// Writes XSTATE_BV, bytes 512 to 519 (SDM volume 1, 13.4.2).
-fn put_bits(to: &mut [u8], bits: u64)
-    requires { 576 ≤ length to.old }
-    ensures written { to.new ≡ splice 512 (to_le_bytes w64 bits) to.old }
-    ensures small { bits < 2 ^ 64 }
-{
-    put(to, 512, &bits.to_le_bytes());
+    put_number(to, 512, copied.with(Comp(1), sse).0);
 }
 
 /// Whether the area needs bit 1 of XSTATE_BV for MXCSR alone.

@@ -5,7 +5,7 @@ ghost use Rattle.xs_base.specs.Area.{HoldsPlaces, has_room};
 ghost use Rattle.xs_base.specs.Header as header;
 ghost use Rattle.xs_base.specs.Sets.{has};
 
-use crate::copies::{copied_of, with};
+use crate::copies::copied_of;
 use crate::{Area, compact_of, copy_area, read_standard, standard_of, xcomp_bv, xstate_bv};
 use std::alloc::{AllocError, Global};
 use xs_base::{Comp, Features, HeaderError, Origin, Parts, Row, put};
@@ -89,9 +89,9 @@ pub fn has_room_for(layout: &Layout, area: &[u8], set: Features) -> bool
     ensures sse { result ≡ true → has_room layout.now area.now 1 ≡ true }
     ensures each { result ≡ true → (c : ℕ) → (c ≡ 9 → ⊥) → has set.0 c ≡ true → has_room layout.now area.now c ≡ true }
 {
-    let wanted = with(with(set, Comp(1), true), Comp(9), true);
+    let wanted = set.with(Comp(1), true).with(Comp(9), true);
     let copied = copied_of(layout, area, wanted);
-    with(copied, Comp(9), true).0 == wanted.0
+    copied.with(Comp(9), true).0 == wanted.0
 }
 
 /// `standard_of`, where the area holds its components and `out` is long enough.

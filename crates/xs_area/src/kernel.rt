@@ -1,7 +1,6 @@
 //! The save areas that a kernel keeps for its tasks, before anything was saved in them.
 
 ghost use Rattle.std.specs.Prelude.{◌≡◌, ℕ, ◌^◌, ◌<◌, ◌≤◌, ◌&&◌, ◌==◌, false, not, length, slice_index};
-ghost use Rattle.std.specs.Int.{to_le_bytes, w64};
 ghost use Rattle.xs_base.specs.Area.{StandsFor, HoldsPlaces};
 ghost use Rattle.xs_base.specs.Bytes.{splice, is_within};
 ghost use Rattle.xs_base.specs.Compact.{compacted};
@@ -12,7 +11,7 @@ ghost use Rattle.xs_base.specs.KernelArea.{IsLoadable, is_of_class};
 ghost use Rattle.xs_base.specs.Layout.{has_row};
 ghost use Rattle.xs_base.specs.Sets.{has};
 
-use xs_base::{Class, Features, clear, put};
+use xs_base::{Class, Comp, Features, clear, put_number};
 use xs_layout::Layout;
 
 /// The components that the areas of a class have a place for: the machine's without PKRU, and in Small ones without
@@ -24,16 +23,9 @@ pub fn class_features(layout: &Layout, class: Class) -> Features
     // The rows pass every test of a table.
     let _ = layout.len();
     match class {
-        Class::Small => without_pkru(layout.default_features()),
-        Class::Large => without_pkru(layout.features()),
+        Class::Small => layout.default_features().with(Comp(9), false),
+        Class::Large => layout.features().with(Comp(9), false),
     }
-}
-
-/// The set without PKRU.
-fn without_pkru(set: Features) -> Features
-    ensures { (c : ℕ) → has result.0 c ≡ (has set.0 c && not (c == 9)) }
-{
-    Features(set.0 & !Features::PKRU.0)
 }
 
 /// The bytes of a compacted area of a class, at least 576.
@@ -45,7 +37,8 @@ pub fn class_size(layout: &Layout, class: Class) -> u32
 }
 
 /// Makes an area of at least 576 bytes one of a class in the compacted format that has no state: every byte is zero but
-/// for XCOMP_BV. So it stands for the initial file (SDM volume 1, 13.12), and can be loaded where it has a number.
+/// for XCOMP_BV, bytes 520 to 527 (SDM volume 1, 13.4.2). So it stands for the initial file (SDM volume 1, 13.12), and can
+/// be loaded where it has a number.
 pub fn make_initial(layout: &Layout, class: Class, area: &mut [u8])
     requires { 576 ≤ length area.old }
     ensures zero { (k : ℕ) → is_within 520 8 k ≡ false → slice_index area.new k ≡ 0 }
@@ -59,7 +52,7 @@ pub fn make_initial(layout: &Layout, class: Class, area: &mut [u8])
     let _ = layout.len();
     let len = area.len();
     clear(area, 0, len);
-    put_names(area, compacted(class_features(layout, class)).0);
+    put_number(area, 520, compacted(class_features(layout, class)).0);
 }
 
 /// XCOMP_BV of a compacted area with a place for each of these components (SDM volume 1, 13.4.3).
@@ -67,13 +60,4 @@ pub fn compacted(set: Features) -> Features
     ensures { result.0 ≡ compacted set.0 }
 {
     Features(0x8000_0000_0000_0000 | set.0)
-}
-
-/// Writes XCOMP_BV, bytes 520 to 527 (SDM volume 1, 13.4.2).
-fn put_names(area: &mut [u8], names: u64)
-    requires { 528 ≤ length area.old }
-    ensures written { area.new ≡ splice 520 (to_le_bytes w64 names) area.old }
-    ensures small { names < 2 ^ 64 }
-{
-    put(area, 520, &names.to_le_bytes());
 }

@@ -5,15 +5,15 @@ ghost use Rattle.xs_base.specs.Area.{StandsFor, HoldsPlaces, control_in};
 ghost use Rattle.xs_base.specs.File.{File, IsFile, with_pkru};
 ghost use Rattle.xs_base.specs.Header as header;
 ghost use Rattle.xs_base.specs.Layout.{standard_size, IsSound};
-ghost use Rattle.xs_base.specs.Standard as standard;
 ghost use Rattle.xs_base.specs.Standard.{IsStandard, IsWritten, component_byte, saved_byte};
 ghost use Rattle.xs_base.specs.Sets.{has};
 ghost use Rattle.xs_area.specs.Held as held;
 
 use crate::area::{Area, mxcsr, xcomp_bv, xstate_bv};
-use crate::check::INITIAL_MXCSR;
 use crate::cursor::Cursor;
-use xs_base::{Comp, Features, Row, put_component, put_control, put_initial_component};
+use xs_base::{
+    Comp, Features, INITIAL_MXCSR, Row, put_component, put_control, put_initial_component,
+};
 use xs_layout::Layout;
 
 /// Writes the standard bytes of what the area stands for, with this PKRU, for the components of `mask`, over `out`
@@ -27,16 +27,9 @@ pub fn standard_of(layout: &Layout, area: &Area, pkru: u32, mask: Features, out:
     ensures standard { (file : File) → IsFile file → StandsFor layout.now area.now.bytes.items file → IsStandard (with_pkru file pkru) mask.0 out.old out.new }
 {
     put_components(layout, &area.bytes, pkru, mask, out);
-    if has_control(mask) {
+    if mask.has_control() {
         put_control(out, control_in(&area.bytes));
     }
-}
-
-/// Whether MXCSR is saved with these components (SDM volume 1, 13.7).
-fn has_control(mask: Features) -> bool
-    ensures { result ≡ standard.has_control mask.0 }
-{
-    mask.has(Comp(1)) || mask.has(Comp(2))
 }
 
 /// Writes the components of `mask` to their standard places. Bytes 24 to 31 stay.

@@ -123,6 +123,19 @@ has_without set k c lt fits = here (cases_eq c k) (cases_lt c 64)
     here (inr ne) (inl within) = rw (bit_at_clear_other w64 set k lt c within ne) (grind (arith, nat_tests))
     here (inr ne) (inr above) = rw (bit_at_and set (bit_not w64 (1 * 2 ^ k % 2 ^ 64)) c, bit_at_above set 64 c fits above) (grind (arith, nat_tests))
 
+-- a bit set, and a bit cleared
+pub put_in : (a same : Bool) → (a || same) ≡ (if same then true else a)
+put_in true true = refl
+put_in true false = refl
+put_in false true = refl
+put_in false false = refl
+
+pub put_out : (a same : Bool) → (a && not same) ≡ (if same then false else a)
+put_out true true = refl
+put_out true false = refl
+put_out false true = refl
+put_out false false = refl
+
 -- ---- a set within another
 
 -- what both sets have

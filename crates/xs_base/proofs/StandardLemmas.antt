@@ -1,11 +1,12 @@
--- Bytes of an area by the rows of its machine: one row more, and what a row's component leaves.
+-- Bytes of an area by the rows of its machine: one row more, what a row's component leaves, and MXCSR with its mask.
 use Rattle.std.proofs.Common.{◌≡◌, ℕ, ◌+◌, ◌-◌, ◌<◌, ◌≤◌, Bool, true, false, not, ◌&&◌, List, [], ◌∷◌, length, get_or, drop, if◌then◌else◌, zero, suc, refl, sym, ap, ◌∙◌, add-one, true≢false, arith}
 use Rattle.std.proofs.lemmas.List.{at_drop_more, at_drop_all}
 use Rattle.xs_base.specs.declared.component.Row.{Row}
 use Rattle.xs_base.specs.Sets.{has}
-use Rattle.xs_base.specs.Bytes.{is_within}
-use Rattle.xs_base.proofs.ByteLemmas.{within_tells}
-use Rattle.xs_base.specs.Standard.{has_byte, component_byte, IsWritten}
+use Rattle.xs_base.specs.Bytes.{splice, is_within}
+use Rattle.xs_base.specs.File.{File}
+use Rattle.xs_base.proofs.ByteLemmas.{within_tells, length_splice, splice_byte}
+use Rattle.xs_base.specs.Standard.{has_byte, component_byte, saved_byte, control_bytes, has_control, IsStandard, IsWritten}
 
 -- one row further, for any function of the rows that are left
 pub one_row_more : {Y : Type 0} (F : List Row → Y) (rows : List Row) (i : ℕ) (r : Row) → i < length rows → r ≡ get_or rows i r → F (drop i rows) ≡ F (r ∷ drop (i + 1) rows)
@@ -77,3 +78,24 @@ written_as at n byte other old new same written = record { len = written.len; ea
 
     each : (i : ℕ) → (if is_within at n i && not (is_within 24 8 i) then byte (i - at) else get_or old i 0) ≡ (if is_within at n i && not (is_within 24 8 i) then other (i - at) else get_or old i 0)
     each i = choose (is_within at n i) (not (is_within 24 8 i)) (byte (i - at)) (other (i - at)) (get_or old i 0) (λ inside. let tells = within_tells at n i inside in same (i - at) (omega arith))
+
+-- ---- MXCSR with its mask
+
+-- they are eight bytes
+pub control_eight : (mxcsr : ℕ) → length (control_bytes mxcsr) ≡ 8
+unfolding control_bytes
+control_eight mxcsr = refl
+
+-- The components are written, and then MXCSR with its mask.
+pub control_written : (file : File) (mask : ℕ) (base mid out : List ℕ) → has_control mask ≡ true → 32 ≤ length mid → length mid ≡ length base → ((k : ℕ) → get_or mid k 0 ≡ component_byte (saved_byte file) (λ r. r.offset) mask k file.rows (get_or base k 0)) → out ≡ splice 24 (control_bytes file.mxcsr) mid → IsStandard file mask base out
+control_written file mask base mid out control room len each written =
+    let eight = control_eight file.mxcsr in
+    let fits : 24 + length (control_bytes file.mxcsr) ≤ length mid = omega arith in
+    record {
+      len = ap length written ∙ length_splice 24 (control_bytes file.mxcsr) mid fits ∙ len;
+      each = λ i lt. rw (written, splice_byte 24 (control_bytes file.mxcsr) mid i fits, eight, each i, control) (here (is_within 24 8 i) (get_or (control_bytes file.mxcsr) (i - 24) 0) (component_byte (saved_byte file) (λ r. r.offset) mask i file.rows (get_or base i 0)));
+    }
+  where
+    here : (b : Bool) (x y : ℕ) → (if b then x else y) ≡ (if b && true then x else y)
+    here true x y = refl
+    here false x y = refl

@@ -1,6 +1,7 @@
 //! Writing over a part of some bytes: plain bytes, zeros, and components of the register state.
 
-ghost use Rattle.std.specs.Prelude.{◌≡◌, ◌+◌, ◌≤◌, length, slice_index, if◌then◌else◌};
+ghost use Rattle.std.specs.Prelude.{◌≡◌, ◌+◌, ◌≤◌, ◌<◌, ◌^◌, length, slice_index, if◌then◌else◌};
+ghost use Rattle.std.specs.Int.{to_le_bytes, w64};
 ghost use Rattle.xs_base.specs.Bytes.{splice, zeros};
 ghost use Rattle.xs_base.specs.Component.{component_size, initial_part};
 ghost use Rattle.xs_base.specs.File.{is_own};
@@ -16,6 +17,16 @@ pub fn put(out: &mut [u8], at: usize, bytes: &[u8])
     ensures len { length out.new ≡ length out.old }
 {
     out[at..at + bytes.len()].copy_from_slice(bytes);
+}
+
+/// Writes a number of eight bytes, the lowest first, from byte `at` on.
+pub fn put_number(out: &mut [u8], at: usize, number: u64)
+    requires { at + 8 ≤ length out.old }
+    ensures written { out.new ≡ splice at (to_le_bytes w64 number) out.old }
+    ensures len { length out.new ≡ length out.old }
+    ensures small { number < 2 ^ 64 }
+{
+    put(out, at, &number.to_le_bytes());
 }
 
 /// Makes `len` bytes zero, from byte `at` on.

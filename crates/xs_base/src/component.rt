@@ -1,7 +1,8 @@
 //! Components, sets of components, and the rows and places that name them.
 
-ghost use Rattle.std.specs.Prelude.{⊤, ◌≡◌, ◌<◌, ◌==◌, [], ◌∷◌, codes};
+ghost use Rattle.std.specs.Prelude.{⊤, ◌≡◌, ℕ, ◌<◌, ◌==◌, [], ◌∷◌, codes, if◌then◌else◌};
 ghost use Rattle.xs_base.specs.Sets.{has};
+ghost use Rattle.xs_base.specs.Standard as standard;
 
 use bitflags::{Flag, Flags, bitflag_items};
 
@@ -70,6 +71,26 @@ impl Features {
             return false;
         }
         (bits >> c.0) & 1 == 1
+    }
+
+    /// Whether the set has SSE or AVX, with which MXCSR goes in the standard format (SDM volume 1, 13.7).
+    pub fn has_control(&self) -> bool
+        ensures { result ≡ standard.has_control self.now.0 }
+    {
+        self.has(Comp(1)) || self.has(Comp(2))
+    }
+
+    /// The set with the component where `there`, and without it where not. The number is below 64. No other component
+    /// comes or goes.
+    pub fn with(self, c: Comp, there: bool) -> Features
+        requires { c.0 < 64 }
+        ensures { (d : ℕ) → has result.0 d ≡ (if d == c.0 then there else has self.0 d) }
+    {
+        if there {
+            Features(self.0 | 1 << c.0)
+        } else {
+            Features(self.0 & !(1 << c.0))
+        }
     }
 }
 

@@ -10,12 +10,13 @@ mod header;
 mod lane;
 mod layout_error;
 mod little_endian;
+mod mxcsr;
 #[cfg(test)]
 mod tests;
 mod words;
 
 pub use bytes::{
-    clean, clear, put, put_component, put_control, put_initial, put_initial_component,
+    clean, clear, put, put_component, put_control, put_initial, put_initial_component, put_number,
 };
 pub use class::Class;
 pub use component::{Comp, Features, Place, Row};
@@ -23,4 +24,5 @@ pub use header::{HeaderError, Origin, Parts};
 pub use lane::Lane;
 pub use layout_error::{LayoutError, LayoutFault};
 pub use little_endian::four_bytes_again;
+pub use mxcsr::{INITIAL_MXCSR, MOST_MXCSR};
 pub use words::{Errno, How, Set, Signo};

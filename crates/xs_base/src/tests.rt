@@ -1,8 +1,8 @@
 //! Sets of components and lanes at worked values.
 
 use crate::{
-    Comp, Features, Lane, clean, clear, put, put_component, put_control, put_initial,
-    put_initial_component,
+    Comp, Features, INITIAL_MXCSR, Lane, MOST_MXCSR, clean, clear, put, put_component, put_control,
+    put_initial, put_initial_component, put_number,
 };
 
 #[test]
@@ -15,6 +15,33 @@ fn components_of_the_amx_machine(rt: HostRuntime) {
         assert!(rt; !features.has(Comp(number)), "component {number}");
     }
     assert!(rt; Features(u64::MAX).has(Comp(63)));
+}
+
+#[test]
+fn components_come_and_go(rt: HostRuntime) {
+    let features = Features(0x602e7);
+    assert_eq!(rt; features.with(Comp(18), false).0, 0x202e7);
+    assert_eq!(rt; features.with(Comp(18), true).0, 0x602e7);
+    assert_eq!(rt; features.with(Comp(3), true).0, 0x602ef);
+    assert_eq!(rt; features.with(Comp(3), false).0, 0x602e7);
+    assert_eq!(rt; Features(0).with(Comp(63), true).0, 1 << 63);
+}
+
+#[test]
+fn mxcsr_goes_with_sse_and_with_avx(rt: HostRuntime) {
+    assert!(rt; Features(0x602e7).has_control());
+    assert!(rt; Features::SSE.has_control());
+    assert!(rt; Features::AVX.has_control());
+    assert!(rt; !Features(0x602e1).has_control());
+    assert_eq!(rt; INITIAL_MXCSR, 8064);
+    assert_eq!(rt; MOST_MXCSR, 65535);
+}
+
+#[test]
+fn numbers_have_their_lowest_byte_first(rt: HostRuntime) {
+    let mut out = [0xee; 10];
+    put_number(&mut out, 1, 0x8000_0000_0000_00e7);
+    assert_eq!(rt; out, [0xee, 0xe7, 0, 0, 0, 0, 0, 0, 0x80, 0xee]);
 }
 
 #[test]

@@ -1,4 +1,5 @@
--- The shelves of a pool, one for each class. The slots of a shelf whose areas are out stand in front of the others.
+-- The shelves of a pool, one for each class, which are the project's own. The slots of a shelf whose areas are out stand in
+-- front of the others.
 use Rattle.std.specs.Prelude.{◌≡◌, ℕ, ◌^◌, ◌<◌, ◌≤◌, List, length, Option, None, slice_index_or, MatchOption}
 use Rattle.std.specs.Global.{Vec}
 use Rattle.xs_base.specs.declared.class.Class.TheVariants.{Small, Large}

@@ -1,5 +1,5 @@
 -- The set of the components in use, where a part changes, and where every part is initial.
-use Rattle.std.proofs.Common.{◌≡◌, ◌⊎◌, inl, inr, ℕ, ◌<◌, ◌≤◌, Bool, true, false, not, ◌&&◌, ◌||◌, ◌==◌, List, [], set, if◌then◌else◌, refl, sym, ap, ◌∙◌, arith}
+use Rattle.std.proofs.Common.{◌≡◌, ◌⊎◌, inl, inr, ℕ, ◌<◌, ◌≤◌, Bool, true, false, not, ◌&&◌, ◌==◌, List, [], set, if◌then◌else◌, refl, sym, ap, ◌∙◌, arith}
 use Rattle.std.proofs.lemmas.Bool.{cases_Bool, cases_eq, cases_lt, ne_eqb, eq-eqb, eqb-true, false≢true}
 use Rattle.std.proofs.lemmas.List.{set-get_or}
 use Rattle.std.proofs.lemmas.List.Folds.{Any-from_list_any}
@@ -47,19 +47,6 @@ changed_there there changed used on same = rw on same
 pub not_both : (a b : Bool) → b ≡ false → (a && b) ≡ false
 not_both true b none = none
 not_both false b none = refl
-
--- a bit set, and a bit cleared
-pub put_in : (a same : Bool) → (a || same) ≡ (if same then true else a)
-put_in true true = refl
-put_in true false = refl
-put_in false true = refl
-put_in false false = refl
-
-pub put_out : (a same : Bool) → (a && not same) ≡ (if same then false else a)
-put_out true true = refl
-put_out true false = refl
-put_out false true = refl
-put_out false false = refl
 
 -- Where every part is initial, none is in use.
 pub unused_all : (file : File) → IsLayout file.rows → ((c : ℕ) → c < component_count → part file c ≡ initial_part c) → HasUsed file 0

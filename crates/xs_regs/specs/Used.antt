@@ -1,4 +1,4 @@
--- The set of the components in use, as a file keeps it.
+-- The set of the components in use, as a file keeps it: this is the project's own.
 use Rattle.std.specs.Prelude.{◌≡◌, ℕ}
 use Rattle.xs_base.specs.File.{File, in_use}
 use Rattle.xs_base.specs.Sets.{has}

@@ -1,6 +1,6 @@
 //! Register files.
 
-ghost use Rattle.std.specs.Prelude.{◌≡◌, ℕ, ◌+◌, ◌<◌, ◌≤◌, ◌==◌, false, not, List, length, slice_index, IfOk, if◌then◌else◌};
+ghost use Rattle.std.specs.Prelude.{◌≡◌, ℕ, ◌+◌, ◌<◌, ◌≤◌, ◌==◌, false, not, List, length, slice_index, IfOk};
 ghost use Rattle.std.specs.List.{list_all};
 ghost use Rattle.std.specs.Str.{bytes_eq};
 ghost use Rattle.xs_base.specs.Component.{component_count, component_size, initial_part};
@@ -8,21 +8,20 @@ ghost use Rattle.xs_base.specs.File.{IsFile, part, initial_file, is_mxcsr, read_
 ghost use Rattle.xs_base.specs.Layout.{standard_size};
 ghost use Rattle.xs_base.specs.Register.{IsRegister};
 ghost use Rattle.xs_base.specs.Sets.{has};
-ghost use Rattle.xs_base.specs.Standard.{IsStandard, component_byte, saved_byte, has_control, control_bytes};
+ghost use Rattle.xs_base.specs.Standard.{IsStandard, component_byte, saved_byte};
 ghost use Rattle.xs_base.specs.Bytes.{splice};
 
 mod loading;
 
 use std::alloc::{AllocError, Global};
 use std::marker::Model;
-use xs_base::{Comp, Features, Lane, Place, put, put_component, put_initial};
+use xs_base::{
+    Comp, Features, INITIAL_MXCSR, Lane, Place, put, put_component, put_control, put_initial,
+};
 use xs_layout::{Layout, component_size};
 
 /// How many numbers of components there are, those that no machine here has included.
 const COMPONENTS: u8 = 19;
-
-/// MXCSR after initialisation (SDM volume 1, 10.2.3).
-const INITIAL_MXCSR: u32 = 0x1F80;
 
 /// The registers of one processor or one task: the bytes of every component, by its number, and MXCSR beside them.
 /// Contracts see the record `File`. What belongs to no register is zero, and what the machine lacks is initial. Which
@@ -122,7 +121,7 @@ impl File {
                 place.offset as usize,
                 bytes,
             );
-            self.used = with(self.used, place.comp, used);
+            self.used = self.used.with(place.comp, used);
         }
     }
 
@@ -143,8 +142,8 @@ impl File {
         ensures { IsStandard self.now mask.0 out.old out.new }
     {
         self.components_into(mask, out);
-        if has_control(mask) {
-            put(out, 24, &control_bytes(self.mxcsr));
+        if mask.has_control() {
+            put_control(out, self.mxcsr);
         }
     }
 
@@ -164,13 +163,6 @@ impl File {
     }
 }
 
-/// MXCSR is saved with SSE and with AVX (SDM volume 1, 13.7).
-fn has_control(mask: Features) -> bool
-    ensures { result ≡ has_control mask.0 }
-{
-    mask.has(Comp(1)) || mask.has(Comp(2))
-}
-
 /// Whether the place is that of MXCSR.
 fn is_mxcsr(place: Place) -> bool
     ensures { result ≡ is_mxcsr place }
@@ -187,18 +179,6 @@ fn put_register(out: &mut [u8], c: Comp, at: usize, bytes: &[u8]) -> bool
 {
     put(out, at, bytes);
     !is_initial(out, c)
-}
-
-/// The set, with or without the component.
-fn with(set: Features, c: Comp, wanted: bool) -> Features
-    requires { c.0 < 64 }
-    ensures { (d : ℕ) → has result.0 d ≡ (if d == c.0 then wanted else has set.0 d) }
-{
-    if wanted {
-        Features(set.0 | 1 << c.0)
-    } else {
-        Features(set.0 & !(1 << c.0))
-    }
 }
 
 /// Whether these are the initial bytes of the component.
@@ -224,15 +204,6 @@ fn are_zero(bytes: &[u8]) -> bool
     let (_, others) = bytes.split_at(1);
     let (before, _) = bytes.split_at(others.len());
     *first == 0 && others == before
-}
-
-/// MXCSR and its mask: every bit up to 15 may be set.
-#[tactic(auto, unfolding(xs_base::specs::Standard::control_bytes))]
-fn control_bytes(mxcsr: u32) -> [u8; 8]
-    ensures { result ≡ control_bytes mxcsr }
-{
-    let [a, b, c, d] = mxcsr.to_le_bytes();
-    [a, b, c, d, 0xff, 0xff, 0, 0]
 }
 
 /// The initial bytes of the component.

@@ -10,8 +10,8 @@ ghost use Rattle.xs_base.specs.Sets.{has};
 ghost use Rattle.xs_regs.specs.Loads.{IsPartLoaded, IsCleanCopy};
 ghost use Rattle.std.specs.Str.{bytes_eq};
 
-use super::{COMPONENTS, File, INITIAL_MXCSR, is_initial, put_register, with};
-use xs_base::{Comp, Features, clean, put_initial};
+use super::{COMPONENTS, File, is_initial, put_register};
+use xs_base::{Comp, Features, INITIAL_MXCSR, clean, put_initial};
 use xs_layout::{Layout, component_size};
 
 impl File {
@@ -24,7 +24,7 @@ impl File {
         ensures { IsPartLoaded c.0 bytes.now self.old self.new }
     {
         let used = put_cleaned(&mut self.parts[c.0 as usize], c, bytes);
-        self.used = with(self.used, c, used);
+        self.used = self.used.with(c, used);
     }
 
     /// Makes a component initial. A component that the machine lacks is so already.
@@ -38,7 +38,7 @@ impl File {
             return;
         }
         put_initial_part(&mut self.parts[c.0 as usize], c);
-        self.used = with(self.used, c, false);
+        self.used = self.used.with(c, false);
     }
 
     /// Makes every component initial, and the machine another one.
@@ -119,7 +119,7 @@ fn with_row(set: Features, layout: &Layout, c: Comp, wanted: bool) -> Features
     requires { c.0 < 64 }
     ensures { (d : ℕ) → has result.0 d ≡ (if d == c.0 then has_row layout.now c.0 && wanted else has set.0 d) }
 {
-    with(set, c, layout.has_row(c) && wanted)
+    set.with(c, layout.has_row(c) && wanted)
 }
 
 /// The bytes of component 9.
