@@ -25,7 +25,6 @@ use Rattle.xs_base.proofs.LayoutLemmas.{sound_at}
 use Rattle.xs_area.proofs.CursorLemmas.{IsBefore, passed, before_first, before_place, before_next}
 use Rattle.xs_base.proofs.ComponentLemmas.{zero_at, length_zeros, pkru_size}
 use Rattle.xs_base.proofs.StandardLemmas.{written_as, component_written, component_skip, component_all}
-pub use Rattle.xs_base.proofs.StandardLemmas.{control_eight}
 
 -- ---- a file with another PKRU
 

@@ -3,8 +3,7 @@ use Rattle.std.proofs.Common.{◌≡◌, ◌⊎◌, ℕ, ◌+◌, ◌<◌, ◌�
 use Rattle.std.proofs.lemmas.Bool.{cases_Bool, cases_eq, eq-eqb, ne_eqb, le-leb}
 use Rattle.std.proofs.lemmas.Bool.Decides.{nat_tests}
 use Rattle.std.proofs.lemmas.List.{get_or_default}
-use Rattle.std.specs.Prelude.{bit_or, ◌*◌, ◌%◌, ◌^◌}
-use Rattle.xs_base.proofs.SetLemmas.{has_none, has_or}
+use Rattle.xs_base.proofs.SetLemmas.{has_none}
 use Rattle.xs_base.specs.declared.component.Row.{Row}
 use Rattle.xs_base.specs.Area.{has_room, ends_inside}
 use Rattle.xs_base.specs.Compact.{is_compacted, place, has_place}
@@ -79,10 +78,6 @@ room_sse rows table area long =
     and_true false = refl
 
 -- ---- sets
-
--- one component more
-pub has_more : (set c d : ℕ) → c < 64 → has (bit_or set (1 * 2 ^ c % 2 ^ 64)) d ≡ (has set d || (d == c))
-has_more = has_or
 
 -- The set has the components that are copied, of the rows before i.
 pub record AreChosen (rows : List Row) (area : List ℕ) (set i : ℕ) (cursor : Cursor) (copied : ℕ) : Type 0 where

@@ -24,6 +24,7 @@ mod tests;
 pub use area::{Area, Lease, mxcsr, xcomp_bv, xstate_bv};
 pub use check::read_standard;
 pub use copies::{compact_of, copy_area};
+pub use cursor::Cursor;
 pub use holding::{holds_named, stands};
 pub use kernel::{class_features, class_size, compacted, make_initial};
 pub use laws::{a_file_can_be_cut, parts_have_a_file};

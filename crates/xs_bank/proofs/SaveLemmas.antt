@@ -18,7 +18,7 @@ use Rattle.xs_base.proofs.SizeLemmas.{end_covers}
 use Rattle.xs_base.proofs.StandardLemmas.{component_none}
 use Rattle.xs_area.proofs.CopyLemmas.{place_outside}
 use Rattle.xs_area.proofs.FinishLemmas.{xstate_bv_splice, xcomp_bv_same}
-use Rattle.xs_area.proofs.HeldLemmas.{control_eight}
+use Rattle.xs_base.proofs.StandardLemmas.{control_eight}
 use Rattle.xs_area.proofs.KernelLemmas.{xcomp_bv_splice}
 use Rattle.xs_area.proofs.TakeLemmas.{row_index}
 

@@ -1,11 +1,10 @@
 -- Sets by their components: one set where a mask has it, and another elsewhere.
-use Rattle.std.proofs.Common.{◌≡◌, ◌⊎◌, inl, inr, ℕ, ◌+◌, ◌%◌, ◌<◌, ◌==◌, Bool, true, false, ◌&&◌, ◌||◌, min, bit_and, bit_or, if◌then◌else◌, refl, sym, ap, ◌∙◌, arith}
+use Rattle.std.proofs.Common.{◌≡◌, ◌⊎◌, inl, inr, ℕ, ◌+◌, ◌%◌, ◌<◌, ◌==◌, min, bit_and, if◌then◌else◌, refl, ap, ◌∙◌, arith}
 use Rattle.std.proofs.lemmas.Bool.{cases_eq}
 use Rattle.std.proofs.lemmas.Nat.Bits.{bit_at_and, bit_at_xor, bit_at-lt}
 use Rattle.std.specs.Int.{bit_at}
 use Rattle.std.specs.Int.Bits.{bit_xor}
 use Rattle.xs_base.specs.Sets.{has}
-use Rattle.xs_area.proofs.RoomLemmas.{has_more}
 
 -- a bit is 0 or 1
 pub bit_cases : (set c : ℕ) → (bit_at set c ≡ 0) ⊎ (bit_at set c ≡ 1)
@@ -32,12 +31,3 @@ has_merged others inside mask c =
     here o i m (inr a) (inl b) (inr d) = rw (a, b, d) refl
     here o i m (inr a) (inr b) (inl d) = rw (a, b, d) refl
     here o i m (inr a) (inr b) (inr d) = rw (a, b, d) refl
-
--- with SSE
-pub has_sse_more : (set c : ℕ) (wanted : Bool) → wanted ≡ true → has (bit_or set 2) c ≡ (has set c || ((c == 1) && wanted))
-has_sse_more set c wanted on = has_more set 1 c (omega arith) ∙ here (has set c) (c == 1) wanted on
-  where
-    here : (a b w : Bool) → w ≡ true → (a || b) ≡ (a || (b && w))
-    here true b w on = refl
-    here false true w on = sym on
-    here false false w on = refl

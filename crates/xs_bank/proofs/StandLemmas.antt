@@ -23,7 +23,7 @@ use Rattle.xs_base.proofs.PlaceLemmas.{places_apart}
 use Rattle.xs_base.proofs.StandardLemmas.{component_none, component_one, component_control}
 use Rattle.xs_area.proofs.CopyLemmas.{place_sides, own_outside}
 use Rattle.xs_area.proofs.FinishLemmas.{mxcsr_splice, mxcsr_same}
-use Rattle.xs_area.proofs.HeldLemmas.{control_eight}
+use Rattle.xs_base.proofs.StandardLemmas.{control_eight}
 use Rattle.xs_area.proofs.TakeLemmas.{row_index}
 use Rattle.xs_area.proofs.KernelLemmas.{compacted_is, compacted_placed}
 

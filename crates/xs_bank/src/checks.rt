@@ -5,27 +5,20 @@ ghost use Rattle.std.specs.List.{list_any};
 ghost use Rattle.xs_bank.specs.Bank as banks;
 ghost use Rattle.xs_base.specs.HeaderCheck as check;
 ghost use Rattle.xs_bank.specs.Load as load;
-ghost use Rattle.xs_base.specs.Standard as standard;
 ghost use Rattle.xs_base.specs.Sets.{has};
 ghost use Rattle.xs_bank.specs.declared.instruction.Trap.TheVariants.{Nm};
 
 use crate::instruction::Trap;
 use xs_area::{mxcsr, xcomp_bv, xstate_bv};
-use xs_base::{Comp, Features, HeaderError, Place};
+use xs_base::{Comp, Features, HeaderError, MOST_MXCSR, Place};
 use xs_layout::Layout;
-
-/// TILEDATA, the only component that can be armed.
-pub const TILES: Features = Features(0x40000);
-
-/// The greatest MXCSR that is loaded: bits 16 to 31 are reserved (SDM volume 1, 10.2.3).
-const MOST_MXCSR: u32 = 0xffff;
 
 /// Whether a read of the register traps: it is one of TILEDATA, and that is armed.
 pub fn read_trap(armed: Features, place: Place) -> Option<Trap>
     ensures { result ≡ banks.read_trap armed.0 place }
 {
     if armed.has(Comp(18)) && place.comp.0 == 18 {
-        return Some(Trap::Nm(TILES));
+        return Some(Trap::Nm(Features::TILEDATA));
     }
     None
 }
@@ -35,7 +28,7 @@ pub fn write_trap(armed: Features, place: Place) -> Option<Trap>
     ensures { result ≡ banks.write_trap armed.0 place }
 {
     if armed.has(Comp(18)) && (place.comp.0 == 17 || place.comp.0 == 18) {
-        return Some(Trap::Nm(TILES));
+        return Some(Trap::Nm(Features::TILEDATA));
     }
     None
 }
@@ -56,7 +49,7 @@ pub fn standard_trap(layout: &Layout, armed: Features, mask: Features, area: &[u
     if has_byte(&area[528..536]) {
         return Some(Trap::Gp(HeaderError::Reserved));
     }
-    if has_control(mask) && mxcsr(area) > MOST_MXCSR {
+    if mask.has_control() && mxcsr(area) > MOST_MXCSR {
         return Some(Trap::Gp(HeaderError::Mxcsr));
     }
     tiles_trap(armed, mask, Features(bits))
@@ -108,13 +101,6 @@ fn has_byte(bytes: &[u8]) -> bool
     bytes.iter().any(|byte| *byte != 0)
 }
 
-/// Whether MXCSR goes with these components in the standard format (SDM volume 1, 13.7).
-pub fn has_control(mask: Features) -> bool
-    ensures { result ≡ standard.has_control mask.0 }
-{
-    mask.has(Comp(1)) || mask.has(Comp(2))
-}
-
 /// Whether MXCSR comes from a compacted area with this XSTATE_BV.
 fn takes_control(mask: Features, bits: Features) -> bool
     ensures { result ≡ (has mask.0 1 && has bits.0 1) }
@@ -127,7 +113,7 @@ fn tiles_trap(armed: Features, mask: Features, bits: Features) -> Option<Trap>
     ensures { result ≡ (if has armed.0 18 && has mask.0 18 && has bits.0 18 then Some (Nm (record { 0 = load.tiles })) else None) }
 {
     if armed.has(Comp(18)) && mask.has(Comp(18)) && bits.has(Comp(18)) {
-        return Some(Trap::Nm(TILES));
+        return Some(Trap::Nm(Features::TILEDATA));
     }
     None
 }

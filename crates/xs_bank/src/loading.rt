@@ -14,11 +14,10 @@ ghost use Rattle.xs_base.specs.declared.class.Class.{Class};
 ghost use Rattle.xs_base.specs.Sets.{has};
 ghost use Rattle.xs_bank.specs.Rows.{IsRowLoaded};
 
-use crate::checks::{compacted_trap, has_control, standard_trap};
+use crate::checks::{compacted_trap, standard_trap};
 use crate::instruction::Trap;
-use crate::saving::INITIAL_MXCSR;
-use xs_area::{mxcsr, xcomp_bv, xstate_bv};
-use xs_base::{Comp, Features, Row};
+use xs_area::{Cursor, mxcsr, xcomp_bv, xstate_bv};
+use xs_base::{Comp, Features, INITIAL_MXCSR, Row};
 use xs_regs::File;
 
 /// Loads the components of the mask from an area in the standard format, where these components are armed, or answers the
@@ -95,24 +94,25 @@ fn load_components(file: &mut File, mask: Features, area: &[u8])
     ensures { IsLoaded mask.0 area.now file.old.mxcsr file.old file.new }
 {
     let bits = Features(xstate_bv(area));
-    let names = Features(xcomp_bv(area));
+    let mut cursor = Cursor::new(Features(xcomp_bv(area)));
     'each: for i in 0..file.layout().len() {
         let row = file.layout().row_at(i);
+        let at = cursor.pass(row);
         if mask.has(row.comp) {
-            load_row(file, bits, names, row, area);
+            load_row(file, bits, row, area, at);
         }
     }
 }
 
-/// Loads the component of a row of the machine where it is of the bits, and makes it initial where it isn't.
-fn load_row(file: &mut File, bits: Features, names: Features, row: Row, area: &[u8])
+/// Loads the component of a row of the machine from byte `at` of the area where it is of the bits, and makes it initial where
+/// it isn't.
+fn load_row(file: &mut File, bits: Features, row: Row, area: &[u8], at: usize)
     requires sound { IsSound row }
     requires there { has_row file.old.rows row.comp.0 ≡ true }
-    requires held { has bits.0 row.comp.0 ≡ true → place file.old.rows names.0 row + row.size ≤ length area.now }
-    ensures { IsRowLoaded area.now bits.0 (place file.old.rows names.0 row) row.comp.0 file.old file.new }
+    requires held { has bits.0 row.comp.0 ≡ true → at + row.size ≤ length area.now }
+    ensures { IsRowLoaded area.now bits.0 at row.comp.0 file.old file.new }
 {
     if bits.has(row.comp) {
-        let at = file.layout().place(names, row) as usize;
         file.load(row.comp, &area[at..at + row.size as usize]);
     } else {
         file.reset(row.comp);
@@ -124,7 +124,7 @@ fn standard_control(mask: Features, area: &[u8], old: u32) -> u32
     requires { 576 ≤ length area.now }
     ensures { result ≡ load.standard_control mask.0 area.now old }
 {
-    if has_control(mask) { mxcsr(area) } else { old }
+    if mask.has_control() { mxcsr(area) } else { old }
 }
 
 /// MXCSR after a load from the compacted format (SDM volume 1, 13.12).

@@ -19,15 +19,18 @@ ghost use Rattle.xs_bank.specs.Load.{IsLoaded, IsWholeLoad};
 ghost use Rattle.xs_bank.specs.Registers.{AreRegisters};
 ghost use Rattle.xs_bank.specs.Tracking.{shown};
 
-use crate::checks::{TILES, read_trap, write_trap};
+use crate::checks::{read_trap, write_trap};
 use crate::instruction::Trap;
 use crate::loading::{disarm, load_compacted, load_standard};
-use crate::tracking::{LoadedArea, one, touch, track};
+use crate::tracking::{LoadedArea, only, touch, track};
 use std::alloc::{AllocError, Global};
 use std::marker::Model;
 use xs_base::{Comp, Features, Lane, Place};
 use xs_layout::Layout;
 use xs_regs::File;
+
+/// TILECFG and TILEDATA.
+const TILES: Features = Features(0x60000);
 
 /// The registers of a bank, the components that XFD is armed for, and the area that was loaded last with what changed since. At
 /// every moment MXCSR has no bit above 15, and TILEDATA is initial while it is armed.
@@ -83,7 +86,7 @@ impl Registers {
     {
         self.file.set_up(layout);
         self.armed = if layout.has_row(Comp(18)) {
-            TILES
+            Features::TILEDATA
         } else {
             Features(0)
         };
@@ -117,7 +120,7 @@ impl Registers {
         }
         are_bytes(lane.as_slice());
         self.file.write(place, lane);
-        self.tracked = touch(self.tracked, one(place.comp));
+        self.tracked = touch(self.tracked, only(place.comp));
         Ok(())
     }
 
@@ -128,7 +131,7 @@ impl Registers {
     {
         self.file.reset(Comp(17));
         self.file.reset(Comp(18));
-        self.tracked = touch(self.tracked, Features(0x60000));
+        self.tracked = touch(self.tracked, TILES);
     }
 
     /// Loads the components of the mask from the area of this number in the standard format, or answers the first reason against it (SDM

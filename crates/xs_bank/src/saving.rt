@@ -16,13 +16,9 @@ ghost use Rattle.xs_base.specs.Area.{StandsFor};
 ghost use Rattle.xs_base.specs.Sets.{has};
 ghost use Rattle.xs_base.specs.Standard.{component_byte, saved_byte};
 
-use crate::checks::has_control;
 use xs_area::{compacted, xstate_bv};
-use xs_base::{Comp, Features, put, put_component, put_control};
+use xs_base::{Comp, Features, INITIAL_MXCSR, put_component, put_control, put_number};
 use xs_regs::File;
-
-/// MXCSR after initialisation (SDM volume 1, 10.2.3).
-pub const INITIAL_MXCSR: u32 = 0x1f80;
 
 /// Saves in the standard format: these components of the mask are written, XSTATE_BV gets the bits of the whole mask. The
 /// area then stands for the mask, where its XCOMP_BV is 0 and it did so for what was left out.
@@ -35,7 +31,7 @@ pub fn save_standard(file: &File, mask: Features, written: Features, into: &mut 
     // The rows pass every test of a table.
     let _ = file.layout();
     let bits = merged(Features(xstate_bv(into)), file.in_use_of(mask), mask);
-    put_area(file, Features(0), has_control(mask), written, into);
+    put_area(file, Features(0), mask.has_control(), written, into);
     put_number(into, 512, bits.0);
 }
 
@@ -64,18 +60,8 @@ pub fn saved_bits(file: &File, mask: Features) -> Features
     ensures { (c : ℕ) → has result.0 c ≡ (has mask.0 c && is_saved file.now c) }
 {
     let used = file.in_use_of(mask);
-    with_sse(used, mask.has(Comp(1)) && file.mxcsr() != INITIAL_MXCSR)
-}
-
-/// The set, with SSE where it is wanted.
-fn with_sse(set: Features, wanted: bool) -> Features
-    ensures { (c : ℕ) → has result.0 c ≡ (has set.0 c || ((c == 1) && wanted)) }
-{
-    if wanted {
-        Features(set.0 | 1 << 1)
-    } else {
-        set
-    }
+    let control = mask.has(Comp(1)) && file.mxcsr() != INITIAL_MXCSR;
+    used.with(Comp(1), used.has(Comp(1)) | control)
 }
 
 /// The components of the mask by the one set, the others by the other.
@@ -115,13 +101,4 @@ fn put_components(file: &File, names: Features, written: Features, into: &mut [u
             put_component(into, at, row.comp, file.part(row.comp));
         }
     }
-}
-
-/// Writes a number of eight bytes, from byte `at` on.
-fn put_number(into: &mut [u8], at: usize, number: u64)
-    requires { at + 8 ≤ length into.old }
-    ensures written { into.new ≡ splice at (to_le_bytes w64 number) into.old }
-    ensures small { number < 2 ^ 64 }
-{
-    put(into, at, &number.to_le_bytes());
 }

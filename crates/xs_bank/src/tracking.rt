@@ -17,13 +17,16 @@ use xs_regs::File;
 /// The area that was loaded last, by its number and its XCOMP_BV, and the components that were changed since.
 #[derive(Clone, Copy)]
 pub struct LoadedArea {
+    /// Its number.
     pub id: u64,
+    /// Its XCOMP_BV.
     pub names: u64,
+    /// The components that were changed since.
     pub modified: Features,
 }
 
 /// The set of one component.
-pub fn one(comp: Comp) -> Features
+pub fn only(comp: Comp) -> Features
     requires { comp.0 < 64 }
     ensures { result.0 ≡ 2 ^ comp.0 }
 {

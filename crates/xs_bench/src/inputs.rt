@@ -5,7 +5,7 @@ ghost use Rattle.std.specs.Prelude.{◌≡◌, IfOk};
 
 use std::alloc::{AllocError, Global};
 use xs_area::{Area, Class, class_features, class_size, compacted};
-use xs_base::{Features, Lane, clear, put};
+use xs_base::{Features, INITIAL_MXCSR, Lane, clear, put};
 use xs_layout::Layout;
 use xs_regs::{File, place_of};
 
@@ -16,9 +16,6 @@ const REGISTERS: [&str; 9] = [
 
 /// The bytes that are written into each register.
 const ONES: [u8; 64] = [1; 64];
-
-/// MXCSR after initialisation (SDM volume 1, 10.2.3).
-const INITIAL_MXCSR: u32 = 0x1f80;
 
 /// The file of a machine with every component in use.
 pub fn full_file(alloc: Global, layout: &Layout) -> Result<File, AllocError> {

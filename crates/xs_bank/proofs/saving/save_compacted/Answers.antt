@@ -24,15 +24,15 @@ pub put_number-requires-2 : goal.put_number-requires-2
 put_number-requires-2 c =
     let low = compact_size_low c.args.file.now.rows c.args.mask.0 in
     let len = c.put_area.ensures.written.len in
-    let auto = c.put_number.auto.into in
+    let auto = c.put_number.auto.out in
     omega arith
 
 -- what was saved
-saved_is : (c : goal.After-slice_known-4-1) → IsCompactedSave c.args.file.now c.args.mask.0 c.args.written.0 c.args.into.now c.put_number-2.new.into
+saved_is : (c : goal.After-slice_known-4-1) → IsCompactedSave c.args.file.now c.args.mask.0 c.args.written.0 c.args.into.now c.put_number-2.new.out
 saved_is c =
     let low = compact_size_low c.args.file.now.rows c.args.mask.0 in
     let long : 576 ≤ length c.args.into.now = omega arith in
-    compacted_saved c.args.file.now c.args.mask.0 c.args.written.0 c.compacted-names.result.0 c.saved_bits.result.0 c.has.result c.args.into.now c.put_area.new.into c.put_number.new.into c.put_number-2.new.into long c.has.ensures c.compacted-names.ensures c.put_area.ensures.written c.put_number.ensures.written c.put_number.ensures.small c.put_number-2.ensures.written c.put_number-2.ensures.small c.saved_bits.ensures
+    compacted_saved c.args.file.now c.args.mask.0 c.args.written.0 c.compacted-names.result.0 c.saved_bits.result.0 c.has.result c.args.into.now c.put_area.new.into c.put_number.new.out c.put_number-2.new.out long c.has.ensures c.compacted-names.ensures c.put_area.ensures.written c.put_number.ensures.written c.put_number.ensures.small c.put_number-2.ensures.written c.put_number-2.ensures.small c.saved_bits.ensures
 
 pub returns-clause-saved : goal.returns-clause-saved
 returns-clause-saved c = saved_is c
@@ -41,15 +41,15 @@ pub returns-clause-stands : goal.returns-clause-stands
 returns-clause-stands c = λ left.
     let low = compact_size_low c.args.file.now.rows c.args.mask.0 in
     let long : 576 ≤ length c.args.into.now = omega arith in
-    compacted_stands c.args.file.now c.args.mask.0 c.args.written.0 c.args.into.now c.put_number-2.new.into c.layout.ensures.file (saved_is c) long c.requires.machine c.requires.within left
+    compacted_stands c.args.file.now c.args.mask.0 c.args.written.0 c.args.into.now c.put_number-2.new.out c.layout.ensures.file (saved_is c) long c.requires.machine c.requires.within left
 
 pub returns-clause-whole : goal.returns-clause-whole
 returns-clause-whole c = λ within sse outside.
-    stands_whole c.args.file.now c.args.mask.0 c.args.written.0 c.args.into.now c.put_number-2.new.into c.layout.ensures.file.layout (saved_is c) within sse outside
+    stands_whole c.args.file.now c.args.mask.0 c.args.written.0 c.args.into.now c.put_number-2.new.out c.layout.ensures.file.layout (saved_is c) within sse outside
 
 pub returns-clause-loadable : goal.returns-clause-loadable
 returns-clause-loadable c = λ class id save within.
     let low = compact_size_low c.args.file.now.rows c.args.mask.0 in
     let long : 576 ≤ length c.args.into.now = omega arith in
     let sse = class_sse c.args.file.now.rows class c.args.mask.0 c.layout.ensures.file.layout save.features in
-    loadable_saved c.args.file.now c.args.mask.0 c.args.written.0 class id c.args.into.now c.put_number-2.new.into c.layout.ensures.file long (saved_is c) save (returns-clause-whole c within sse save.outside)
+    loadable_saved c.args.file.now c.args.mask.0 c.args.written.0 class id c.args.into.now c.put_number-2.new.out c.layout.ensures.file long (saved_is c) save (returns-clause-whole c within sse save.outside)

@@ -26,12 +26,12 @@ returns-clause-saved c =
     let low = end_low (has c.args.mask.0) c.args.file.now.rows in
     let long : 576 ≤ length c.args.into.now = omega arith in
     let merged = rw c.xstate_bv.ensures at c.merged-bits.ensures in
-    standard_saved c.args.file.now c.args.mask.0 c.args.written.0 c.merged-bits.result.0 c.in_use_of.result.0 c.has_control.result c.args.into.now c.put_area.new.into c.put_number.new.into long c.has_control.ensures c.put_area.ensures.written c.put_area.ensures.header c.put_number.ensures.written c.put_number.ensures.small merged c.in_use_of.ensures.each
+    standard_saved c.args.file.now c.args.mask.0 c.args.written.0 c.merged-bits.result.0 c.in_use_of.result.0 c.has_control.result c.args.into.now c.put_area.new.into c.put_number.new.out long c.has_control.ensures c.put_area.ensures.written c.put_area.ensures.header c.put_number.ensures.written c.put_number.ensures.small merged c.in_use_of.ensures.each
 
 pub returns-clause-stands : goal.returns-clause-stands
 returns-clause-stands c = λ zero left.
     let low = end_low (has c.args.mask.0) c.args.file.now.rows in
     let long : 576 ≤ length c.args.into.now = omega arith in
     let merged = rw c.xstate_bv.ensures at c.merged-bits.ensures in
-    let saved = standard_saved c.args.file.now c.args.mask.0 c.args.written.0 c.merged-bits.result.0 c.in_use_of.result.0 c.has_control.result c.args.into.now c.put_area.new.into c.put_number.new.into long c.has_control.ensures c.put_area.ensures.written c.put_area.ensures.header c.put_number.ensures.written c.put_number.ensures.small merged c.in_use_of.ensures.each in
-    standard_stands c.args.file.now c.args.mask.0 c.args.written.0 c.args.into.now c.put_number.new.into c.layout.ensures.file saved zero long left
+    let saved = standard_saved c.args.file.now c.args.mask.0 c.args.written.0 c.merged-bits.result.0 c.in_use_of.result.0 c.has_control.result c.args.into.now c.put_area.new.into c.put_number.new.out long c.has_control.ensures c.put_area.ensures.written c.put_area.ensures.header c.put_number.ensures.written c.put_number.ensures.small merged c.in_use_of.ensures.each in
+    standard_stands c.args.file.now c.args.mask.0 c.args.written.0 c.args.into.now c.put_number.new.out c.layout.ensures.file saved zero long left

@@ -15,4 +15,4 @@ pub returns-clause-ready : goal.returns-clause-ready
 returns-clause-ready c = λ id m area ready.
     let file = c.self.inside.file in
     let change = change_written file c.args.place c.args.lane.now in
-    rw (c.touch-self-inside.ensures, c.one.ensures, c.write.ensures.written) (ready_changed (2 ^ c.args.place.comp.0) file _ (shown c.self.inside.tracked) id m area change (rw (← c.self.view_is) at ready))
+    rw (c.touch-self-inside.ensures, c.only.ensures, c.write.ensures.written) (ready_changed (2 ^ c.args.place.comp.0) file _ (shown c.self.inside.tracked) id m area change (rw (← c.self.view_is) at ready))
