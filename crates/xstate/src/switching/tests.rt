@@ -1,5 +1,7 @@
 //! A task's area on a bank: a reserved byte of its header is refused, and then nothing is loaded.
 
+ghost use Rattle.std.specs.Prelude.{◌≡◌};
+
 use super::*;
 use std::alloc::{AllocError, Global};
 use std::test::Fail;
