@@ -114,3 +114,12 @@ Unfailed reads reads' writes writes' statuses.ReadFault = writes' ≡ writes
 Unfailed reads reads' writes writes' statuses.WriteFault = reads' ≡ reads
 Unfailed reads reads' writes writes' statuses.NoMemory = (reads' ≡ reads) × (writes' ≡ writes)
 Unfailed reads reads' writes writes' statuses.Usage = (reads' ≡ reads) × (writes' ≡ writes)
+
+-- The processors are as they were but where a script may have run: at its whole history, and where a write failed.
+abbrev pub KeepsProcessors : {A : Type 0} → List A → List A → Status → Type 0
+KeepsProcessors cpus cpus' statuses.Done = Unit {0}
+KeepsProcessors cpus cpus' statuses.Refused = cpus' ≡ cpus
+KeepsProcessors cpus cpus' statuses.ReadFault = cpus' ≡ cpus
+KeepsProcessors cpus cpus' statuses.WriteFault = Unit {0}
+KeepsProcessors cpus cpus' statuses.NoMemory = cpus' ≡ cpus
+KeepsProcessors cpus cpus' statuses.Usage = cpus' ≡ cpus

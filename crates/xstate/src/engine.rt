@@ -1,6 +1,6 @@
 //! The engine of one processor: it runs the tasks of a script by turns, and keeps their registers apart.
 
-ghost use Rattle.std.specs.Prelude.{◌≡◌, ℕ, ◌+◌, ◌-◌, ◌*◌, ◌<◌, ◌≤◌, [], ◌∷◌, ◌++◌, true, false, length, vec_len, slice_set, IfOk, IfSome, IfNone, Some, None};
+ghost use Rattle.std.specs.Prelude.{◌≡◌, ℕ, ◌+◌, ◌-◌, ◌*◌, ◌<◌, ◌≤◌, [], ◌∷◌, ◌++◌, true, false, length, vec_len, slice_set, IfOk, IfErr, IfSome, IfNone, Some, None};
 ghost use Rattle.xs_area.specs.declared.area.Lease.{Lease};
 ghost use Rattle.xs_model.specs.Machine.{how_of};
 ghost use Rattle.xs_model.specs.Script.{IsValid, IsBuilt};
@@ -37,11 +37,13 @@ struct Pause {
     over: bool,
 }
 
-/// Runs a script on one processor, and answers its whole history.
+/// Runs a script on one processor, and answers its whole history. Fails for want of memory alone, and then the processor is
+/// as it was.
 pub fn run<B: Bank>(alloc: Global, script: &Script, cpu: &mut Cpu<B>) -> Result<History, AllocError>
     requires valid { IsValid script.now }
     requires built { IsBuilt script.now }
-    ensures { IfOk result (IsWhole script.now) }
+    ensures whole { IfOk result (IsWhole script.now) }
+    ensures untouched { IfErr result (λ _. cpu.new ≡ cpu.old) }
 {
     let mut engine = Engine::open(alloc, script, cpu)?;
     while let Some(task) = engine.next_task(cpu.mark) {
@@ -93,6 +95,7 @@ impl Engine {
         requires built { IsBuilt script.now }
         ensures rest { IfOk result (λ engine. IsResting script.now (B.state cpu.new.bank) cpu.new.mark (state_of engine)) }
         ensures room { IfOk result (λ engine. HasRoom (state_of engine) (2 * work script.now.blocks engine.tasks.items)) }
+        ensures untouched { IfErr result (λ _. cpu.new ≡ cpu.old) }
     {
         let count = script.blocks.len();
         let mut pool = AreaPool::open(alloc, &script.layout, count as u32, script.large)?;

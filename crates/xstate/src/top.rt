@@ -1,13 +1,13 @@
 //! The top call: all that the program does, over any source and sink.
 
-ghost use Rattle.std.specs.Prelude.{◌≡◌, ℕ, ◌<◌, List, ◌⊎◌, ◌↔◌, length, map, slice_get, string_bytes, IsTrue, Some};
+ghost use Rattle.std.specs.Prelude.{◌≡◌, ℕ, ◌<◌, List, ◌⊎◌, ◌↔◌, length, map, drop, slice_get, string_bytes, IsTrue, Some};
 ghost use Rattle.xs_bank.specs.declared.cpu.Cpu.{Cpu};
 ghost use Rattle.xs_bank.specs.Bank.{HasCountedNothing};
 ghost use Rattle.std.specs.Io.KnownBytes.{Appends};
 ghost use Rattle.xs_io.specs.Causes.{Rose};
 ghost use Rattle.xs_model.specs.Script.{IsValid, IsBuilt};
 ghost use Rattle.xs_model.specs.declared.script.Script.{Script};
-ghost use Rattle.xstate.specs.Answers.{IsRun, IsAccepted, IsRefused, AnswerEnds, TellEnds, RunEnds, WriteEnds, IsFront, TakesAtMost, Unfailed, usage_text, too_long_text};
+ghost use Rattle.xstate.specs.Answers.{IsRun, IsAccepted, IsRefused, AnswerEnds, TellEnds, RunEnds, WriteEnds, IsFront, TakesAtMost, Unfailed, KeepsProcessors, usage_text, too_long_text};
 ghost use Rattle.xstate.specs.Headline.{Headline, Refusal, MayRun, MayRefuse};
 ghost use Rattle.xstate.specs.RefusalText.{refusal_text};
 ghost use Rattle.xstate.specs.Text.{AreTasksKnown, history_text};
@@ -38,7 +38,7 @@ const TOO_LONG: &[u8] = b"refused 0 too-long\n";
 
 /// Does what the words of the command line ask: `run` reads a script from the source and writes its history to the
 /// sink. `words` is the command line without the program's name. The processors are sixteen, numbered from 0 in order, whose
-/// banks have counted nothing; those of the script are set up once all memory is found.
+/// banks have counted nothing. The script's one is the first: it's set up once all memory is found, and no other changes.
 pub fn top<S: Source, K: Sink, B: Bank>(
     alloc: Global,
     words: &[String],
@@ -77,6 +77,10 @@ pub fn top<S: Source, K: Sink, B: Bank>(
         × TakesAtMost (S.left source.old) (S.left source.new) × (K.written sink.new ≡ K.written sink.old) }
     // No fault is passed over: the source failed only at 4, and the sink only at 5.
     ensures unfailed { Unfailed (S.fault_count source.old) (S.fault_count source.new) (K.fault_count sink.old) (K.fault_count sink.new) result }
+    // At 64, 2, 4 and 6 no script ran, and no processor changed.
+    ensures untouched { KeepsProcessors cpus.old cpus.new result }
+    // No processor past the first changes, since this version's scripts have one.
+    ensures others { drop 1 cpus.new ≡ drop 1 cpus.old }
 {
     if is_run(words) {
         run_command(alloc, source, sink, cpus)
@@ -103,8 +107,10 @@ fn run_command<S: Source, K: Sink, B: Bank>(
     cpus: &mut [Cpu<B>],
 ) -> Status
     requires { 0 < length cpus.old }
-    ensures { RunEnds (S.left source.old) (S.left source.new) (S.fault_count source.old) (S.fault_count source.new)
+    ensures ends { RunEnds (S.left source.old) (S.left source.new) (S.fault_count source.old) (S.fault_count source.new)
         (K.written sink.old) (K.written sink.new) (K.fault_count sink.old) (K.fault_count sink.new) result }
+    ensures untouched { KeepsProcessors cpus.old cpus.new result }
+    ensures others { drop 1 cpus.new ≡ drop 1 cpus.old }
 {
     match read_up_to(alloc, LIMIT, source) {
         Ok(input) => answer(alloc, input.as_slice(), sink, cpus),
@@ -121,7 +127,9 @@ fn answer<K: Sink, B: Bank>(
     cpus: &mut [Cpu<B>],
 ) -> Status
     requires { 0 < length cpus.old }
-    ensures { AnswerEnds input.now (K.written sink.old) (K.written sink.new) (K.fault_count sink.old) (K.fault_count sink.new) result }
+    ensures ends { AnswerEnds input.now (K.written sink.old) (K.written sink.new) (K.fault_count sink.old) (K.fault_count sink.new) result }
+    ensures untouched { KeepsProcessors cpus.old cpus.new result }
+    ensures others { drop 1 cpus.new ≡ drop 1 cpus.old }
 {
     if input.len() > LIMIT {
         return tell(sink, TOO_LONG, Status::Refused);
@@ -151,7 +159,8 @@ fn write_run<K: Sink, B: Bank>(
 ) -> Status
     requires valid { IsValid script.now }
     requires built { IsBuilt script.now }
-    ensures { WriteEnds script.now (K.written sink.old) (K.written sink.new) (K.fault_count sink.old) (K.fault_count sink.new) result }
+    ensures ends { WriteEnds script.now (K.written sink.old) (K.written sink.new) (K.fault_count sink.old) (K.fault_count sink.new) result }
+    ensures untouched { result ≡ Status.NoMemory → cpu.new ≡ cpu.old }
 {
     match run(alloc, script, cpu) {
         Ok(history) => tell_history(script, history.events(), sink),

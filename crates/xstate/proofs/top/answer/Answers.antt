@@ -4,21 +4,21 @@ use Rattle.xstate.specs.RefusalText.{refusal_text}
 use Rattle.xstate.proofs.AnswerLemmas.{refused_told, run_told}
 use Rattle.xstate.proofs.top.answer.Goals as goal
 
-pub returns-then-input-gt-LIMIT : goal.returns-then-input-gt-LIMIT
-returns-then-input-gt-LIMIT g c =
+pub returns-then-input-gt-LIMIT-clause-ends : goal.returns-then-input-gt-LIMIT-clause-ends
+returns-then-input-gt-LIMIT-clause-ends g c =
     let long : limit < length c.args.input.now = omega arith in
     refused_told c.args.input.now too_long_text (g.K.Sink.written c.args.sink.now) (g.K.Sink.written c.tell.new.sink)
     (g.K.Sink.fault_count c.args.sink.now) (g.K.Sink.fault_count c.tell.new.sink) c.tell.result
     (TooLong long) c.tell.ensures
 
-pub returns-in-Ok : goal.returns-in-Ok
-returns-in-Ok g c =
+pub returns-in-Ok-clause-ends : goal.returns-in-Ok-clause-ends
+returns-in-Ok-clause-ends g c =
     run_told c.args.input.now c.in-Ok.script (g.K.Sink.written c.args.sink.now) (g.K.Sink.written c.write_run.new.sink)
     (g.K.Sink.fault_count c.args.sink.now) (g.K.Sink.fault_count c.write_run.new.sink) c.write_run.result
-    (record { short = omega arith; spelled = c.in-Ok.ensures.spelled }) c.write_run.ensures
+    (record { short = omega arith; spelled = c.in-Ok.ensures.spelled }) c.write_run.ensures.ends
 
-pub returns-in-Err-Refused : goal.returns-in-Err-Refused
-returns-in-Err-Refused g c =
+pub returns-in-Err-Refused-clause-ends : goal.returns-in-Err-Refused-clause-ends
+returns-in-Err-Refused-clause-ends g c =
     let tell = c.tell_refusal in
     let line = c.in-Err-Refused.line in
     let kind = c.in-Err-Refused.kind in
