@@ -7,7 +7,7 @@ ghost use Rattle.xs_base.specs.HeaderCheck as check;
 
 use crate::area::{mxcsr, xcomp_bv, xstate_bv};
 use byteorder::{ByteOrder, LittleEndian};
-use xs_base::{Comp, Features, HeaderError, INITIAL_MXCSR, MOST_MXCSR, Origin, Parts};
+use xs_base::{Comp, Features, HeaderError, INITIAL_MXCSR, MOST_MXCSR, Origin, Parts, are_zero};
 use xs_layout::Layout;
 
 /// What an image in the standard format has, at least `full_size` bytes, or the first test that it fails where these
@@ -56,7 +56,7 @@ fn has_reserved(bytes: &[u8]) -> bool
     requires { 576 ≤ length bytes.now }
     ensures { result ≡ check.has_reserved bytes.now }
 {
-    bytes[528..576].iter().any(|byte| *byte != 0)
+    !are_zero(&bytes[528..576])
 }
 
 /// Whether MXCSR is looked at.

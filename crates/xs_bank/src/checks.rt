@@ -10,7 +10,7 @@ ghost use Rattle.xs_bank.specs.declared.instruction.Trap.TheVariants.{Nm};
 
 use crate::instruction::Trap;
 use xs_area::{mxcsr, xcomp_bv, xstate_bv};
-use xs_base::{Comp, Features, HeaderError, MOST_MXCSR, Place};
+use xs_base::{Comp, Features, HeaderError, MOST_MXCSR, Place, are_zero};
 use xs_layout::Layout;
 
 /// Whether a read of the register traps: it is one of TILEDATA, and that is armed.
@@ -98,7 +98,7 @@ fn has_outside(set: u64, allowed: u64) -> bool
 fn has_byte(bytes: &[u8]) -> bool
     ensures { result ≡ list_any (λ byte. not (byte == 0)) bytes.now }
 {
-    bytes.iter().any(|byte| *byte != 0)
+    !are_zero(bytes)
 }
 
 /// Whether MXCSR comes from a compacted area with this XSTATE_BV.

@@ -13,3 +13,4 @@ pub mod FileLemmas
 pub mod Registers
 pub mod WorkedValues
 pub mod AreaLemmas
+pub mod ZeroLemmas

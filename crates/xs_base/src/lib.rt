@@ -14,6 +14,7 @@ mod mxcsr;
 #[cfg(test)]
 mod tests;
 mod words;
+mod zeros;
 
 pub use bytes::{
     clean, clear, put, put_component, put_control, put_initial, put_initial_component, put_number,
@@ -26,3 +27,4 @@ pub use layout_error::{LayoutError, LayoutFault};
 pub use little_endian::four_bytes_again;
 pub use mxcsr::{INITIAL_MXCSR, MOST_MXCSR};
 pub use words::{Errno, How, Set, Signo};
+pub use zeros::are_zero;

@@ -1,6 +1,5 @@
-//! The instructions of a bank, each made many times. Each turn writes PKRU, for which no area here has a place, or changes
-//! eight bytes of the area that is loaded, and takes a byte of what it wrote into a sum, so that no compiler leaves a call
-//! out.
+//! The instructions of a bank, each made many times. Each turn takes a byte of what it wrote into a sum, and one that loads first
+//! changes eight bytes of the area, so that no compiler leaves a call out.
 
 ghost use Rattle.std.specs.Prelude.{◌≡◌, ℕ, List, IfSome};
 ghost use Rattle.xs_bank.specs.Bank.{IsReady};
@@ -142,7 +141,6 @@ fn repeat_saves<B: Bank>(bank: &mut B, layout: &Layout, area: &mut Area, turns: 
     }
     let mut sum = 0;
     'turns: for turn in 0..turns {
-        bank.wrpkru((turn % 256) as u32);
         bank.xsaves(mask, area);
         sum = sum_with(sum, &area.bytes, turn);
     }

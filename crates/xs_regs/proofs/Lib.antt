@@ -4,7 +4,6 @@ pub mod Members
 pub mod TileRows
 pub mod NameKinds
 pub mod Initials
-pub mod Zeros
 pub mod Parts
 pub mod InUse
 pub mod StandardBytes

@@ -1,7 +1,6 @@
 //! Register files.
 
 ghost use Rattle.std.specs.Prelude.{◌≡◌, ℕ, ◌+◌, ◌<◌, ◌≤◌, ◌==◌, false, not, List, length, slice_index, IfOk};
-ghost use Rattle.std.specs.List.{list_all};
 ghost use Rattle.std.specs.Str.{bytes_eq};
 ghost use Rattle.xs_base.specs.Component.{component_count, component_size, initial_part};
 ghost use Rattle.xs_base.specs.File.{IsFile, part, initial_file, is_mxcsr, read_place, write_place, in_use};
@@ -16,7 +15,8 @@ mod loading;
 use std::alloc::{AllocError, Global};
 use std::marker::Model;
 use xs_base::{
-    Comp, Features, INITIAL_MXCSR, Lane, Place, put, put_component, put_control, put_initial,
+    Comp, Features, INITIAL_MXCSR, Lane, Place, are_zero, put, put_component, put_control,
+    put_initial,
 };
 use xs_layout::{Layout, component_size};
 
@@ -192,18 +192,6 @@ fn is_initial(bytes: &[u8], c: Comp) -> bool
     } else {
         are_zero(bytes)
     }
-}
-
-/// Whether every byte is zero: the first is, and each other is as the one before it.
-fn are_zero(bytes: &[u8]) -> bool
-    ensures { result ≡ list_all (λ b. b == 0) bytes.now }
-{
-    let Some(first) = bytes.first() else {
-        return true;
-    };
-    let (_, others) = bytes.split_at(1);
-    let (before, _) = bytes.split_at(others.len());
-    *first == 0 && others == before
 }
 
 /// The initial bytes of the component.

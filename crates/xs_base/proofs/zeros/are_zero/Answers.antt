@@ -1,7 +1,7 @@
 -- The first byte, and the others beside those before them.
 use Rattle.std.proofs.Common.{◌∙◌}
-use Rattle.xs_regs.proofs.Zeros.{zeros_by_shift}
-use Rattle.xs_regs.proofs.file.are_zero.Goals as goal
+use Rattle.xs_base.proofs.ZeroLemmas.{zeros_by_shift}
+use Rattle.xs_base.proofs.zeros.are_zero.Goals as goal
 
 pub returns-then-first-eq0 : goal.returns-then-first-eq0
 returns-then-first-eq0 c =
