@@ -35,14 +35,14 @@ and_none true b off = off
 and_none false b off = refl
 
 -- no built register traps
-pub write_passes : (bank : banks.Bank) (place : Place) → is_built place ≡ true → banks.write_trap bank place ≡ None
-write_passes bank place built =
-    no_trap (has bank.armed 18 && ((place.comp.0 == 17) || (place.comp.0 == 18))) _
-    (and_none (has bank.armed 18) ((place.comp.0 == 17) || (place.comp.0 == 18)) (rw (ne_eqb place.comp.0 17 (built_not_config place built), ne_eqb place.comp.0 18 (built_not_tiles place built)) refl))
+pub write_passes : (armed : ℕ) (place : Place) → is_built place ≡ true → banks.write_trap armed place ≡ None
+write_passes armed place built =
+    no_trap (has armed 18 && ((place.comp.0 == 17) || (place.comp.0 == 18))) _
+    (and_none (has armed 18) ((place.comp.0 == 17) || (place.comp.0 == 18)) (rw (ne_eqb place.comp.0 17 (built_not_config place built), ne_eqb place.comp.0 18 (built_not_tiles place built)) refl))
 
-pub read_passes : (bank : banks.Bank) (place : Place) → is_built place ≡ true → banks.read_trap bank place ≡ None
-read_passes bank place built =
-    no_trap (has bank.armed 18 && (place.comp.0 == 18)) _ (and_none (has bank.armed 18) (place.comp.0 == 18) (ne_eqb place.comp.0 18 (built_not_tiles place built)))
+pub read_passes : (armed : ℕ) (place : Place) → is_built place ≡ true → banks.read_trap armed place ≡ None
+read_passes armed place built =
+    no_trap (has armed 18 && (place.comp.0 == 18)) _ (and_none (has armed 18) (place.comp.0 == 18) (ne_eqb place.comp.0 18 (built_not_tiles place built)))
 
 -- ---- a register written in a task's file and in the bank
 

@@ -21,10 +21,10 @@ pub unreachable-requires : goal.unreachable-requires
 unreachable-requires g c =
     let register = rw c.as_slice.ensures.bytes at c.place_in-place.ensures in
     let built = built_place c.args.layout.now (commands.Set c.in-Set.reg c.in-Set.bytes) c.place_in-place.result register (rw c.in-Set.is at c.requires.built) in
-    cc (sym c.in-Err.ensures.trap ∙ write_passes (g.B.Bank.state c.args.bank.now) c.place_in-place.result built)
+    cc (sym c.in-Err.ensures.trap ∙ write_passes (g.B.Bank.state c.args.bank.now).armed c.place_in-place.result built)
 
 pub unreachable-requires-in-Err-read : goal.unreachable-requires-in-Err-read
 unreachable-requires-in-Err-read g c =
     let register = rw c.as_slice-in-Get.ensures.bytes at c.place_in-place-in-Get.ensures in
     let built = built_place c.args.layout.now (commands.Get c.in-Get.reg) c.place_in-place-in-Get.result register (rw c.in-Get.is at c.requires.built) in
-    cc (sym c.in-Err-read.ensures.trap ∙ read_passes (g.B.Bank.state c.args.bank.now) c.place_in-place-in-Get.result built)
+    cc (sym c.in-Err-read.ensures.trap ∙ read_passes (g.B.Bank.state c.args.bank.now).armed c.place_in-place-in-Get.result built)
