@@ -1,4 +1,4 @@
--- One component of a file loaded or made initial.
+-- One component of a file loaded or made initial (SDM volume 1, 13.8 and 13.12), for the crate's own loop.
 use Rattle.std.specs.Prelude.{◌≡◌, ℕ, true, false, List}
 use Rattle.xs_base.specs.Area.{StandsAt}
 use Rattle.xs_base.specs.Component.{initial_part}

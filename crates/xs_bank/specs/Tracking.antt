@@ -1,4 +1,4 @@
--- The tracked area as the code keeps it.
+-- The tracked area as the code keeps it (SDM volume 1, 13.6).
 use Rattle.std.specs.Prelude.{Option, Some, None}
 use Rattle.xs_bank.specs.Bank.{Tracked}
 use Rattle.xs_bank.specs.declared.tracking.LoadedArea.{LoadedArea}

@@ -1,4 +1,4 @@
--- What instructions on registers keep of a bank, for tests that run several before a save.
+-- What instructions on registers keep of a bank, for tests that run several before a save. This project's own.
 use Rattle.std.specs.Prelude.{◌≡◌, ℕ, List}
 use Rattle.xs_bank.specs.Bank.{Bank, IsReady}
 

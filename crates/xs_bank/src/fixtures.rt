@@ -17,7 +17,9 @@ use xs_regs::place_of;
 /// Why a call of a test isn't answered: it can't be made, since the machine or the area has no room for it, or it traps.
 #[derive(Clone, Copy, PartialEq, Eq, Debug)]
 pub enum Refusal {
+    /// The machine or the area has no room for it.
     NoRoom,
+    /// It traps.
     Trapped(Trap),
 }
 

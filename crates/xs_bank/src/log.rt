@@ -43,11 +43,17 @@ pub fn answer_of(outcome: Result<(), Refusal>) -> Answer {
 /// A call, its answer, and what the bank tells after it.
 #[derive(Clone, Copy, PartialEq, Eq, Debug)]
 pub struct Shown {
+    /// Which call it is.
     pub call: Call,
+    /// What it answered.
     pub answer: Answer,
+    /// PKRU after it.
     pub pkru: u32,
+    /// The instructions so far, with their trail.
     pub execs: Execs,
+    /// The loads so far.
     pub loads: u64,
+    /// The saves so far.
     pub saves: u64,
 }
 
@@ -69,7 +75,9 @@ pub const MOST: usize = 64;
 /// What calls showed, in their order, as far as there is room.
 #[derive(Drop)]
 pub struct Log {
+    /// The calls, and nothing behind them.
     pub calls: [Option<Shown>; MOST],
+    /// How many there are.
     pub len: usize,
 }
 

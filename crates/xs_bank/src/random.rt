@@ -14,6 +14,7 @@ const NAMES: [&str; 32] = [
 /// A linear congruential generator with Knuth's numbers.
 #[derive(Drop)]
 pub struct Random {
+    /// What the next number is made from.
     pub state: u64,
 }
 

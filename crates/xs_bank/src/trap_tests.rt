@@ -108,6 +108,7 @@ fn compacted<B: Bank>(bank: &mut B, mask: u64, area: &Area) -> Result<(), Refusa
     load_compacted(bank, &layout, Features(mask), area)
 }
 
+/// The same in the standard format.
 fn standard<B: Bank>(bank: &mut B, mask: u64, area: &Area) -> Result<(), Refusal> {
     let layout = Layout::amx();
     bank.set_up(&layout);
@@ -122,69 +123,67 @@ fn refused(trap: Option<Trap>) -> Result<(), Refusal> {
     }
 }
 
+/// The reasons against a load from the compacted format, in their order.
+const COMPACTED_CAUSES: [Cause; 9] = [
+    Cause::UnknownState,
+    Cause::UnknownPlace,
+    Cause::NoPlace,
+    Cause::OtherFormat,
+    Cause::Byte(528),
+    Cause::Byte(536),
+    Cause::Byte(575),
+    Cause::WrongMxcsr,
+    Cause::Tiles,
+];
+
+/// The reasons against a load from the standard format, in their order.
+const STANDARD_CAUSES: [Cause; 7] = [
+    Cause::UnknownState,
+    Cause::SomeName,
+    Cause::OtherFormat,
+    Cause::Byte(528),
+    Cause::Byte(535),
+    Cause::WrongMxcsr,
+    Cause::Tiles,
+];
+
+/// A load with this mask for every set of reasons: the first one of the set is answered, and none where the set is empty.
+fn compacted_causes<B: Bank>(rt: &impl Abort, bank: &mut B, mask: u64, area: &mut Area) {
+    for set in 0..1u32 << COMPACTED_CAUSES.len() {
+        let expected = put_causes(area, COMPACTED | 0x60003, &COMPACTED_CAUSES, set);
+        assert_eq!(rt; compacted(bank, mask, area), refused(expected), "at {set}");
+    }
+}
+
+/// The same in the standard format.
+fn standard_causes<B: Bank>(rt: &impl Abort, bank: &mut B, mask: u64, area: &mut Area) {
+    for set in 0..1u32 << STANDARD_CAUSES.len() {
+        let expected = put_causes(area, 0, &STANDARD_CAUSES, set);
+        assert_eq!(rt; standard(bank, mask, area), refused(expected), "at {set}");
+    }
+}
+
 #[test]
 fn a_compacted_load_is_refused_by_its_first_reason(rt: HostRuntime) -> Result<(), Fail> {
-    let causes = [
-        Cause::UnknownState,
-        Cause::UnknownPlace,
-        Cause::NoPlace,
-        Cause::OtherFormat,
-        Cause::Byte(528),
-        Cause::Byte(536),
-        Cause::Byte(575),
-        Cause::WrongMxcsr,
-        Cause::Tiles,
-    ];
     let mut plain = PlainBank::new(rt.alloc())?;
     let mut track = TrackBank::new(rt.alloc())?;
     let mut area = zeros(rt.alloc(), 7, 16384)?;
     for mask in [0x600e7, 0x40002] {
-        for set in 0..1u32 << causes.len() {
-            let expected = put_causes(&mut area, COMPACTED | 0x60003, &causes, set);
-            assert_eq!(rt;
-                compacted(&mut plain, mask, &area),
-                refused(expected),
-                "at {set}"
-            );
-            assert_eq!(rt;
-                compacted(&mut track, mask, &area),
-                refused(expected),
-                "at {set}"
-            );
-        }
+        compacted_causes(&rt, &mut plain, mask, &mut area);
+        compacted_causes(&rt, &mut track, mask, &mut area);
     }
     Ok(())
 }
 
 #[test]
 fn a_standard_load_is_refused_by_its_first_reason(rt: HostRuntime) -> Result<(), Fail> {
-    let causes = [
-        Cause::UnknownState,
-        Cause::SomeName,
-        Cause::OtherFormat,
-        Cause::Byte(528),
-        Cause::Byte(535),
-        Cause::WrongMxcsr,
-        Cause::Tiles,
-    ];
     let mut plain = PlainBank::new(rt.alloc())?;
     let mut track = TrackBank::new(rt.alloc())?;
     let mut area = zeros(rt.alloc(), 7, 16384)?;
     // MXCSR is looked at with SSE and with AVX.
     for mask in [0x600e7, 0x40002, 0x40004] {
-        for set in 0..1u32 << causes.len() {
-            let expected = put_causes(&mut area, 0, &causes, set);
-            assert_eq!(rt;
-                standard(&mut plain, mask, &area),
-                refused(expected),
-                "at {set}"
-            );
-            assert_eq!(rt;
-                standard(&mut track, mask, &area),
-                refused(expected),
-                "at {set}"
-            );
-        }
+        standard_causes(&rt, &mut plain, mask, &mut area);
+        standard_causes(&rt, &mut track, mask, &mut area);
     }
     Ok(())
 }

@@ -8,6 +8,7 @@ use crate::random::Random;
 use crate::turns::{Tools, begin, renew, spoil, stay, switch};
 use crate::{Bank, PlainBank, TrackBank};
 use std::alloc::{AllocError, Global};
+use std::process::Abort;
 use std::test::Fail;
 use xs_area::Area;
 use xs_layout::Layout;
@@ -30,6 +31,7 @@ struct Side<B: Bank> {
     tools: Tools,
 }
 
+/// A side at its beginning: areas without state, and the first random number.
 fn side_of<B: Bank>(alloc: Global, bank: B) -> Result<Side<B>, AllocError> {
     Ok(Side {
         bank,
@@ -100,30 +102,48 @@ fn count(call: Shown, answered: &mut [u32; CALLS], images: &mut u32) {
     }
 }
 
+/// The calls of a round on both sides are the same, call by call.
+fn compare(
+    rt: &impl Abort,
+    plain: &Log,
+    track: &Log,
+    answered: &mut [u32; CALLS],
+    images: &mut u32,
+) {
+    for i in 0..MOST {
+        let call = plain.calls[i];
+        assert_eq!(rt; call, track.calls[i], "call {i}");
+        if let Some(call) = call {
+            count(call, answered, images);
+        }
+    }
+}
+
+/// Each kind of call was answered 400 times at least.
+fn are_many(rt: &impl Abort, answered: &[u32; CALLS]) {
+    for (call, times) in answered.iter().enumerate() {
+        assert!(rt; *times >= 400, "call {call}: {times}");
+    }
+}
+
 #[test]
 fn both_banks_show_the_same(rt: HostRuntime) -> Result<(), Fail> {
     let mut plain = side_of(rt.alloc(), PlainBank::new(rt.alloc())?)?;
     let mut track = side_of(rt.alloc(), TrackBank::new(rt.alloc())?)?;
     let mut answered = [0; CALLS];
     let mut images = 0;
-    for number in 0..1500 {
+    for _ in 0..1500 {
         round(&mut plain.bank, &mut plain.areas, &mut plain.tools);
         round(&mut track.bank, &mut track.areas, &mut track.tools);
-        for i in 0..MOST {
-            let call = plain.tools.log.calls[i];
-            assert_eq!(rt;
-                call,
-                track.tools.log.calls[i],
-                "call {i} of round {number}"
-            );
-            if let Some(call) = call {
-                count(call, &mut answered, &mut images);
-            }
-        }
+        compare(
+            &rt,
+            &plain.tools.log,
+            &track.tools.log,
+            &mut answered,
+            &mut images,
+        );
     }
-    for (call, times) in answered.iter().enumerate() {
-        assert!(rt; *times >= 400, "call {call}: {times}");
-    }
+    are_many(&rt, &answered);
     assert!(rt; images >= 5000, "{images}");
     Ok(())
 }

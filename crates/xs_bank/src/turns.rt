@@ -21,9 +21,13 @@ use xs_layout::Layout;
 /// what the calls showed.
 #[derive(Drop)]
 pub struct Tools {
+    /// The numbers.
     pub random: Random,
+    /// The bank that shows areas.
     pub fresh: PlainBank,
+    /// The bytes that it saves into.
     pub buffer: Area,
+    /// What the calls showed.
     pub log: Log,
 }
 
@@ -183,7 +187,7 @@ fn digest(bytes: &[u8]) -> u64 {
     digest
 }
 
-/// XSTATE_BV and XCOMP_BV of an area, and 0 where it has no header.
+/// XSTATE_BV of an area, and 0 where it has no header.
 fn bits_of(area: &Area) -> u64 {
     if area.bytes.len() < 576 {
         return 0;
@@ -191,6 +195,7 @@ fn bits_of(area: &Area) -> u64 {
     xstate_bv(&area.bytes)
 }
 
+/// XCOMP_BV of an area, and 0 where it has no header.
 fn names_of(area: &Area) -> u64 {
     if area.bytes.len() < 576 {
         return 0;
