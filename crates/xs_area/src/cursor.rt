@@ -24,7 +24,8 @@ impl Cursor {
         Cursor { names, end: 576 }
     }
 
-    /// Where the component of this row stands, which is the next one.
+    /// Where the component of this row stands, which is the next one, in bytes from the area's beginning. The end so far is below
+    /// 4,294,967,296, as it is on the rows of any machine.
     pub fn pass(&mut self, row: Row) -> usize
         requires { self.old.end < 2 ^ 32 }
         ensures place { result ≡ place_after self.old.names.0 self.old.end row }

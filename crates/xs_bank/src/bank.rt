@@ -113,7 +113,8 @@ pub trait Bank: Drop {
         ensures accepted { IfErr result (λ t. (class : Class) → IsLoadable (state self.old).file.rows class area.now.id area.now.bytes.items → xcomp_bv area.now.bytes.items ≡ 0 → load.IsStopped (state self.old).armed mask.0 area.now.bytes.items t) };
 
     /// Loads the components of the mask from an area in the compacted format (SDM volume 1, 13.12). The area has at least
-    /// 576 bytes, and reaches to the end of whatever its XCOMP_BV names. Refused by the first reason of `compacted_trap`.
+    /// 576 bytes and, where it is compacted, the bytes of each component of the machine that XCOMP_BV names. Refused by the
+    /// first reason of `compacted_trap`.
     fn xrstors(&mut self, mask: Features, area: &Area) -> Result<(), Trap>
         requires machine { (c : ℕ) → has mask.0 c ≡ true → has_row (state self.old).file.rows c ≡ true }
         requires header { 576 ≤ length area.now.bytes.items }

@@ -49,7 +49,8 @@ pub fn load_standard(
 }
 
 /// Loads the components of the mask from an area in the compacted format, where these components are armed, or answers
-/// the first reason against it (SDM volume 1, 13.12). The area reaches to the end of whatever its XCOMP_BV names.
+/// the first reason against it (SDM volume 1, 13.12). The area has, where it is compacted,
+/// the bytes of each component of the machine that its XCOMP_BV names.
 pub fn load_compacted(
     file: &mut File,
     armed: Features,

@@ -103,7 +103,7 @@ fn moved<B: Bank>(bank: &mut B, from: &Area, to: &mut Area) -> Result<Traces, Re
 const NAMES: u64 = 0x8000_0000_0002_00e7;
 
 #[test]
-fn a_bank_that_tracks_leaves_out_what_was_not_changed(rt: HostRuntime) -> Result<(), Fail> {
+fn both_optimisations_leave_out_what_was_not_changed(rt: HostRuntime) -> Result<(), Fail> {
     let alloc = rt.alloc();
     let mut bank = TrackBank::new(alloc)?;
     let mut area = traced(alloc, 7, NAMES)?;

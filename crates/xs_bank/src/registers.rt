@@ -30,7 +30,7 @@ use xs_layout::Layout;
 use xs_regs::File;
 
 /// TILECFG and TILEDATA.
-const TILES: Features = Features(0x60000);
+const TILE_COMPONENTS: Features = Features(0x60000);
 
 /// The registers of a bank, the components that XFD is armed for, and the area that was loaded last with what changed since. At
 /// every moment MXCSR has no bit above 15, and TILEDATA is initial while it is armed.
@@ -53,8 +53,8 @@ impl Model for Registers {
 }
 
 impl Registers {
-    /// The registers of the machine with x87, SSE and AVX alone, every one initial, nothing armed and no area tracked. Fails for want of
-    /// memory alone; no other call takes memory.
+    /// The registers of the machine with x87, SSE and AVX alone, every one initial, with nothing armed and no area tracked. Fails
+    /// for want of memory alone; no other call takes memory.
     pub fn new(alloc: Global) -> Result<Registers, AllocError>
         ensures { IfOk result (λ r. r ≡ record { file = initial_file avx_rows; armed = 0; tracked = None }) }
     {
@@ -131,11 +131,11 @@ impl Registers {
     {
         self.file.reset(Comp(17));
         self.file.reset(Comp(18));
-        self.tracked = touch(self.tracked, TILES);
+        self.tracked = touch(self.tracked, TILE_COMPONENTS);
     }
 
-    /// Loads the components of the mask from the area of this number in the standard format, or answers the first reason against it (SDM
-    /// volume 1, 13.8).
+    /// Loads the components of the mask from the area of this number in the standard format, or answers the first reason against
+    /// it (SDM volume 1, 13.8).
     pub fn load_standard(&mut self, id: u64, mask: Features, area: &[u8]) -> Result<(), Trap>
         requires header { 576 ≤ length area.now }
         requires places { (i : ℕ) (r : Row) → slice_get self.old.file.rows i ≡ Some r → has mask.0 r.comp.0 ≡ true → has (header.xstate_bv area.now) r.comp.0 ≡ true → r.offset + r.size ≤ length area.now }
@@ -153,8 +153,8 @@ impl Registers {
         Ok(())
     }
 
-    /// Loads the components of the mask from the area of this number in the compacted format, or answers the first reason against it (SDM
-    /// volume 1, 13.12).
+    /// Loads the components of the mask from the area of this number in the compacted format, or answers the first reason against
+    /// it (SDM volume 1, 13.12).
     pub fn load_compacted(&mut self, id: u64, mask: Features, area: &[u8]) -> Result<(), Trap>
         requires header { 576 ≤ length area.now }
         requires places { is_compacted (header.xcomp_bv area.now) ≡ true → HoldsPlaces self.old.file.rows area.now (header.xcomp_bv area.now) }

@@ -93,6 +93,20 @@ fn put_components(file: &File, names: Features, written: Features, into: &mut [u
     ensures len { length into.new ≡ length into.old }
     ensures each { (k : ℕ) → slice_index into.new k ≡ component_byte (saved_byte file.now) (place file.now.rows names.0) written.0 k file.now.rows (slice_index into.old k) }
 {
+    // A save that may leave everything out goes along no row.
+    if written.0 == 0 {
+        return;
+    }
+    put_rows(file, names, written, into);
+}
+
+/// The same, going along the rows of the machine.
+fn put_rows(file: &File, names: Features, written: Features, into: &mut [u8])
+    requires header { 576 ≤ length into.old }
+    requires room { (i : ℕ) (r : Row) → slice_get file.now.rows i ≡ Some r → has written.0 r.comp.0 ≡ true → place file.now.rows names.0 r + r.size ≤ length into.old }
+    ensures len { length into.new ≡ length into.old }
+    ensures each { (k : ℕ) → slice_index into.new k ≡ component_byte (saved_byte file.now) (place file.now.rows names.0) written.0 k file.now.rows (slice_index into.old k) }
+{
     let layout = file.layout();
     'each: for i in 0..layout.len() {
         let row = layout.row_at(i);

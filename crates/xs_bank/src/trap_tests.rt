@@ -244,12 +244,22 @@ fn armed_tiles_trap(rt: HostRuntime) -> Result<(), Fail> {
     Ok(())
 }
 
-/// Loads that are refused for a byte of the header, for tiles, and for MXCSR.
+/// A load that is refused for each kind of reason.
 fn refused_loads<B: Bank>(rt: &impl Abort, bank: &mut B, layout: &Layout, area: &mut Area)
     requires { (B.state bank.old).file.rows ≡ layout.now }
     ensures { (B.state bank.new).file.rows ≡ layout.now }
 {
     let mask = Features(0x600e7);
+    let _ = put_causes(area, COMPACTED | 0x60003, &[Cause::NoPlace], 1);
+    assert_eq!(rt;
+        load_compacted(bank, layout, mask, area),
+        refused(Some(Trap::Gp(HeaderError::Features)))
+    );
+    let _ = put_causes(area, 0, &[Cause::SomeName], 1);
+    assert_eq!(rt;
+        load_standard(bank, layout, mask, area),
+        refused(Some(Trap::Gp(HeaderError::Compacted)))
+    );
     let _ = put_causes(area, COMPACTED | 0x60003, &[Cause::Byte(528)], 1);
     assert_eq!(rt;
         load_compacted(bank, layout, mask, area),
@@ -289,6 +299,10 @@ fn traps_change_nothing<B: Bank>(
     assert_eq!(rt; read(bank, &amx, "tmm0.0"), Err(Refusal::Trapped(trap)));
     assert_eq!(rt;
         write(bank, &amx, "tilecfg", bytes),
+        Err(Refusal::Trapped(trap))
+    );
+    assert_eq!(rt;
+        write(bank, &amx, "tmm7.15", bytes),
         Err(Refusal::Trapped(trap))
     );
     assert_eq!(rt; (bank.execs(), bank.loads(), bank.saves()), counts);

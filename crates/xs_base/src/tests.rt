@@ -1,8 +1,8 @@
 //! Sets of components and lanes at worked values.
 
 use crate::{
-    Comp, Features, INITIAL_MXCSR, Lane, MOST_MXCSR, clean, clear, put, put_component, put_control,
-    put_initial, put_initial_component, put_number,
+    Comp, Features, INITIAL_MXCSR, Lane, MOST_MXCSR, are_zero, clean, clear, put, put_component,
+    put_control, put_initial, put_initial_component, put_number,
 };
 
 #[test]
@@ -33,8 +33,23 @@ fn mxcsr_goes_with_sse_and_with_avx(rt: HostRuntime) {
     assert!(rt; Features::SSE.has_control());
     assert!(rt; Features::AVX.has_control());
     assert!(rt; !Features(0x602e1).has_control());
+}
+
+#[test]
+fn values_of_mxcsr(rt: HostRuntime) {
     assert_eq!(rt; INITIAL_MXCSR, 8064);
     assert_eq!(rt; MOST_MXCSR, 65535);
+}
+
+#[test]
+fn bytes_are_zero_throughout(rt: HostRuntime) {
+    assert!(rt; are_zero(&[]));
+    assert!(rt; are_zero(&[0]));
+    assert!(rt; are_zero(&[0; 48]));
+    assert!(rt; !are_zero(&[1]));
+    assert!(rt; !are_zero(&[1, 0, 0]));
+    assert!(rt; !are_zero(&[0, 0, 1]));
+    assert!(rt; !are_zero(&[7; 48]));
 }
 
 #[test]

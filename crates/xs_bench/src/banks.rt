@@ -1,5 +1,6 @@
-//! The instructions of a bank, each made many times. Each turn takes a byte of what it wrote into a sum, and one that loads first
-//! changes eight bytes of the area, so that no compiler leaves a call out.
+//! The instructions of a bank, each made many times. A turn with a save takes a byte of the area into a sum. One with a load first
+//! changes eight bytes of the area and its XSTATE_BV, and takes PKRU into the sum, which at the end takes a byte of two
+//! registers. So no compiler leaves a call out.
 
 ghost use Rattle.std.specs.Prelude.{◌≡◌, ℕ, List, IfSome};
 ghost use Rattle.xs_bank.specs.Bank.{IsReady};

@@ -5,7 +5,7 @@ ghost use Rattle.std.specs.Prelude.{◌≡◌, IfOk};
 
 use std::alloc::{AllocError, Global};
 use xs_area::{Area, Class, class_features, class_size, compacted};
-use xs_base::{Features, INITIAL_MXCSR, Lane, clear, put};
+use xs_base::{Features, INITIAL_MXCSR, Lane, clear, put, put_number};
 use xs_layout::Layout;
 use xs_regs::{File, place_of};
 
@@ -35,7 +35,7 @@ pub fn full_image(alloc: Global, file: &File) -> Result<Vec<u8>, AllocError> {
     let features = layout.features();
     let mut image = vec![in alloc; 0u8; layout.full_size() as usize]?;
     file.standard_into(features, &mut image);
-    put(&mut image, 512, &features.0.to_le_bytes());
+    put_number(&mut image, 512, features.0);
     Ok(image)
 }
 
@@ -48,8 +48,8 @@ pub fn full_area(alloc: Global, id: u64, layout: &Layout) -> Result<Area, AllocE
     let mut bytes = vec![in alloc; 1u8; class_size(layout, Class::Large) as usize]?;
     put(&mut bytes, 24, &INITIAL_MXCSR.to_le_bytes());
     clear(&mut bytes, 512, 64);
-    put(&mut bytes, 512, &names.0.to_le_bytes());
-    put(&mut bytes, 520, &compacted(names).0.to_le_bytes());
+    put_number(&mut bytes, 512, names.0);
+    put_number(&mut bytes, 520, compacted(names).0);
     Ok(Area { id, bytes })
 }
 

@@ -9,7 +9,7 @@ use crate::command::Call;
 use crate::inputs::{full_area, full_file, full_image};
 use std::alloc::{AllocError, Global};
 use xs_area::{Area, Origin, compact_of, copy_area, read_standard, standard_of, stands, xstate_bv};
-use xs_base::{Comp, Features, Lane, put};
+use xs_base::{Comp, Features, Lane, put, put_number};
 use xs_layout::Layout;
 use xs_regs::{File, place_of};
 
@@ -185,5 +185,5 @@ pub fn put_state(bytes: &mut [u8], bits: Features)
     ensures len { length bytes.new ≡ length bytes.old }
     ensures names { header.xcomp_bv bytes.new ≡ header.xcomp_bv bytes.old }
 {
-    put(bytes, 512, &bits.0.to_le_bytes());
+    put_number(bytes, 512, bits.0);
 }

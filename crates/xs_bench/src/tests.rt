@@ -168,7 +168,7 @@ fn saves_write_what_has_to_move(rt: HostRuntime) -> Result<(), AllocError> {
 }
 
 #[test]
-fn loads_move_every_component(rt: HostRuntime) -> Result<(), AllocError> {
+fn loads_take_what_the_turn_has_state_of(rt: HostRuntime) -> Result<(), AllocError> {
     // In turn 160 the area has state of every component.
     for (kind, call, odd) in LOADS {
         let call = on_bank(kind, call);

@@ -2,11 +2,8 @@
 
 use crate::{AreaPool, Class, Full};
 use std::test::Fail;
+use xs_base::are_zero;
 use xs_layout::Layout;
-
-fn are_zero(bytes: &[u8]) -> bool {
-    bytes.iter().all(|byte| *byte == 0)
-}
 
 /// Whether an area is zero but for XCOMP_BV, bytes 520 to 527, and that is `names`.
 fn is_blank(bytes: &[u8], names: u64) -> bool {

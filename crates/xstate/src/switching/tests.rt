@@ -9,7 +9,7 @@ use xs_area::{Area, HeaderError, holds_named};
 use xs_bank::{PlainBank, TrackBank, Trap};
 use xs_pool::AreaPool;
 
-/// What a bank answers to a load, and how many loads and saves it has made since it was set up.
+/// What a bank answers to a load, and how many loads and saves it has made so far.
 type Answer = (Result<(), Trap>, u64, u64);
 
 /// Writes the first reserved byte of the header (SDM volume 1, 13.4.2), and loads the components of a Small area. None where

@@ -2,7 +2,7 @@
 use Rattle.std.proofs.Common.{◌≡◌, ℕ, length, drop, slice_index}
 use Rattle.xs_base.specs.Compact.{place}
 use Rattle.xs_base.specs.Standard.{component_byte, saved_byte}
-use Rattle.xs_bank.proofs.saving.put_components.Given as goal
+use Rattle.xs_bank.proofs.saving.put_rows.Given as goal
 
 abbrev pub invariant-each : goal.invariant-each
 invariant-each l = record {
