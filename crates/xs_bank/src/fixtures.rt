@@ -95,7 +95,7 @@ fn lane_of(place: Place, bytes: [u8; 64]) -> Lane
     ensures control { is_mxcsr place ≡ true → (slice_index result 2 ≡ 0) × (slice_index result 3 ≡ 0) }
 {
     let mut all = bytes;
-    if place.comp.0 == 1 && place.offset == 256 {
+    if place.is_mxcsr() {
         all[2] = 0;
         all[3] = 0;
     }

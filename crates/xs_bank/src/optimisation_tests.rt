@@ -1,4 +1,5 @@
-//! What a save leaves out: a bank with both optimisations leaves bytes as they were, and a plain one writes them.
+//! What a save leaves out: a bank with both optimisations leaves bytes as they were, and a plain one writes them. And the bytes
+//! of an area after a first turn.
 
 ghost use Rattle.std.specs.Prelude.{◌≡◌};
 
@@ -9,7 +10,7 @@ use crate::fixtures::{
 use crate::{Bank, PlainBank, TrackBank};
 use std::alloc::{AllocError, Global};
 use std::test::Fail;
-use xs_area::Area;
+use xs_area::{Area, Class, make_initial};
 use xs_base::{Features, put};
 use xs_layout::Layout;
 
@@ -128,5 +129,46 @@ fn a_plain_bank_writes_every_component(rt: HostRuntime) -> Result<(), Fail> {
     let from = traced(alloc, 7, NAMES)?;
     let mut to = traced(alloc, 8, NAMES)?;
     assert_eq!(rt; moved(&mut bank, &from, &mut to), Ok(BOTH));
+    Ok(())
+}
+
+/// A turn of a task that writes XMM3 and nothing else, from an area without state.
+fn first_turn<B: Bank>(bank: &mut B, area: &mut Area) -> Result<(), Refusal> {
+    let amx = Layout::amx();
+    let mut bytes = [0; 64];
+    put(&mut bytes, 0, &XMM3);
+    bank.set_up(&amx);
+    load_compacted(bank, &amx, Features(0x600e7), area)?;
+    write(bank, &amx, "xmm3", bytes)?;
+    save_compacted(bank, &amx, of_machine(&amx, MASK), area)
+}
+
+/// What the turn writes into XMM3.
+const XMM3: [u8; 16] = [
+    0x00, 0x11, 0x22, 0x33, 0x44, 0x55, 0x66, 0x77, 0x88, 0x99, 0xaa, 0xbb, 0xcc, 0xdd, 0xee, 0xff,
+];
+
+/// The Small area of the machine `amx` after that turn, with these two bytes at its front.
+fn after_first_turn(alloc: Global, front: [u8; 2]) -> Result<Area, AllocError> {
+    let mut area = zeros(alloc, 7, 2496)?;
+    put(&mut area.bytes, 0, &front);
+    put(&mut area.bytes, 24, &[0x80, 0x1f, 0, 0, 0xff, 0xff, 0, 0]);
+    put(&mut area.bytes, 208, &XMM3);
+    put(&mut area.bytes, 512, &[2]);
+    put(&mut area.bytes, 520, &[0xe7, 0, 2, 0, 0, 0, 0, 0x80]);
+    Ok(area)
+}
+
+#[test]
+fn the_area_of_a_first_turn(rt: HostRuntime) -> Result<(), Fail> {
+    let alloc = rt.alloc();
+    let mut area = zeros(alloc, 7, 2496)?;
+    make_initial(&Layout::amx(), Class::Small, &mut area.bytes);
+    assert_eq!(rt; first_turn(&mut TrackBank::new(alloc)?, &mut area), Ok(()));
+    assert!(rt; area.bytes == after_first_turn(alloc, [0, 0])?.bytes);
+    let mut area = zeros(alloc, 7, 2496)?;
+    make_initial(&Layout::amx(), Class::Small, &mut area.bytes);
+    assert_eq!(rt; first_turn(&mut PlainBank::new(alloc)?, &mut area), Ok(()));
+    assert!(rt; area.bytes == after_first_turn(alloc, [0x7f, 3])?.bytes);
     Ok(())
 }

@@ -1,6 +1,7 @@
 //! Components, sets of components, and the rows and places that name them.
 
 ghost use Rattle.std.specs.Prelude.{⊤, ◌≡◌, ℕ, ◌<◌, ◌==◌, [], ◌∷◌, codes, if◌then◌else◌};
+ghost use Rattle.xs_base.specs.File as file;
 ghost use Rattle.xs_base.specs.Sets.{has};
 ghost use Rattle.xs_base.specs.Standard as standard;
 
@@ -118,4 +119,14 @@ pub struct Place {
     pub offset: u32,
     /// The register's bytes, at most 64.
     pub len: u32,
+}
+
+impl Place {
+    /// Whether this is the place of MXCSR, which is no byte of component 1: its offset is the component's end. That place is
+    /// this project's own.
+    pub fn is_mxcsr(&self) -> bool
+        ensures { result ≡ file.is_mxcsr self.now }
+    {
+        self.comp.0 == 1 && self.offset == 256
+    }
 }

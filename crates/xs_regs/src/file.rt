@@ -96,7 +96,7 @@ impl File {
         requires { (name : List ℕ) × IsRegister self.now.rows name place }
         ensures { result ≡ read_place self.now place }
     {
-        if is_mxcsr(place) {
+        if place.is_mxcsr() {
             return Lane::from_slice(&self.mxcsr.to_le_bytes());
         }
         let (_, from) = self.part(place.comp).split_at(place.offset as usize);
@@ -112,7 +112,7 @@ impl File {
         ensures machine { self.new.rows ≡ self.old.rows }
     {
         let bytes = lane.as_slice();
-        if is_mxcsr(place) {
+        if place.is_mxcsr() {
             self.mxcsr = u32::from_le_bytes([bytes[0], bytes[1], bytes[2], bytes[3]]);
         } else {
             let used = put_register(
@@ -161,13 +161,6 @@ impl File {
             }
         }
     }
-}
-
-/// Whether the place is that of MXCSR.
-fn is_mxcsr(place: Place) -> bool
-    ensures { result ≡ is_mxcsr place }
-{
-    place.comp.0 == 1 && place.offset == 256
 }
 
 /// Writes a register over bytes of a component, from byte `at` on, and answers whether the component is then not initial.

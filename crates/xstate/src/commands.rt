@@ -81,14 +81,7 @@ fn fits_register(place: Place, bytes: &Lane) -> bool
     ensures { result ≡ fits_register place bytes.now }
 {
     let bytes = bytes.as_slice();
-    bytes.len() == place.len as usize && (!is_mxcsr(place) || are_zero_from(2, bytes))
-}
-
-/// Whether the place is that of MXCSR.
-fn is_mxcsr(place: Place) -> bool
-    ensures { result ≡ is_mxcsr place }
-{
-    place.comp == Comp(1) && place.offset == 256
+    bytes.len() == place.len as usize && (!place.is_mxcsr() || are_zero_from(2, bytes))
 }
 
 /// Whether the bytes from this one on are zero.
