@@ -8,7 +8,7 @@ use Rattle.xs_model.specs.Machine.{Machine}
 use Rattle.xs_model.specs.History.{Run, IsWhole, has_kill}
 use Rattle.xstate.specs.declared.status.Status.{Status}
 use Rattle.xstate.specs.declared.status.Status.TheVariants as statuses
-use Rattle.xstate.specs.Text.{history_text, AreTasksKnown}
+use Rattle.xs_text.specs.Text.{history_text, AreTasksKnown}
 use Rattle.xstate.specs.Answers.{IsAccepted, IsRefused, RunsTo, AnswerEnds, TellEnds, WriteEnds}
 use Rattle.xstate.proofs.LegalTasks.{legal_tasks}
 

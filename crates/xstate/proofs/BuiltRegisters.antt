@@ -14,7 +14,7 @@ use Rattle.xs_model.specs.declared.script.Order.{Order}
 use Rattle.xs_model.specs.declared.script.Block.{Block}
 use Rattle.xs_model.specs.declared.script.Script.{Script}
 use Rattle.xs_model.specs.Script.{IsCommand, IsBuiltCommand, IsValid, IsBuilt, register_of, fits_register, built_components, is_built}
-use Rattle.xstate.proofs.CommandFaults.{fits_length}
+use Rattle.xs_script.proofs.CommandFaults.{fits_length}
 use Rattle.xstate.proofs.TurnLemmas.{AllByRecursion-at, body_found}
 use Rattle.xstate.specs.Turns.{body_at}
 

@@ -6,7 +6,7 @@ use Rattle.std.proofs.lemmas.List.{drop_more}
 use Rattle.std.proofs.lemmas.Grind.{flat_map-append}
 use Rattle.xs_model.specs.declared.script.Script.{Script}
 use Rattle.xs_model.specs.declared.event.Event.{Event}
-use Rattle.xstate.specs.Text.{event_line, history_text}
+use Rattle.xs_text.specs.Text.{event_line, history_text}
 use Rattle.xstate.specs.Writing.{AppendsFront}
 use Rattle.xstate.proofs.KnownBytes.{AppendsFront_then, AppendsFront_more}
 

@@ -6,11 +6,11 @@ use Rattle.std.specs.Io.KnownBytes.{Appends}
 use Rattle.xs_model.specs.declared.script.Script.{Script}
 use Rattle.xstate.specs.declared.status.Status.{Status}
 use Rattle.xstate.specs.declared.status.Status.TheVariants as statuses
-use Rattle.xstate.specs.RefusalText.{refusal_text}
+use Rattle.xs_script.specs.RefusalText.{refusal_text}
 use Rattle.xstate.specs.Answers.{IsAccepted, IsRefused, TooLong, ByLine, IsRead, RunEnds, limit}
 use Rattle.xstate.specs.Headline.{MayRun, MayRefuse}
-use Rattle.xstate.proofs.OneRefusal.{one_refusal}
-use Rattle.xstate.proofs.SpelledLines.{not_both}
+use Rattle.xs_script.proofs.OneRefusal.{one_refusal}
+use Rattle.xs_script.proofs.SpelledLines.{not_both}
 
 -- How what was read is a front of a known input: the whole of it, if it is no longer than the limit.
 record Known (input taken : List ℕ) : Type 0 where

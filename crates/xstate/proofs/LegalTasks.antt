@@ -7,7 +7,7 @@ use Rattle.xs_model.specs.declared.event.Event.{Event}
 use Rattle.xs_model.specs.declared.event.Event.TheVariants as events
 use Rattle.xs_model.specs.Machine.{Machine, Step, opening}
 use Rattle.xs_model.specs.History.{Run, IsLegal}
-use Rattle.xstate.specs.Text.{task_of, AreTasksKnown}
+use Rattle.xs_text.specs.Text.{task_of, AreTasksKnown}
 
 -- A block that is found is one of the blocks.
 found_below : (blocks : List Block) (i : ℕ) (block : Block) → slice_get blocks i ≡ Some block → i < length blocks

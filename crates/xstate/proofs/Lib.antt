@@ -8,9 +8,6 @@ pub mod Opening
 pub mod EngineLoops
 pub mod WorkLemmas
 -- Lemmas of the texts, one file a noun.
-pub mod SpacedWords
-pub mod EventWords
-pub mod OneSpelling
 pub mod KnownBytes
 pub mod HistoryFront
 pub mod LegalTasks
@@ -18,27 +15,6 @@ pub mod LegalTasks
 pub mod AnswerLemmas
 pub mod KnownInputs
 pub mod CommandWords
--- Lemmas of the script reader, one file a noun.
-pub mod Numbers
-pub mod Cuts
-pub mod Lanes
-pub mod HexText
-pub mod Spellings
-pub mod FirstLines
-pub mod Kept
-pub mod HeadRows
-pub mod Fronts
-pub mod KeptOrder
-pub mod HeadSteps
-pub mod Readings
-pub mod Unbuilt
-pub mod BodyLines
-pub mod CommandFaults
-pub mod KnownLines
-pub mod Numbering
-pub mod WholeScripts
-pub mod OneRefusal
-pub mod SpelledLines
 pub mod SwitchLemmas
 pub mod BankLemmas
 pub mod EngineLemmas

@@ -8,11 +8,11 @@ use Rattle.xs_model.specs.declared.event.Event.{Event}
 use Rattle.xs_model.specs.History.{IsWhole, has_kill}
 use Rattle.xstate.specs.declared.status.Status.{Status}
 use Rattle.xstate.specs.declared.status.Status.TheVariants as statuses
-use Rattle.xstate.specs.declared.refusal.Kind.{Kind}
-use Rattle.xstate.specs.Grammar.{Spells}
-use Rattle.xstate.specs.Refusal.{Refuses}
-use Rattle.xstate.specs.RefusalText.{refusal_text}
-use Rattle.xstate.specs.Text.{history_text}
+use Rattle.xs_script.specs.declared.refusal.Kind.{Kind}
+use Rattle.xs_script.specs.Grammar.{Spells}
+use Rattle.xs_script.specs.Refusal.{Refuses}
+use Rattle.xs_script.specs.RefusalText.{refusal_text}
+use Rattle.xs_text.specs.Text.{history_text}
 use Rattle.xstate.specs.Writing.{AppendsFront}
 
 -- the one command line of this version, without the program's name

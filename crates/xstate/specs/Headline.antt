@@ -8,7 +8,7 @@ use Rattle.xs_model.specs.declared.event.Event.{Event}
 use Rattle.xs_model.specs.History.{IsWhole, has_kill}
 use Rattle.xstate.specs.declared.status.Status.{Status}
 use Rattle.xstate.specs.declared.status.Status.TheVariants as statuses
-use Rattle.xstate.specs.Text.{history_text}
+use Rattle.xs_text.specs.Text.{history_text}
 use Rattle.xstate.specs.Answers.{IsAccepted, IsRefused, limit}
 
 -- The input was read to its end, it is the text of a script, and what was written is the text of a whole history of

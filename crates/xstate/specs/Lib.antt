@@ -1,16 +1,4 @@
--- The definitions of both texts, one file a noun.
-pub mod ScriptLine
-pub mod Reads
-pub mod Parts
-pub mod Grammar
-pub mod LineOrder
-pub mod Refusal
-pub mod Front
-pub mod Head
-pub mod Body
-pub mod Commands
-pub mod RefusalText
-pub mod Text
+-- The definitions of the program, one file a noun.
 pub mod Turns
 pub mod Engine
 pub mod Writing

@@ -1,25 +1,16 @@
 //! `xstate`: runs a script of tasks on processors and writes its history.
 #![tactic(auto)]
 
-mod body;
-mod commands;
 mod engine;
-mod front;
-mod head;
+mod history;
 mod instructions;
-mod line;
-mod line_reader;
 mod parked;
-mod reader;
 mod reading;
 #[cfg(test)]
 mod reading_tests;
-mod refusal;
 mod status;
 mod switching;
-mod text;
 mod top;
-mod words;
 mod writing;
 
 ghost use Rattle.std.specs.Prelude.{◌≡◌, ℕ, length, slice_get, Some, IfOk};

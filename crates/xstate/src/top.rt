@@ -9,23 +9,22 @@ ghost use Rattle.xs_model.specs.Script.{IsValid, IsBuilt};
 ghost use Rattle.xs_model.specs.declared.script.Script.{Script};
 ghost use Rattle.xstate.specs.Answers.{IsRun, IsAccepted, IsRefused, AnswerEnds, TellEnds, RunEnds, WriteEnds, IsFront, TakesAtMost, Unfailed, KeepsProcessors, usage_text, too_long_text};
 ghost use Rattle.xstate.specs.Headline.{Headline, Refusal, MayRun, MayRefuse};
-ghost use Rattle.xstate.specs.RefusalText.{refusal_text};
-ghost use Rattle.xstate.specs.Text.{AreTasksKnown, history_text};
+ghost use Rattle.xs_script.specs.RefusalText.{refusal_text};
+ghost use Rattle.xs_text.specs.Text.{AreTasksKnown, history_text};
 
 #[cfg(test)]
 mod tests;
 
 use crate::engine::run;
-use crate::reader::read_script;
+use crate::history::write_history;
 use crate::reading::{ReadError, read_up_to};
-use crate::refusal::{Kind, RefusalLine, ScriptError, write_refusal};
 use crate::status::Status;
-use crate::text::write_history;
 use crate::writing::write_all;
 use std::alloc::Global;
 use xs_bank::{Bank, Cpu};
 use xs_io::{Sink, Source};
 use xs_model::{Event, Script};
+use xs_script::{Kind, RefusalLine, ScriptError, read_script, write_refusal};
 
 /// The most bytes of a script.
 const LIMIT: usize = 1048576;

@@ -1,10 +1,10 @@
 //! The engine beside the definition of what is held, and scripts whose turns and registers it must keep apart.
 
 use super::*;
-use crate::reader::read_script;
 use std::test::Fail;
 use xs_bank::PlainBank;
 use xs_model::held;
+use xs_script::read_script;
 
 const BODIES: &[u8] =
     b"xstate 1\nmachine amx\ncpus 1\nquantum 2\nlarge 0\ntask a\nset xmm15 00112233445566778899aabbccddeeff\nget xmm15\nget xmm14\nend\ntask b\nend\ntask c\nget xmm15\nset xmm14 ffffffffffffffffffffffffffffffff\nget xmm14\nget xmm15\nget xmm13\nget xmm12\nget xmm11\nend\n";

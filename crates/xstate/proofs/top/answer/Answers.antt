@@ -1,6 +1,6 @@
 use Rattle.std.proofs.Common.{◌<◌, length, arith}
 use Rattle.xstate.specs.Answers.{limit, TooLong, ByLine, too_long_text}
-use Rattle.xstate.specs.RefusalText.{refusal_text}
+use Rattle.xs_script.specs.RefusalText.{refusal_text}
 use Rattle.xstate.proofs.AnswerLemmas.{refused_told, run_told}
 use Rattle.xstate.proofs.top.answer.Goals as goal
 

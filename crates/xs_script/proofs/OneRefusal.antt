@@ -1,0 +1,255 @@
+-- A text has one refusal at most.
+use Rattle.std.proofs.Common.{◌≡◌, ℕ, ◌+◌, true, false, List, [], ◌∷◌, ◌++◌, length, Option, Some, None, Ok, codes, refl, sym, ◌∙◌, ap, subst, arith}
+use Rattle.std.specs.Prelude.{bytes_eq}
+use Rattle.std.specs.List.{AllByRecursion}
+use Rattle.std.proofs.lemmas.List.{append-nil}
+use Rattle.xs_base.specs.declared.component.Row.{Row}
+use Rattle.xs_base.specs.declared.component.Place.{Place}
+use Rattle.xs_base.specs.declared.layout_error.LayoutError.{LayoutError}
+use Rattle.xs_base.specs.Layout.{table_error}
+use Rattle.xs_base.proofs.Registers.{one_place}
+use Rattle.xs_model.specs.declared.script.Command.{Command}
+use Rattle.xs_model.specs.declared.script.Command.TheVariants as commands
+use Rattle.xs_model.specs.Script.{fits_register, is_built}
+use Rattle.xs_script.specs.declared.line.Line.{Line}
+use Rattle.xs_script.specs.declared.line.Line.TheVariants as lines
+use Rattle.xs_script.specs.declared.refusal.Kind.{Kind}
+use Rattle.xs_script.specs.ScriptLine.{line_text, IsLine}
+use Rattle.xs_script.specs.Grammar.{lines_text}
+use Rattle.xs_script.specs.LineOrder.{Stand, AtVersion, AtMachine, AtRow, AtCpus, AtQuantum, AtLarge, AtBlock, InBlock, next, may_end, after_rows, Leads}
+use Rattle.xs_script.specs.Refusal.{AreLines, first_word, is_unbuilt, unbuilt_words, unbuilt_cpus, table_fault, LineFails, Early, Unbuilt, Misspelled, Misplaced, Fails, Table, Here, RefusesLine, Passes, table_of, IsKnown, IsKnownCommand, CommandFails, RefusesCommand, Refuses, ByLine, ByCommand}
+use Rattle.xs_script.specs.Refusal as refusals
+use Rattle.xs_script.proofs.FirstLines.{row_begins, not_unbuilt, is_row_line}
+use Rattle.xs_script.proofs.Spellings.{one_first_line}
+use Rattle.xs_script.proofs.Fronts.{lines_more}
+
+-- ---- one line
+
+-- where a line is next, the text isn't over
+not_over : (l : Line) (text rest : List ℕ) → text ≡ line_text l ++ 10 ∷ rest → text ≡ [] → ⊥
+not_over l text rest e none = some (line_text l) rest (sym e ∙ none)
+  where
+    some : (xs ys : List ℕ) → xs ++ 10 ∷ ys ≡ [] → ⊥
+    some [] ys h = cc h
+    some (x ∷ xs) ys h = cc h
+
+-- a text that is over is of no form that isn't built
+pub none_unbuilt : is_unbuilt [] ≡ false
+unfolding unbuilt_words unbuilt_cpus
+none_unbuilt = refl
+
+over_is_built : (text : List ℕ) → text ≡ [] → is_unbuilt text ≡ true → ⊥
+over_is_built text e t =
+    let here : is_unbuilt [] ≡ true = subst (λ (bs : List ℕ). is_unbuilt bs ≡ true) e t in
+    cc (sym none_unbuilt ∙ here)
+
+leads_after_rows : (n : ℕ) (e : Option LayoutError) (mid : Stand) → after_rows n e ≡ Ok mid → e ≡ None
+leads_after_rows n None mid h = refl
+leads_after_rows n (Some e) mid h = absurd (cc h)
+
+-- among the rows no table fails before a line that leads on
+rows_no_fault : (rows : List Row) (mid : Stand) (l : Line) (text : List ℕ) → bytes_eq (first_word text) (codes "row") ≡ is_row_line l → next (AtRow rows) l ≡ Ok mid → table_fault (AtRow rows) text ≡ None
+rows_no_fault rows mid lines.Version text word leads = absurd (cc leads)
+rows_no_fault rows mid (lines.Machine named) text word leads = absurd (cc leads)
+rows_no_fault rows mid (lines.Row r) text word leads = rw word refl
+rows_no_fault rows mid (lines.Cpus n) text word leads = rw word (leads_after_rows n (table_error rows) mid leads)
+rows_no_fault rows mid (lines.Quantum n) text word leads = absurd (cc leads)
+rows_no_fault rows mid (lines.Large n) text word leads = absurd (cc leads)
+rows_no_fault rows mid (lines.Task name) text word leads = absurd (cc leads)
+rows_no_fault rows mid (lines.Order command) text word leads = absurd (cc leads)
+rows_no_fault rows mid lines.End text word leads = absurd (cc leads)
+
+no_fault : (stand mid : Stand) (l : Line) (text rest : List ℕ) → IsLine l → text ≡ line_text l ++ 10 ∷ rest → next stand l ≡ Ok mid → table_fault stand text ≡ None
+no_fault AtVersion mid l text rest fits e leads = refl
+no_fault AtMachine mid l text rest fits e leads = refl
+no_fault (AtRow rows) mid l text rest fits e leads = rows_no_fault rows mid l text (row_begins l text rest fits e) leads
+no_fault AtCpus mid l text rest fits e leads = refl
+no_fault AtQuantum mid l text rest fits e leads = refl
+no_fault AtLarge mid l text rest fits e leads = refl
+no_fault (AtBlock names) mid l text rest fits e leads = refl
+no_fault (InBlock names) mid l text rest fits e leads = refl
+
+-- a line that leads on doesn't fail
+leads_not_line : (stand mid : Stand) (l : Line) (text rest : List ℕ) (kind : Kind) → IsLine l → text ≡ line_text l ++ 10 ∷ rest → next stand l ≡ Ok mid → LineFails stand text kind → ⊥
+leads_not_line stand mid l text rest _ fits e leads (Early none early) = not_over l text rest e none
+leads_not_line stand mid l text rest _ fits e leads (Unbuilt t) = cc (sym (not_unbuilt stand mid l text rest fits e leads) ∙ t)
+leads_not_line stand mid l text rest _ fits e leads (Misspelled some built none) = none l rest fits e
+leads_not_line stand mid l text rest _ fits e leads (Misplaced line more kind built fit here fails) =
+    let same = one_first_line l line rest more fits fit (sym e ∙ here) in
+    cc (sym leads ∙ ap (next stand) same.0 ∙ fails)
+
+pub leads_not_fails : (stand mid : Stand) (l : Line) (text rest : List ℕ) (first number : ℕ) (kind : Kind) → IsLine l → text ≡ line_text l ++ 10 ∷ rest → next stand l ≡ Ok mid → Fails stand first text number kind → ⊥
+leads_not_fails stand mid l text rest first _ _ fits e leads (Table error fault) = cc (sym (no_fault stand mid l text rest fits e leads) ∙ fault)
+leads_not_fails stand mid l text rest first _ _ fits e leads (Here kind none why) = leads_not_line stand mid l text rest kind fits e leads why
+
+-- a text that may end doesn't fail at its end
+no_fault_at_end : (stand : Stand) (text : List ℕ) → may_end stand ≡ true → table_fault stand text ≡ None
+no_fault_at_end AtVersion text h = absurd (cc h)
+no_fault_at_end AtMachine text h = absurd (cc h)
+no_fault_at_end (AtRow rows) text h = absurd (cc h)
+no_fault_at_end AtCpus text h = absurd (cc h)
+no_fault_at_end AtQuantum text h = absurd (cc h)
+no_fault_at_end AtLarge text h = absurd (cc h)
+no_fault_at_end (AtBlock names) text h = refl
+no_fault_at_end (InBlock names) text h = absurd (cc h)
+
+end_not_line : (stand : Stand) (text : List ℕ) (kind : Kind) → text ≡ [] → may_end stand ≡ true → LineFails stand text kind → ⊥
+end_not_line stand text _ e end (Early none early) = cc (sym end ∙ early)
+end_not_line stand text _ e end (Unbuilt t) = over_is_built text e t
+end_not_line stand text _ e end (Misspelled some built none) = some e
+end_not_line stand text _ e end (Misplaced line more kind built fit here fails) = not_over line text more here e
+
+end_not_fails : (stand : Stand) (text : List ℕ) (first number : ℕ) (kind : Kind) → text ≡ [] → may_end stand ≡ true → Fails stand first text number kind → ⊥
+end_not_fails stand text first _ _ e end (Table error fault) = cc (sym (no_fault_at_end stand text end) ∙ fault)
+end_not_fails stand text first _ _ e end (Here kind none why) = end_not_line stand text kind e end why
+
+-- a line fails with one kind
+one_line_cause : (stand : Stand) (text : List ℕ) (k j : Kind) → LineFails stand text k → LineFails stand text j → k ≡ j
+one_line_cause stand text _ _ (Early a b) (Early c d) = refl
+one_line_cause stand text _ _ (Early a b) (Unbuilt t) = absurd (over_is_built text a t)
+one_line_cause stand text _ _ (Early a b) (Misspelled some built none) = absurd (some a)
+one_line_cause stand text _ _ (Early a b) (Misplaced line more kind built fit here fails) = absurd (not_over line text more here a)
+one_line_cause stand text _ _ (Unbuilt t) (Early a b) = absurd (over_is_built text a t)
+one_line_cause stand text _ _ (Unbuilt t) (Unbuilt u) = refl
+one_line_cause stand text _ _ (Unbuilt t) (Misspelled some built none) = absurd (cc (sym t ∙ built))
+one_line_cause stand text _ _ (Unbuilt t) (Misplaced line more kind built fit here fails) = absurd (cc (sym t ∙ built))
+one_line_cause stand text _ _ (Misspelled some built none) (Early a b) = absurd (some a)
+one_line_cause stand text _ _ (Misspelled some built none) (Unbuilt t) = absurd (cc (sym t ∙ built))
+one_line_cause stand text _ _ (Misspelled some built none) (Misspelled some' built' none') = refl
+one_line_cause stand text _ _ (Misspelled some built none) (Misplaced line more kind built' fit here fails) = absurd (none line more fit here)
+one_line_cause stand text _ _ (Misplaced line more kind built fit here fails) (Early a b) = absurd (not_over line text more here a)
+one_line_cause stand text _ _ (Misplaced line more kind built fit here fails) (Unbuilt t) = absurd (cc (sym t ∙ built))
+one_line_cause stand text _ _ (Misplaced line more kind built fit here fails) (Misspelled some built' none) = absurd (none line more fit here)
+one_line_cause stand text _ _ (Misplaced line more kind built fit here fails) (Misplaced line' more' kind' built' fit' here' fails') =
+    let same = one_first_line line line' more more' fit fit' (sym here ∙ here') in
+    let both = sym fails ∙ ap (next stand) same.0 ∙ fails' in
+    cc both
+
+one_cause : (stand : Stand) (first : ℕ) (text : List ℕ) (m n : ℕ) (k j : Kind) → Fails stand first text m k → Fails stand first text n j → (m ≡ n) × (k ≡ j)
+one_cause stand first text _ _ _ _ (Table e is) (Table f is') = (refl, cc (sym is ∙ is'))
+one_cause stand first text _ _ _ _ (Table e is) (Here kind none why) = absurd (cc (sym none ∙ is))
+one_cause stand first text _ _ _ _ (Here kind none why) (Table e is) = absurd (cc (sym none ∙ is))
+one_cause stand first text _ _ _ _ (Here kind none why) (Here kind' none' why') = (refl, one_line_cause stand text kind kind' why why')
+
+-- ---- the first pass
+
+-- Lines that a text begins with, as far as both go.
+same_step : (stand mid mid' : Stand) (l l' : Line) → l ≡ l' → next stand l ≡ Ok mid → next stand l' ≡ Ok mid' → mid ≡ mid'
+same_step stand mid mid' l l' same h h' =
+    let both = sym h ∙ ap (next stand) same ∙ h' in
+    cc both
+
+one_walk : (stand : Stand) (first : ℕ) (text : List ℕ) (a b : List Line) (ra rb : List ℕ) (sa sb : Stand) (m n : ℕ) (k j : Kind) → AreLines a → AreLines b → text ≡ lines_text a ++ ra → text ≡ lines_text b ++ rb → Leads stand a sa → Leads stand b sb → Fails sa (first + length a) ra m k → Fails sb (first + length b) rb n j → (m ≡ n) × (k ≡ j)
+one_walk stand first text [] [] ra rb sa sb m n k j fa fb ea eb la lb ha hb =
+    let here : Fails sa (first + 0) ra n j = subst (λ (bs : List ℕ). Fails sa (first + 0) bs n j) (sym eb ∙ ea) (subst (λ (s : Stand). Fails s (first + 0) rb n j) (lb ∙ sym la) hb) in
+    one_cause sa (first + 0) ra m n k j ha here
+one_walk stand first text [] (l ∷ b) ra rb sa sb m n k j fa fb ea eb la (mid, leads, lb) ha hb =
+    absurd (leads_not_fails stand mid l text (lines_text b ++ rb) (first + 0) m k fb.0 (eb ∙ lines_more l b rb) leads (subst (λ (bs : List ℕ). Fails stand (first + 0) bs m k) (sym ea) (subst (λ (s : Stand). Fails s (first + 0) ra m k) la ha)))
+one_walk stand first text (l ∷ a) [] ra rb sa sb m n k j fa fb ea eb (mid, leads, la) lb ha hb =
+    absurd (leads_not_fails stand mid l text (lines_text a ++ ra) (first + 0) n j fa.0 (ea ∙ lines_more l a ra) leads (subst (λ (bs : List ℕ). Fails stand (first + 0) bs n j) (sym eb) (subst (λ (s : Stand). Fails s (first + 0) rb n j) lb hb)))
+one_walk stand first text (l ∷ a) (l' ∷ b) ra rb sa sb m n k j fa fb ea eb (mid, leads, la) (mid', leads', lb) ha hb =
+    let same = one_first_line l l' (lines_text a ++ ra) (lines_text b ++ rb) fa.0 fb.0 (sym (ea ∙ lines_more l a ra) ∙ eb ∙ lines_more l' b rb) in
+    let stands = same_step stand mid mid' l l' same.0 leads leads' in
+    let at : (ls : List Line) → first + length (l ∷ ls) ≡ first + 1 + length ls = λ ls. omega arith in
+    one_walk mid (first + 1) (lines_text a ++ ra) a b ra rb sa sb m n k j fa.1 fb.1 refl same.1 la (subst (λ (s : Stand). Leads s b sb) (sym stands) lb) (rw (at a) at ha) (rw (at b) at hb)
+
+pub one_line_refusal : (text : List ℕ) (m n : ℕ) (k j : Kind) → RefusesLine text m k → RefusesLine text n j → (m ≡ n) × (k ≡ j)
+one_line_refusal text m n k j r s =
+    let at : (ls : List Line) → length ls + 1 ≡ 1 + length ls = λ ls. omega arith in
+    one_walk AtVersion 1 text r.done s.done r.rest s.rest r.stand s.stand m n k j r.lines_fit s.lines_fit r.parts s.parts r.leads s.leads (rw (at r.done) at r.fails) (rw (at s.done) at s.fails)
+
+-- ---- a text that passes
+
+pass_walk : (stand : Stand) (first : ℕ) (text : List ℕ) (a b : List Line) (ra : List ℕ) (sa sb : Stand) (m : ℕ) (k : Kind) → AreLines a → AreLines b → text ≡ lines_text a ++ ra → text ≡ lines_text b → Leads stand a sa → Leads stand b sb → may_end sb ≡ true → Fails sa (first + length a) ra m k → ⊥
+pass_walk stand first text [] [] ra sa sb m k fa fb ea eb la lb end ha =
+    end_not_fails sa ra (first + 0) m k (sym ea ∙ eb) (rw (la ∙ sym lb) end) ha
+pass_walk stand first text [] (l ∷ b) ra sa sb m k fa fb ea eb la (mid, leads, lb) end ha =
+    leads_not_fails stand mid l text (lines_text b ++ []) (first + 0) m k fb.0 (eb ∙ sym (append-nil (lines_text (l ∷ b))) ∙ lines_more l b []) leads (subst (λ (bs : List ℕ). Fails stand (first + 0) bs m k) (sym ea) (subst (λ (s : Stand). Fails s (first + 0) ra m k) la ha))
+pass_walk stand first text (l ∷ a) [] ra sa sb m k fa fb ea eb (mid, leads, la) lb end ha = not_over l text (lines_text a ++ ra) (ea ∙ lines_more l a ra) eb
+pass_walk stand first text (l ∷ a) (l' ∷ b) ra sa sb m k fa fb ea eb (mid, leads, la) (mid', leads', lb) end ha =
+    let same = one_first_line l l' (lines_text a ++ ra) (lines_text b ++ []) fa.0 fb.0 (sym (ea ∙ lines_more l a ra) ∙ eb ∙ sym (append-nil (lines_text (l' ∷ b))) ∙ lines_more l' b []) in
+    let stands = same_step stand mid mid' l l' same.0 leads leads' in
+    let at : first + length (l ∷ a) ≡ first + 1 + length a = omega arith in
+    pass_walk mid (first + 1) (lines_text a ++ ra) a b ra sa sb m k fa.1 fb.1 refl (same.1 ∙ append-nil (lines_text b)) la (subst (λ (s : Stand). Leads s b sb) (sym stands) lb) end (rw at at ha)
+
+-- It isn't refused by a line.
+pub passes_not_refused : (text : List ℕ) (ls : List Line) (number : ℕ) (kind : Kind) → Passes text ls → RefusesLine text number kind → ⊥
+passes_not_refused text ls number kind p r =
+    let at : length r.done + 1 ≡ 1 + length r.done = omega arith in
+    pass_walk AtVersion 1 text r.done ls r.rest r.stand p.stand number kind r.lines_fit p.lines_fit r.parts p.spelled r.leads p.leads p.whole (rw at at r.fails)
+
+-- It is one list of lines.
+pub one_lines : (a b : List Line) → AreLines a → AreLines b → lines_text a ≡ lines_text b → a ≡ b
+one_lines [] [] fa fb e = refl
+one_lines [] (l ∷ b) fa fb e = absurd (not_over l (lines_text (l ∷ b)) (lines_text b ++ []) (sym (append-nil (lines_text (l ∷ b))) ∙ lines_more l b []) (sym e))
+one_lines (l ∷ a) [] fa fb e = absurd (not_over l (lines_text (l ∷ a)) (lines_text a ++ []) (sym (append-nil (lines_text (l ∷ a))) ∙ lines_more l a []) e)
+one_lines (l ∷ a) (l' ∷ b) fa fb e =
+    let same = one_first_line l l' (lines_text a ++ []) (lines_text b ++ []) fa.0 fb.0 (sym (lines_more l a []) ∙ append-nil (lines_text (l ∷ a)) ∙ e ∙ sym (append-nil (lines_text (l' ∷ b))) ∙ lines_more l' b []) in
+    let rest = one_lines a b fa.1 fb.1 (sym (append-nil (lines_text a)) ∙ same.1 ∙ append-nil (lines_text b)) in
+    cc (same.0, rest)
+
+-- ---- the second pass
+
+-- a known command doesn't fail
+pub known_not_fails : (rows : List Row) (command : Command) (kind : Kind) → IsKnownCommand rows command → CommandFails rows command kind → ⊥
+known_not_fails rows (commands.Set reg bytes) _ ((place, here, fits, bytes_are), (other, named, built)) (refusals.Unknown _ none) = none place here
+known_not_fails rows (commands.Set reg bytes) _ ((place, here, fits, bytes_are), (other, named, built)) (refusals.Unbuilt _ q there unready) =
+    let same = one_place reg other q named there.0 in
+    cc (sym built ∙ ap is_built same ∙ unready)
+known_not_fails rows (commands.Set reg bytes) _ ((place, here, fits, bytes_are), (other, named, built)) (refusals.Misfit _ _ q there ready wrong) =
+    cc (sym fits ∙ ap (λ (p : Place). fits_register p bytes) (one_place reg place q here.0 there.0) ∙ wrong)
+known_not_fails rows (commands.Get reg) _ ((place, here), (other, named, built)) (refusals.Unknown _ none) = none place here
+known_not_fails rows (commands.Get reg) _ ((place, here), (other, named, built)) (refusals.Unbuilt _ q there unready) =
+    let same = one_place reg other q named there.0 in
+    cc (sym built ∙ ap is_built same ∙ unready)
+
+-- a command fails with one kind
+one_command_cause : (rows : List Row) (command : Command) (k j : Kind) → CommandFails rows command k → CommandFails rows command j → k ≡ j
+one_command_cause rows command _ _ (refusals.Unknown _ none) (refusals.Unknown _ none') = refl
+one_command_cause rows command _ _ (refusals.Unknown _ none) (refusals.Unbuilt _ q there unready) = absurd (none q there)
+one_command_cause rows command _ _ (refusals.Unknown _ none) (refusals.Misfit reg bytes q there ready wrong) = absurd (none q there)
+one_command_cause rows command _ _ (refusals.Unbuilt _ p here unready) (refusals.Unknown _ none) = absurd (none p here)
+one_command_cause rows command _ _ (refusals.Unbuilt _ p here unready) (refusals.Unbuilt _ q there unready') = refl
+one_command_cause rows command _ _ (refusals.Unbuilt _ p here unready) (refusals.Misfit reg bytes q there ready wrong) =
+    let same = one_place reg p q here.0 there.0 in
+    absurd (cc (sym ready ∙ ap is_built (sym same) ∙ unready))
+one_command_cause rows command _ _ (refusals.Misfit reg bytes p here ready wrong) (refusals.Unknown _ none) = absurd (none p here)
+one_command_cause rows command _ _ (refusals.Misfit reg bytes p here ready wrong) (refusals.Unbuilt _ q there unready) =
+    let same = one_place reg p q here.0 there.0 in
+    absurd (cc (sym ready ∙ ap is_built same ∙ unready))
+one_command_cause rows command _ _ (refusals.Misfit reg bytes p here ready wrong) (refusals.Misfit _ _ q there ready' wrong') = refl
+
+-- among lines the first command that fails is one
+first_command : (rows : List Row) (a b la lb : List Line) (c d : Command) (k j : Kind) → a ++ lines.Order c ∷ la ≡ b ++ lines.Order d ∷ lb → AllByRecursion (IsKnown rows) a → AllByRecursion (IsKnown rows) b → CommandFails rows c k → CommandFails rows d j → (length a ≡ length b) × (k ≡ j)
+first_command rows [] [] la lb c d k j e ha hb fc fd =
+    let same : d ≡ c = cc e in
+    (refl, one_command_cause rows c k j fc (subst (λ (x : Command). CommandFails rows x j) same fd))
+first_command rows [] (l ∷ b) la lb c d k j e ha hb fc fd =
+    let same : l ≡ lines.Order c = cc e in
+    absurd (known_not_fails rows c k (subst (IsKnown rows) same hb.0) fc)
+first_command rows (l ∷ a) [] la lb c d k j e ha hb fc fd =
+    let same : l ≡ lines.Order d = cc e in
+    absurd (known_not_fails rows d j (subst (IsKnown rows) same ha.0) fd)
+first_command rows (l ∷ a) (l' ∷ b) la lb c d k j e ha hb fc fd =
+    let rest : a ++ lines.Order c ∷ la ≡ b ++ lines.Order d ∷ lb = cc e in
+    let r = first_command rows a b la lb c d k j rest ha.1 hb.1 fc fd in
+    (omega (arith, r.0), r.1)
+
+one_command_refusal : (text : List ℕ) (m n : ℕ) (k j : Kind) → RefusesCommand text m k → RefusesCommand text n j → (m ≡ n) × (k ≡ j)
+one_command_refusal text m n k j r s =
+    let mine = r.done ++ lines.Order r.command ∷ r.later in
+    let yours = s.done ++ lines.Order s.command ∷ s.later in
+    let same : mine ≡ yours = one_lines mine yours r.passes.lines_fit s.passes.lines_fit (sym r.passes.spelled ∙ s.passes.spelled) in
+    let table : table_of yours ≡ table_of mine = ap table_of (sym same) in
+    let known = subst (λ (rows : List Row). AllByRecursion (IsKnown rows) s.done) table s.known in
+    let fails = subst (λ (rows : List Row). CommandFails rows s.command j) table s.fails in
+    let first = first_command (table_of mine) r.done s.done r.later s.later r.command s.command k j same r.known known r.fails fails in
+    (omega (arith, r.number_is, s.number_is, first.0), first.1)
+
+-- ---- both passes
+
+pub one_refusal : (text : List ℕ) (m n : ℕ) (k j : Kind) → Refuses text m k → Refuses text n j → (m ≡ n) × (k ≡ j)
+one_refusal text m n k j (ByLine r) (ByLine s) = one_line_refusal text m n k j r s
+one_refusal text m n k j (ByLine r) (ByCommand s) = absurd (passes_not_refused text _ m k s.passes r)
+one_refusal text m n k j (ByCommand r) (ByLine s) = absurd (passes_not_refused text _ n j r.passes s)
+one_refusal text m n k j (ByCommand r) (ByCommand s) = one_command_refusal text m n k j r s

@@ -1,0 +1,228 @@
+-- One spelling for each line, and a line has no line feed in it.
+use Rattle.std.proofs.Common.{◌≡◌, ℕ, ◌&&◌, ◌==◌, not, Bool, true, false, List, [], ◌∷◌, ◌++◌, refl, sym, ◌∙◌, ap, arith, codes, decimal}
+use Rattle.std.specs.Prelude.{if◌then◌else◌}
+use Rattle.std.proofs.lemmas.Bool.{and_parts}
+use Rattle.std.proofs.lemmas.List.{append_cancel_left}
+use Rattle.std.proofs.lemmas.Fmt.{decimal_injective}
+use Rattle.hex.specs.Hex.{encode_lower}
+use Rattle.xs_base.specs.declared.component.Row.{Row}
+use Rattle.xs_base.specs.Layout.{row}
+use Rattle.xs_model.specs.declared.script.Named.{Named}
+use Rattle.xs_model.specs.declared.script.Named.TheVariants as machines
+use Rattle.xs_model.specs.declared.script.Command.{Command}
+use Rattle.xs_model.specs.declared.script.Command.TheVariants as commands
+use Rattle.xs_script.specs.declared.line.Line.{Line}
+use Rattle.xs_script.specs.declared.line.Line.TheVariants as lines
+use Rattle.xs_script.specs.ScriptLine.{line_text, IsLine, IsNumber, row_text, command_text, IsCommandLine, machine_name}
+use Rattle.xs_script.specs.Reads.{Lacks}
+use Rattle.xs_script.proofs.Cuts.{Lacks-append, Lacks-decimal, Lacks-name, Lacks-register, Lacks-hex, one_cut}
+use Rattle.xs_script.proofs.Lanes.{one_hex}
+
+-- ---- no line has a line feed in it
+
+-- a test that a word has no line feed
+abbrev lacks_test : List ℕ → Bool
+lacks_test [] = true
+lacks_test (b ∷ bs) = not (b == 10) && lacks_test bs
+
+-- so it lacks one
+pub lacks_word : (bs : List ℕ) → lacks_test bs ≡ true → Lacks 10 bs
+lacks_word [] h = tt
+lacks_word (b ∷ bs) h =
+    let p = and_parts (not (b == 10)) (lacks_test bs) h in
+    (λ e. let t = rw e at p.0 in cc t, lacks_word bs p.1)
+
+-- a number's digits lack the space and the line feed
+pub lacks_space : (n : ℕ) → IsNumber n → Lacks 32 (decimal n)
+lacks_space n fits = Lacks-decimal 32 n (omega arith) (omega arith)
+
+lacks_feed : (n : ℕ) → IsNumber n → Lacks 10 (decimal n)
+lacks_feed n fits = Lacks-decimal 10 n (omega arith) (omega arith)
+
+-- so does a number's text behind a word
+lacks_number : (word : List ℕ) (n : ℕ) → Lacks 10 word → IsNumber n → Lacks 10 (word ++ decimal n)
+lacks_number word n w fits = Lacks-append 10 word (decimal n) w (lacks_feed n fits)
+
+-- two words with a space between them
+lacks_both : (a b : List ℕ) → Lacks 10 a → Lacks 10 b → Lacks 10 (a ++ 32 ∷ b)
+lacks_both a b la lb = Lacks-append 10 a (32 ∷ b) la (λ e. omega arith, lb)
+
+lacks_row : (r : Row) → IsLine (lines.Row r) → Lacks 10 (row_text r)
+lacks_row r fits =
+    lacks_both (decimal r.comp.0) (decimal r.size ++ 32 ∷ (decimal r.offset ++ 32 ∷ decimal r.flags)) (lacks_feed r.comp.0 fits.0)
+    (lacks_both (decimal r.size) (decimal r.offset ++ 32 ∷ decimal r.flags) (lacks_feed r.size fits.1)
+    (lacks_both (decimal r.offset) (decimal r.flags) (lacks_feed r.offset fits.2) (lacks_feed r.flags fits.3)))
+
+lacks_command : (command : Command) → IsCommandLine command → Lacks 10 (command_text command)
+lacks_command (commands.Set reg bytes) fits =
+    Lacks-append 10 (codes "set ") (reg ++ 32 ∷ encode_lower bytes) (lacks_word (codes "set ") refl)
+    (lacks_both reg (encode_lower bytes) (Lacks-register 10 reg refl fits.0) (Lacks-hex 10 bytes refl fits.2))
+lacks_command (commands.Get reg) fits = Lacks-append 10 (codes "get ") reg (lacks_word (codes "get ") refl) (Lacks-register 10 reg refl fits)
+
+-- no line has a line feed in it
+pub Lacks_line : (l : Line) → IsLine l → Lacks 10 (line_text l)
+Lacks_line lines.Version fits = lacks_word (codes "xstate 1") refl
+Lacks_line (lines.Machine machines.Amx) fits = lacks_word (codes "machine amx") refl
+Lacks_line (lines.Machine machines.Avx) fits = lacks_word (codes "machine avx") refl
+Lacks_line (lines.Machine machines.Rows) fits = lacks_word (codes "machine rows") refl
+Lacks_line (lines.Row r) fits = Lacks-append 10 (codes "row ") (row_text r) (lacks_word (codes "row ") refl) (lacks_row r fits)
+Lacks_line (lines.Cpus n) fits = lacks_number (codes "cpus ") n (lacks_word (codes "cpus ") refl) fits
+Lacks_line (lines.Quantum n) fits = lacks_number (codes "quantum ") n (lacks_word (codes "quantum ") refl) fits
+Lacks_line (lines.Large n) fits = lacks_number (codes "large ") n (lacks_word (codes "large ") refl) fits
+Lacks_line (lines.Task name) fits = Lacks-append 10 (codes "task ") name (lacks_word (codes "task ") refl) (Lacks-name 10 name refl refl fits)
+Lacks_line (lines.Order command) fits = lacks_command command fits
+Lacks_line lines.End fits = lacks_word (codes "end") refl
+
+-- ---- lines of one text are of one kind
+
+-- the text begins with the word
+abbrev begins : List ℕ → List ℕ → Bool
+begins [] bs = true
+begins (p ∷ ps) [] = false
+begins (p ∷ ps) (b ∷ bs) = (p == b) && begins ps bs
+
+-- a number for each kind of line
+abbrev kind : Line → ℕ
+kind lines.Version = 0
+kind (lines.Machine named) = 1
+kind (lines.Row r) = 2
+kind (lines.Cpus n) = 3
+kind (lines.Quantum n) = 4
+kind (lines.Large n) = 5
+kind (lines.Task name) = 6
+kind (lines.Order command) = 7
+kind lines.End = 8
+
+-- the kind, read from the first word
+abbrev kind_of : List ℕ → ℕ
+kind_of bs =
+    if begins (codes "xstate ") bs then 0
+    else if begins (codes "machine ") bs then 1
+    else if begins (codes "row ") bs then 2
+    else if begins (codes "cpus ") bs then 3
+    else if begins (codes "quantum ") bs then 4
+    else if begins (codes "large ") bs then 5
+    else if begins (codes "task ") bs then 6
+    else if begins (codes "set ") bs then 7
+    else if begins (codes "get ") bs then 7
+    else 8
+
+-- a line's first word is that of its kind
+kind_is : (l : Line) → kind_of (line_text l) ≡ kind l
+kind_is lines.Version = refl
+kind_is (lines.Machine named) = refl
+kind_is (lines.Row r) = refl
+kind_is (lines.Cpus n) = refl
+kind_is (lines.Quantum n) = refl
+kind_is (lines.Large n) = refl
+kind_is (lines.Task name) = refl
+kind_is (lines.Order (commands.Set reg bytes)) = refl
+kind_is (lines.Order (commands.Get reg)) = refl
+kind_is lines.End = refl
+
+-- lines of one text are of one kind
+same_kind : (a b : Line) → line_text a ≡ line_text b → kind a ≡ kind b
+same_kind a b e = sym (kind_is a) ∙ ap kind_of e ∙ kind_is b
+
+-- ---- lines of one text are equal
+
+-- one number after a word
+pub one_number : (word : List ℕ) (m n : ℕ) → IsNumber m → IsNumber n → word ++ decimal m ≡ word ++ decimal n → m ≡ n
+one_number word m n fm fn e = decimal_injective m n (omega arith) (omega arith) (append_cancel_left word _ _ e)
+
+-- a number for each machine
+abbrev machine_kind : Named → ℕ
+machine_kind machines.Amx = 0
+machine_kind machines.Avx = 1
+machine_kind machines.Rows = 2
+
+-- the same, read from its name
+abbrev machine_kind_of : List ℕ → ℕ
+machine_kind_of bs = if begins (codes "am") bs then 0 else if begins (codes "av") bs then 1 else 2
+
+machine_kind_is : (named : Named) → machine_kind_of (machine_name named) ≡ machine_kind named
+machine_kind_is machines.Amx = refl
+machine_kind_is machines.Avx = refl
+machine_kind_is machines.Rows = refl
+
+same_machine_kind : (a b : Named) → machine_name a ≡ machine_name b → machine_kind a ≡ machine_kind b
+same_machine_kind a b e = sym (machine_kind_is a) ∙ ap machine_kind_of e ∙ machine_kind_is b
+
+-- machines of one name are equal
+pub one_machine : (a b : Named) → machine_name a ≡ machine_name b → a ≡ b
+one_machine machines.Amx machines.Amx e = refl
+one_machine machines.Avx machines.Avx e = refl
+one_machine machines.Rows machines.Rows e = refl
+one_machine a b e = let k = same_machine_kind a b e in absurd (omega arith)
+
+-- two numbers are cut at the space between them
+pub one_pair : (m n : ℕ) (x y : List ℕ) → IsNumber m → IsNumber n → decimal m ++ 32 ∷ x ≡ decimal n ++ 32 ∷ y → (m ≡ n) × (x ≡ y)
+one_pair m n x y fm fn e =
+    let cut = one_cut 32 (decimal m) (decimal n) x y (lacks_space m fm) (lacks_space n fn) e in
+    (decimal_injective m n (omega arith) (omega arith) cut.0, cut.1)
+
+-- rows of the same numbers are equal
+pub same_row : (r s : Row) → r.comp.0 ≡ s.comp.0 → r.size ≡ s.size → r.offset ≡ s.offset → r.flags ≡ s.flags → r ≡ s
+same_row r s number size offset flags =
+    let whole : row r.comp.0 r.size r.offset r.flags ≡ row s.comp.0 s.size s.offset s.flags = cc in
+    whole
+
+-- rows of one text are equal
+pub one_row : (r s : Row) → IsLine (lines.Row r) → IsLine (lines.Row s) → row_text r ≡ row_text s → r ≡ s
+one_row r s f g e =
+    let number = one_pair r.comp.0 s.comp.0 (decimal r.size ++ 32 ∷ (decimal r.offset ++ 32 ∷ decimal r.flags)) (decimal s.size ++ 32 ∷ (decimal s.offset ++ 32 ∷ decimal s.flags)) f.0 g.0 e in
+    let size = one_pair r.size s.size (decimal r.offset ++ 32 ∷ decimal r.flags) (decimal s.offset ++ 32 ∷ decimal s.flags) f.1 g.1 number.1 in
+    let offset = one_pair r.offset s.offset (decimal r.flags) (decimal s.flags) f.2 g.2 size.1 in
+    same_row r s number.0 size.0 offset.0 (one_number [] r.flags s.flags f.3 g.3 offset.1)
+
+-- a number for each kind of command
+abbrev command_kind : Command → ℕ
+command_kind (commands.Set reg bytes) = 0
+command_kind (commands.Get reg) = 1
+
+-- the same, read from the first word
+abbrev command_kind_of : List ℕ → ℕ
+command_kind_of bs = if begins (codes "set ") bs then 0 else 1
+
+command_kind_is : (k : Command) → command_kind_of (command_text k) ≡ command_kind k
+command_kind_is (commands.Set reg bytes) = refl
+command_kind_is (commands.Get reg) = refl
+
+same_command_kind : (a b : Command) → command_text a ≡ command_text b → command_kind a ≡ command_kind b
+same_command_kind a b e = sym (command_kind_is a) ∙ ap command_kind_of e ∙ command_kind_is b
+
+-- one register and bytes after a word
+one_set : (a b x y : List ℕ) → IsCommandLine (commands.Set a x) → IsCommandLine (commands.Set b y) → command_text (commands.Set a x) ≡ command_text (commands.Set b y) → (a ≡ b) × (x ≡ y)
+one_set a b x y fa fb e =
+    let tail = append_cancel_left (codes "set ") (a ++ 32 ∷ encode_lower x) (b ++ 32 ∷ encode_lower y) e in
+    let cut = one_cut 32 a b (encode_lower x) (encode_lower y) (Lacks-register 32 a refl fa.0) (Lacks-register 32 b refl fb.0) tail in
+    (cut.0, one_hex x y fa.2 fb.2 cut.1)
+
+-- commands of one text are equal
+pub one_command : (a b : Command) → IsCommandLine a → IsCommandLine b → command_text a ≡ command_text b → a ≡ b
+one_command (commands.Set a x) (commands.Set b y) f g e =
+    let s = one_set a b x y f g e in
+    let ea = s.0 in
+    let ex = s.1 in
+    cc
+one_command (commands.Get a) (commands.Get b) f g e = ap commands.Get (append_cancel_left (codes "get ") a b e)
+one_command a b f g e = let k = same_command_kind a b e in absurd (omega arith)
+
+-- lines of one text are equal
+pub one_line : (a b : Line) → IsLine a → IsLine b → line_text a ≡ line_text b → a ≡ b
+one_line lines.Version lines.Version f g e = refl
+one_line (lines.Machine a) (lines.Machine b) f g e = ap lines.Machine (one_machine a b (append_cancel_left (codes "machine ") (machine_name a) (machine_name b) e))
+one_line (lines.Row r) (lines.Row s) f g e = ap lines.Row (one_row r s f g (append_cancel_left (codes "row ") (row_text r) (row_text s) e))
+one_line (lines.Cpus m) (lines.Cpus n) f g e = ap lines.Cpus (one_number (codes "cpus ") m n f g e)
+one_line (lines.Quantum m) (lines.Quantum n) f g e = ap lines.Quantum (one_number (codes "quantum ") m n f g e)
+one_line (lines.Large m) (lines.Large n) f g e = ap lines.Large (one_number (codes "large ") m n f g e)
+one_line (lines.Task x) (lines.Task y) f g e = ap lines.Task (append_cancel_left (codes "task ") x y e)
+one_line (lines.Order a) (lines.Order b) f g e = ap lines.Order (one_command a b f g e)
+one_line lines.End lines.End f g e = refl
+one_line a b f g e = let k = same_kind a b e in absurd (omega arith)
+
+-- The first line of a text is one line, and so is the rest.
+pub one_first_line : (a b : Line) (x y : List ℕ) → IsLine a → IsLine b → line_text a ++ 10 ∷ x ≡ line_text b ++ 10 ∷ y → (a ≡ b) × (x ≡ y)
+one_first_line a b x y f g e =
+    let cut = one_cut 10 (line_text a) (line_text b) x y (Lacks_line a f) (Lacks_line b g) e in
+    (one_line a b f g cut.0, cut.1)

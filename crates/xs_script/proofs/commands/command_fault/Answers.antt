@@ -1,0 +1,21 @@
+use Rattle.std.proofs.Common.{sym, ◌∙◌}
+use Rattle.xs_model.specs.declared.script.Command.TheVariants.{Set, Get}
+use Rattle.xs_script.specs.Refusal.{Misfit}
+use Rattle.xs_script.proofs.CommandFaults.{register_fails}
+use Rattle.xs_script.proofs.commands.command_fault.Goals as goal
+
+pub returns-in-Ok-2 : goal.returns-in-Ok-2
+returns-in-Ok-2 c =
+    let found = rw c.as_slice.ensures.bytes at c.in-Ok.ensures.found in
+    let wrong = sym c.fits_register.ensures ∙ c.if-fits_register.false in
+    rw c.in-Set.is (Misfit c.in-Set.reg c.in-Set.bytes c.in-Ok.place found.here found.built wrong)
+
+pub returns-in-Err : goal.returns-in-Err
+returns-in-Err c =
+    let fails = rw c.as_slice.ensures.bytes at c.in-Err.ensures.refused in
+    rw c.in-Set.is (register_fails c.args.layout.now (Set c.in-Set.reg c.in-Set.bytes) c.in-Err.kind fails)
+
+pub returns-in-Err-find_register : goal.returns-in-Err-find_register
+returns-in-Err-find_register c =
+    let fails = rw c.as_slice-in-Get.ensures.bytes at c.in-Err-find_register.ensures.refused in
+    rw c.in-Get.is (register_fails c.args.layout.now (Get c.in-Get.reg) c.in-Err-find_register.kind fails)

@@ -1,0 +1,47 @@
+-- The script that a text spells. A script is written as an order of lines, each line in its one spelling and ended
+-- by one line feed; so a text is said to spell a script by writing the script, and not by reading the text.
+use Rattle.std.specs.Prelude.{◌≡◌, ℕ, ◌+◌, List, [], ◌∷◌, ◌++◌, length, map}
+use Rattle.std.specs.List.{flat_map}
+use Rattle.xs_base.specs.declared.component.Row.{Row}
+use Rattle.xs_model.specs.declared.script.Named.{Named}
+use Rattle.xs_model.specs.declared.script.Named.TheVariants as machines
+use Rattle.xs_model.specs.declared.script.Order.{Order}
+use Rattle.xs_model.specs.declared.script.Block.{Block}
+use Rattle.xs_model.specs.declared.script.Script.{Script}
+use Rattle.xs_model.specs.Script.{IsValid, IsBuilt, AreBlocksNumbered}
+use Rattle.xs_script.specs.declared.line.Line.{Line}
+use Rattle.xs_script.specs.declared.line.Line.TheVariants as lines
+use Rattle.xs_script.specs.ScriptLine.{line_text}
+
+-- the lines of a text, each ended by a line feed
+abbrev pub lines_text : List Line → List ℕ
+lines_text ls = flat_map (λ line. line_text line ++ 10 ∷ []) ls
+
+-- the lines of the orders of a body
+abbrev pub order_lines : List Order → List Line
+order_lines orders = map (λ order. lines.Order order.command) orders
+
+abbrev pub block_lines : Block → List Line
+block_lines block = lines.Task block.name ∷ (order_lines block.body ++ lines.End ∷ [])
+
+-- a machine without a name of its own is given by its rows
+abbrev pub row_lines : Named → List Row → List Line
+row_lines machines.Amx rows = []
+row_lines machines.Avx rows = []
+row_lines machines.Rows rows = map lines.Row rows
+
+-- the lines before the blocks
+abbrev pub head_lines : Script → List Line
+head_lines script =
+    lines.Version ∷ lines.Machine script.machine
+    ∷ (row_lines script.machine script.layout ++ lines.Cpus script.cpus ∷ lines.Quantum script.quantum ∷ lines.Large script.large ∷ [])
+
+abbrev pub script_lines : Script → List Line
+script_lines script = head_lines script ++ flat_map block_lines script.blocks
+
+-- The text spells the script: it is the script's lines, and each order has the number of its line, counted from 1.
+pub record Spells (text : List ℕ) (script : Script) : Type 0 where
+  pub valid : IsValid script
+  pub built : IsBuilt script
+  pub numbered : AreBlocksNumbered (length (head_lines script) + 1) script.blocks
+  pub spelled : text ≡ lines_text (script_lines script)

@@ -1,0 +1,12 @@
+-- The definitions of scripts as texts, one file a noun.
+pub mod ScriptLine
+pub mod Reads
+pub mod Parts
+pub mod Grammar
+pub mod LineOrder
+pub mod Refusal
+pub mod Front
+pub mod Head
+pub mod Body
+pub mod Commands
+pub mod RefusalText

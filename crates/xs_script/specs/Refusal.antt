@@ -1,0 +1,169 @@
+-- Why a text is no script. It is read in two passes, and the second runs only where the first finds nothing. Each pass
+-- stops at its first bad line; a line that is bad in several ways has the kind that comes first here. All of it is this
+-- project's own.
+use Rattle.std.specs.Prelude.{◌≡◌, ℕ, ◌+◌, Bool, true, false, ◌||◌, ◌==◌, List, [], ◌∷◌, ◌++◌, length, map, bytes_eq, codes, decimal, Option, Some, None, Err, if◌then◌else◌}
+use Rattle.std.specs.List.{list_any, range_with_len, flat_map, AllByRecursion}
+use Rattle.xs_base.specs.declared.component.Row.{Row}
+use Rattle.xs_base.specs.declared.component.Place.{Place}
+use Rattle.xs_base.specs.declared.layout_error.LayoutError.{LayoutError}
+use Rattle.xs_base.specs.Layout.{amx_rows, avx_rows, table_error}
+use Rattle.xs_base.specs.Register.{IsRegister}
+use Rattle.xs_model.specs.declared.script.Named.{Named}
+use Rattle.xs_model.specs.declared.script.Named.TheVariants as machines
+use Rattle.xs_model.specs.declared.script.Command.{Command}
+use Rattle.xs_model.specs.declared.script.Command.TheVariants as commands
+use Rattle.xs_model.specs.Script.{IsCommand, IsBuiltCommand, register_of, fits_register, is_built}
+use Rattle.xs_script.specs.declared.line.Line.{Line}
+use Rattle.xs_script.specs.declared.line.Line.TheVariants as lines
+use Rattle.xs_script.specs.declared.refusal.Kind.{Kind}
+use Rattle.xs_script.specs.declared.refusal.Kind.TheVariants.{NotBuilt, BadLine, Layout, UnknownName}
+use Rattle.xs_script.specs.declared.refusal.ScriptError.{ScriptError}
+use Rattle.xs_script.specs.declared.refusal.ScriptError.TheVariants as errors
+use Rattle.xs_script.specs.ScriptLine.{IsLine, line_text}
+use Rattle.xs_script.specs.Grammar.{lines_text}
+use Rattle.xs_script.specs.LineOrder.{Stand, AtVersion, AtMachine, AtRow, AtCpus, AtQuantum, AtLarge, AtBlock, InBlock, may_end, next, Leads}
+
+-- ---- words of a line
+
+-- the bytes before the first `byte`, and all of them where there is none
+abbrev pub before : ℕ → List ℕ → List ℕ
+before byte [] = []
+before byte (b ∷ bs) = if b == byte then [] else b ∷ before byte bs
+
+-- A text's first line ends at a line feed, or with the text. A line's first word ends at a space, or with the line.
+abbrev pub first_line : List ℕ → List ℕ
+first_line text = before 10 text
+
+abbrev pub first_word : List ℕ → List ℕ
+first_word text = before 32 (first_line text)
+
+-- the first words of the forms that this version doesn't have
+unfoldable pub unbuilt_words : List (List ℕ)
+unbuilt_words =
+    codes "sched" ∷ codes "child" ∷ codes "kthread" ∷ codes "handler" ∷ codes "sigreturn" ∷ codes "tilerelease" ∷ codes "ksec"
+    ∷ codes "perm" ∷ codes "yield" ∷ codes "peek" ∷ codes "poke" ∷ codes "bpeek" ∷ codes "bpoke" ∷ codes "fork" ∷ codes "kill"
+    ∷ codes "stop" ∷ codes "wait" ∷ codes "getregs" ∷ codes "setregs" ∷ codes "cont" ∷ []
+
+-- the numbers of processors that this version doesn't have
+unfoldable pub unbuilt_cpus : List (List ℕ)
+unbuilt_cpus = map (λ n. codes "cpus " ++ decimal n) (range_with_len 2 15)
+
+-- The text's first line is of a form that this version doesn't have, however it goes on.
+abbrev pub is_unbuilt : List ℕ → Bool
+is_unbuilt text = list_any (λ word. bytes_eq word (first_word text)) unbuilt_words || list_any (λ line. bytes_eq line (first_line text)) unbuilt_cpus
+
+-- ---- the first pass: spelling, order, limits, rows, names of blocks
+
+-- no line is the text's first
+abbrev pub NoLine : List ℕ → Type 0
+NoLine text = (line : Line) (rest : List ℕ) → IsLine line → text ≡ line_text line ++ 10 ∷ rest → ⊥
+
+-- What the first line of a text is refused with, where a reader stands so. A text that ends too early fails there.
+pub data LineFails (stand : Stand) (text : List ℕ) : Kind → Type 0 where
+  Early : text ≡ [] → may_end stand ≡ false → LineFails stand text BadLine
+  Unbuilt : is_unbuilt text ≡ true → LineFails stand text NotBuilt
+  Misspelled : (text ≡ [] → ⊥) → is_unbuilt text ≡ false → NoLine text → LineFails stand text BadLine
+  Misplaced : (line : Line) (rest : List ℕ) (kind : Kind) → is_unbuilt text ≡ false → IsLine line → text ≡ line_text line ++ 10 ∷ rest → next stand line ≡ Err kind → LineFails stand text kind
+
+-- The rows are over where a line comes that doesn't begin with `row`, or no line. Then the whole table is tested.
+abbrev pub table_fault : Stand → List ℕ → Option LayoutError
+table_fault AtVersion text = None
+table_fault AtMachine text = None
+table_fault (AtRow rows) text = if bytes_eq (first_word text) (codes "row") then None else table_error rows
+table_fault AtCpus text = None
+table_fault AtQuantum text = None
+table_fault AtLarge text = None
+table_fault (AtBlock names) text = None
+table_fault (InBlock names) text = None
+
+-- The line that is refused and its kind, where a reader stands so before line `number`: a table as a whole is refused by
+-- the line that begins it, which is line 2, before the line that ends it is looked at.
+pub data Fails (stand : Stand) (number : ℕ) (text : List ℕ) : ℕ → Kind → Type 0 where
+  Table : (error : LayoutError) → table_fault stand text ≡ Some error → Fails stand number text 2 (Layout error)
+  Here : (kind : Kind) → table_fault stand text ≡ None → LineFails stand text kind → Fails stand number text number kind
+
+abbrev pub AreLines : List Line → Type 0
+AreLines ls = AllByRecursion IsLine ls
+
+-- The lines before lead to a stand at which the rest of the text fails.
+pub record RefusesLine (text : List ℕ) (number : ℕ) (kind : Kind) : Type 0 where
+  pub done : List Line
+  pub rest : List ℕ
+  pub stand : Stand
+  pub lines_fit : AreLines done
+  pub parts : text ≡ lines_text done ++ rest
+  pub leads : Leads AtVersion done stand
+  pub fails : Fails stand (length done + 1) rest number kind
+
+-- ---- the second pass: registers
+
+-- The text is these lines, and the first pass finds nothing in it.
+pub record Passes (text : List ℕ) (ls : List Line) : Type 0 where
+  pub lines_fit : AreLines ls
+  pub spelled : text ≡ lines_text ls
+  pub stand : Stand
+  pub leads : Leads AtVersion ls stand
+  pub whole : may_end stand ≡ true
+
+-- the machine's table, by the lines
+abbrev pub machine_rows : Named → List Row
+machine_rows machines.Amx = amx_rows
+machine_rows machines.Avx = avx_rows
+machine_rows machines.Rows = []
+
+abbrev pub rows_of_line : Line → List Row
+rows_of_line lines.Version = []
+rows_of_line (lines.Machine named) = machine_rows named
+rows_of_line (lines.Row r) = r ∷ []
+rows_of_line (lines.Cpus n) = []
+rows_of_line (lines.Quantum n) = []
+rows_of_line (lines.Large n) = []
+rows_of_line (lines.Task name) = []
+rows_of_line (lines.Order command) = []
+rows_of_line lines.End = []
+
+abbrev pub table_of : List Line → List Row
+table_of ls = flat_map rows_of_line ls
+
+-- A command's register is one of the machine and of those that are built, and a value fits it.
+abbrev pub IsKnownCommand : List Row → Command → Type 0
+IsKnownCommand rows command = IsCommand rows command × IsBuiltCommand command
+
+-- what a command is refused with
+pub data CommandFails (rows : List Row) : Command → Kind → Type 0 where
+  Unknown : (command : Command) → ((place : Place) → IsRegister rows (register_of command) place → ⊥) → CommandFails rows command UnknownName
+  Unbuilt : (command : Command) (place : Place) → IsRegister rows (register_of command) place → is_built place ≡ false → CommandFails rows command NotBuilt
+  Misfit : (reg bytes : List ℕ) (place : Place) → IsRegister rows reg place → is_built place ≡ true → fits_register place bytes ≡ false → CommandFails rows (commands.Set reg bytes) BadLine
+
+abbrev pub IsKnown : List Row → Line → Type 0
+IsKnown rows lines.Version = Unit {0}
+IsKnown rows (lines.Machine named) = Unit {0}
+IsKnown rows (lines.Row r) = Unit {0}
+IsKnown rows (lines.Cpus n) = Unit {0}
+IsKnown rows (lines.Quantum n) = Unit {0}
+IsKnown rows (lines.Large n) = Unit {0}
+IsKnown rows (lines.Task name) = Unit {0}
+IsKnown rows (lines.Order command) = IsKnownCommand rows command
+IsKnown rows lines.End = Unit {0}
+
+-- The lines pass, those before one have known registers, and that one fails.
+pub record RefusesCommand (text : List ℕ) (number : ℕ) (kind : Kind) : Type 0 where
+  pub done : List Line
+  pub command : Command
+  pub later : List Line
+  pub passes : Passes text (done ++ lines.Order command ∷ later)
+  pub known : AllByRecursion (IsKnown (table_of (done ++ lines.Order command ∷ later))) done
+  pub fails : CommandFails (table_of (done ++ lines.Order command ∷ later)) command kind
+  pub number_is : number ≡ length done + 1
+
+-- ---- both passes
+
+-- The line that the text is refused by, and its kind.
+pub data Refuses (text : List ℕ) (number : ℕ) (kind : Kind) : Type 0 where
+  ByLine : RefusesLine text number kind → Refuses text number kind
+  ByCommand : RefusesCommand text number kind → Refuses text number kind
+
+-- What it says of a text that no script was read. Want of memory says nothing.
+abbrev pub Explains : List ℕ → ScriptError → Type 0
+Explains text (errors.Refused line kind) = Refuses text line kind
+Explains text errors.Memory = Unit {0}

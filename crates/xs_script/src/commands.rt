@@ -1,0 +1,92 @@
+//! The registers of a script's commands.
+
+ghost use Rattle.std.specs.Prelude.{◌≡◌, ◌==◌, drop, MatchOption, IfOk, IfErr};
+ghost use Rattle.std.specs.List.{list_all, AllByRecursion};
+ghost use Rattle.xs_base.specs.File.{is_mxcsr};
+ghost use Rattle.xs_model.specs.declared.script.Order.{Order};
+ghost use Rattle.xs_model.specs.declared.script.Block.{Block};
+ghost use Rattle.xs_model.specs.Script.{fits_register, is_built};
+ghost use Rattle.xs_script.specs.Refusal.{CommandFails};
+ghost use Rattle.xs_script.specs.Commands.{IsBuiltRegister, RegisterFails, PassesCommand, PassesOrders, FirstOrder, FirstBlock};
+
+use crate::refusal::Kind;
+use xs_base::{Comp, Lane, Place};
+use xs_layout::Layout;
+use xs_model::{Block, Command, Order};
+use xs_regs::place_of_bytes;
+
+/// The line of the first command that fails on the machine, and what it is refused with.
+pub(crate) fn first_fault(layout: &Layout, blocks: &[Block]) -> Option<(u32, Kind)>
+    ensures { MatchOption result (AllByRecursion (λ (block : Block). PassesOrders layout.now block.body) blocks.now) (λ x. FirstBlock layout.now blocks.now x.0 x.1) }
+{
+    'each: for block in blocks {
+        if let Some(fault) = first_order_fault(layout, block.body.as_slice()) {
+            return Some(fault);
+        }
+    }
+    None
+}
+
+/// The same of the commands of one body.
+fn first_order_fault(layout: &Layout, orders: &[Order]) -> Option<(u32, Kind)>
+    ensures { MatchOption result (PassesOrders layout.now orders.now) (λ x. FirstOrder layout.now orders.now x.0 x.1) }
+{
+    'each: for order in orders {
+        if let Some(kind) = command_fault(layout, &order.command) {
+            return Some((order.number, kind));
+        }
+    }
+    None
+}
+
+/// What a command is refused with on the machine.
+fn command_fault(layout: &Layout, command: &Command) -> Option<Kind>
+    ensures { MatchOption result (PassesCommand layout.now command.now) (CommandFails layout.now command.now) }
+{
+    match command {
+        Command::Set { reg, bytes } => match find_register(layout, reg.as_slice()) {
+            Ok(place) if fits_register(place, bytes) => None,
+            Ok(_) => Some(Kind::BadLine),
+            Err(kind) => Some(kind),
+        },
+        Command::Get { reg } => match find_register(layout, reg.as_slice()) {
+            Ok(_) => None,
+            Err(kind) => Some(kind),
+        },
+    }
+}
+
+/// The place of a register that the program has.
+fn find_register(layout: &Layout, reg: &[u8]) -> Result<Place, Kind>
+    ensures found { IfOk result (IsBuiltRegister layout.now reg.now) }
+    ensures refused { IfErr result (RegisterFails layout.now reg.now) }
+{
+    match place_of_bytes(reg, layout) {
+        Some(place) if is_built(place) => Ok(place),
+        Some(_) => Err(Kind::NotBuilt),
+        None => Err(Kind::UnknownName),
+    }
+}
+
+/// Whether the program has the register: one of x87, SSE with MXCSR, AVX and AVX-512.
+fn is_built(place: Place) -> bool
+    ensures { result ≡ is_built place }
+{
+    matches!(place.comp.0, 0 | 1 | 2 | 5 | 6 | 7)
+}
+
+/// Whether the register can be set to these bytes: as many as it has, and for MXCSR with bits 16 to 31 zero, which are
+/// reserved (SDM volume 1, 10.2.3).
+fn fits_register(place: Place, bytes: &Lane) -> bool
+    ensures { result ≡ fits_register place bytes.now }
+{
+    let bytes = bytes.as_slice();
+    bytes.len() == place.len as usize && (!place.is_mxcsr() || are_zero_from(2, bytes))
+}
+
+/// Whether the bytes from this one on are zero.
+fn are_zero_from(first: usize, bytes: &[u8]) -> bool
+    ensures { result ≡ list_all (λ byte. byte == 0) (drop first bytes.now) }
+{
+    bytes.iter().skip(first).all(|byte| *byte == 0)
+}

@@ -1,0 +1,214 @@
+//! The words of a line, read: cuts, numbers, names, words of registers and hex.
+
+ghost use Rattle.std.specs.Prelude.{◌≡◌, ℕ, ◌^◌, ◌<◌, ◌≤◌, true, List, ◌∷◌, ◌++◌, length, decimal, MatchOption};
+ghost use Rattle.std.specs.List.{list_all};
+ghost use Rattle.std.specs.Str.{bytes_eq};
+ghost use Rattle.hex.specs.Hex.{encode_lower};
+ghost use Rattle.xs_model.specs.Script.{is_letter, is_letter_or_digit, is_name};
+ghost use Rattle.xs_script.specs.Reads.{Reads, ReadsAs, Lacks};
+ghost use Rattle.xs_script.specs.ScriptLine.{is_register_byte, is_register_word, kept_bytes};
+ghost use Rattle.xs_script.specs.Parts.{IsLane, IsValue, is_lower_digit, is_hex_text};
+ghost use Rattle.xs_script.specs.Refusal.{before};
+
+use std::str;
+use xs_base::Lane;
+use xs_model::Name;
+
+/// The bytes before the first `byte` and those after it, if there is one.
+pub fn cut_at(byte: u8, bytes: &[u8]) -> Option<(&[u8], &[u8])>
+    ensures { MatchOption result (Lacks byte bytes.now) (λ x. Lacks byte x.0.now × (bytes.now ≡ x.0.now ++ byte ∷ x.1.now)) }
+{
+    'bytes: for (i, b) in bytes.iter().enumerate() {
+        if *b == byte {
+            let (front, rest) = bytes.split_at(i);
+            return Some((front, &rest[1..]));
+        }
+    }
+    None
+}
+
+/// The bytes before the first `byte`, and all of them where there is none.
+pub fn before(byte: u8, bytes: &[u8]) -> &[u8]
+    ensures { result.now ≡ before byte bytes.now }
+{
+    match cut_at(byte, bytes) {
+        Some((front, _)) => front,
+        None => bytes,
+    }
+}
+
+/// The bytes after the prefix, if they begin with it.
+pub fn after<'a>(prefix: &[u8], bytes: &'a [u8]) -> Option<&'a [u8]>
+    ensures { MatchOption result ((rest : List ℕ) → bytes.now ≡ prefix.now ++ rest → ⊥) (λ x. bytes.now ≡ prefix.now ++ x.now) }
+{
+    bytes.strip_prefix(prefix)
+}
+
+/// The number below 2 ^ 32 that the bytes spell in decimal, with no needless zero in front.
+pub fn read_number(bytes: &[u8]) -> Option<u32>
+    ensures { Reads decimal (λ n. n < 2 ^ 32) result bytes.now }
+{
+    let number = parse_number(bytes)?;
+    let mut buffer = itoa::Buffer::new();
+    if buffer.format(number).as_bytes() == bytes {
+        Some(number)
+    } else {
+        None
+    }
+}
+
+/// The number that std reads: also one with a plus sign or zeros in front.
+fn parse_number(bytes: &[u8]) -> Option<u32>
+    ensures { MatchOption result ((n : ℕ) → n < 2 ^ 32 → bytes.now ≡ decimal n → ⊥) (λ x. (n : ℕ) → n < 2 ^ 32 → bytes.now ≡ decimal n → x ≡ n) }
+{
+    let text = match str::from_utf8(bytes) {
+        Ok(text) => text,
+        Err(_) => return None,
+    };
+    match text.parse::<u32>() {
+        Ok(number) => Some(number),
+        Err(_) => None,
+    }
+}
+
+/// The name of a block that the bytes are.
+pub fn read_name(bytes: &[u8]) -> Option<Name>
+    ensures { Reads (λ (name : List ℕ). name) (λ name. is_name name ≡ true) result bytes.now }
+{
+    if is_name(bytes) {
+        Some(Name::from_slice(bytes))
+    } else {
+        None
+    }
+}
+
+/// The word of a register that the bytes are: 1 to 16 letters, digits and points.
+pub fn read_register(bytes: &[u8]) -> Option<Name>
+    ensures { Reads (λ (reg : List ℕ). reg) (λ reg. is_register_word reg ≡ true) result bytes.now }
+{
+    if is_register_word(bytes) {
+        Some(Name::from_slice(bytes))
+    } else {
+        None
+    }
+}
+
+fn is_letter(byte: u8) -> bool
+    ensures { result ≡ is_letter byte }
+{
+    b'a' <= byte && byte <= b'z'
+}
+
+fn is_letter_or_digit(byte: u8) -> bool
+    ensures { result ≡ is_letter_or_digit byte }
+{
+    is_letter(byte) || b'0' <= byte && byte <= b'9'
+}
+
+fn is_name(bytes: &[u8]) -> bool
+    ensures name { result ≡ is_name bytes.now }
+    ensures short { result ≡ true → length bytes.now ≤ 16 }
+{
+    match bytes.split_first() {
+        None => false,
+        Some((first, more)) => is_letter(*first) && are_letters_or_digits(more) && more.len() <= 15,
+    }
+}
+
+fn are_letters_or_digits(bytes: &[u8]) -> bool
+    ensures { result ≡ list_all is_letter_or_digit bytes.now }
+{
+    bytes.iter().all(|b| is_letter_or_digit(*b))
+}
+
+fn is_register_byte(byte: u8) -> bool
+    ensures { result ≡ is_register_byte byte }
+{
+    is_letter_or_digit(byte) || byte == b'.'
+}
+
+fn are_register_bytes(bytes: &[u8]) -> bool
+    ensures { result ≡ list_all is_register_byte bytes.now }
+{
+    bytes.iter().all(|b| is_register_byte(*b))
+}
+
+fn is_register_word(bytes: &[u8]) -> bool
+    ensures word { result ≡ is_register_word bytes.now }
+    ensures short { result ≡ true → length bytes.now ≤ 16 }
+{
+    are_register_bytes(bytes) && 0 < bytes.len() && bytes.len() <= 16
+}
+
+/// The bytes that the text spells in lower-case hex, at least one: none of them where they are more than 64.
+pub fn read_bytes(text: &[u8]) -> Option<Lane>
+    ensures { ReadsAs encode_lower IsValue kept_bytes result text.now }
+{
+    if text.is_empty() {
+        return None;
+    }
+    if text.len() <= 128 {
+        return read_lane(text.len() / 2, text);
+    }
+    if is_hex_text(text) {
+        Some(Lane::from_slice(b""))
+    } else {
+        None
+    }
+}
+
+/// Whether the text is lower-case hex.
+fn is_hex_text(text: &[u8]) -> bool
+    ensures { result ≡ is_hex_text text.now }
+{
+    are_lower_digits(text) && text.len() % 2 == 0
+}
+
+fn is_lower_digit(byte: u8) -> bool
+    ensures { result ≡ is_lower_digit byte }
+{
+    b'0' <= byte && byte <= b'9' || b'a' <= byte && byte <= b'f'
+}
+
+fn are_lower_digits(bytes: &[u8]) -> bool
+    ensures { result ≡ list_all is_lower_digit bytes.now }
+{
+    bytes.iter().all(|b| is_lower_digit(*b))
+}
+
+/// The lane of `len` bytes, at most 64, that the text spells in lower-case hex.
+fn read_lane(len: usize, text: &[u8]) -> Option<Lane>
+    requires { len ≤ 64 }
+    ensures { Reads encode_lower (IsLane len) result text.now }
+{
+    let lane = decode_lane(len, text)?;
+    if is_spelling(&lane, text) {
+        Some(lane)
+    } else {
+        None
+    }
+}
+
+/// The lane that the crate `hex` reads: also one with capital digits.
+fn decode_lane(len: usize, text: &[u8]) -> Option<Lane>
+    requires { len ≤ 64 }
+    ensures { MatchOption result ((x : List ℕ) → IsLane len x → text.now ≡ encode_lower x → ⊥) (λ lane. IsLane len lane × ((x : List ℕ) → IsLane len x → text.now ≡ encode_lower x → lane ≡ x)) }
+{
+    let mut bytes = [0u8; 64];
+    let lane = &mut bytes[..len];
+    match hex::decode_to_slice(text, lane) {
+        Ok(()) => Some(Lane::from_slice(lane)),
+        Err(_) => None,
+    }
+}
+
+/// Whether the text is the lane's, in lower-case hex.
+fn is_spelling(lane: &Lane, text: &[u8]) -> bool
+    ensures { result ≡ bytes_eq (encode_lower lane.now) text.now }
+{
+    let bytes = lane.as_slice();
+    let mut digits = [0u8; 128];
+    let spelled = &mut digits[..2 * bytes.len()];
+    let _ = hex::encode_to_slice(bytes, spelled);
+    *spelled == *text
+}

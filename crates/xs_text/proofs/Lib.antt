@@ -1,0 +1,4 @@
+-- Lemmas of the texts of histories, one file a noun.
+pub mod SpacedWords
+pub mod EventWords
+pub mod OneSpelling

@@ -1,0 +1,2 @@
+-- The definitions of histories as texts.
+pub mod Text

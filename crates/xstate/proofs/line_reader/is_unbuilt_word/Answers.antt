@@ -1,6 +1,0 @@
-use Rattle.xstate.specs.Refusal.{unbuilt_words}
-use Rattle.xstate.proofs.line_reader.is_unbuilt_word.Goals as goal
-
-pub returns : goal.returns
-unfolding unbuilt_words
-returns c = c.is_among.ensures
