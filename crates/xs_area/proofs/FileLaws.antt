@@ -19,8 +19,8 @@ use Rattle.xs_base.proofs.ComponentLemmas.{length_initial, pkru_size}
 use Rattle.xs_base.proofs.FileLemmas.{initial_clean}
 use Rattle.xs_base.proofs.LayoutLemmas.{sound_at, has_row_at}
 use Rattle.xs_base.proofs.RowLemmas.{row_of_at, row_found, row_of_tells}
-use Rattle.xs_area.specs.Held.{pkru_bytes}
-use Rattle.xs_area.proofs.HeldLemmas.{pkru_byte, pkru_eight}
+use Rattle.xs_area.specs.Stored.{pkru_bytes}
+use Rattle.xs_area.proofs.StoredLemmas.{pkru_byte, pkru_eight}
 
 -- ---- a file by its parts
 

@@ -4,7 +4,7 @@ use Rattle.std.proofs.lemmas.Bool.{cases_lt, ne_eqb, eqb-true}
 use Rattle.std.proofs.lemmas.List.{get_or_default}
 use Rattle.std.specs.Prelude.{slice_get}
 use Rattle.xs_base.specs.declared.component.Row.{Row}
-use Rattle.xs_base.specs.Area.{HoldsPlaces, has_room}
+use Rattle.xs_base.specs.Area.{HasPlaces, has_room}
 use Rattle.xs_base.specs.Compact.{place}
 use Rattle.xs_base.specs.Header.{xcomp_bv}
 use Rattle.xs_base.specs.Sets.{has}
@@ -47,5 +47,5 @@ held_more rows area bits i r lt is here before j s early row on = choose (cases_
         let end = here bit in
         omega (arith, end, ap (λ (t : Row). place rows (xcomp_bv area) t + t.size) same)
 
-pub held_whole : (rows : List Row) (area : List ℕ) (bits i : ℕ) → length rows ≤ i → AreHeldTo rows area bits i → HoldsPlaces rows area bits
+pub held_whole : (rows : List Row) (area : List ℕ) (bits i : ℕ) → length rows ≤ i → AreHeldTo rows area bits i → HasPlaces rows area bits
 held_whole rows area bits i past at j r row on = at j r (omega (arith, (row_index rows j r row).0)) row on

@@ -8,7 +8,7 @@ use Rattle.std.specs.List.{list_any}
 use Rattle.std.specs.Prelude.{slice_get, slice_range, Some}
 use Rattle.xs_base.specs.declared.class.Class.{Class}
 use Rattle.xs_base.specs.declared.component.Row.{Row}
-use Rattle.xs_base.specs.Area.{StandsFor, HoldsPlaces, control_in}
+use Rattle.xs_base.specs.Area.{StandsFor, HasPlaces, control_in}
 use Rattle.xs_base.specs.Bytes.{splice, zeros, is_within}
 use Rattle.xs_base.specs.Compact.{compacted, compact_size, has_place, is_compacted, place}
 use Rattle.xs_base.specs.Component.{component_numbers, initial_mxcsr}
@@ -61,7 +61,7 @@ compact_room rows mask written names len table are within room i r row on =
     rw are (omega arith)
 
 -- an area of that size has every place that such an XCOMP_BV names
-pub compacted_holds : (rows : List Row) (mask : ℕ) (area : List ℕ) → IsLayout rows → xcomp_bv area ≡ compacted mask → compact_size rows mask ≤ length area → HoldsPlaces rows area (xcomp_bv area)
+pub compacted_holds : (rows : List Row) (mask : ℕ) (area : List ℕ) → IsLayout rows → xcomp_bv area ≡ compacted mask → compact_size rows mask ≤ length area → HasPlaces rows area (xcomp_bv area)
 compacted_holds rows mask area table names room i r row named =
     let at = row_index rows i r row in
     let number = (sound_at rows table i r at.0 at.1).number in

@@ -1,12 +1,12 @@
 pub mod LittleEndian
 pub mod CursorLemmas
-pub mod HeldLemmas
+pub mod StoredLemmas
 pub mod RoomLemmas
 pub mod FinishLemmas
 pub mod CopyLemmas
 pub mod TakeLemmas
 pub mod StandLemmas
 pub mod FixtureLemmas
-pub mod HoldingLemmas
+pub mod ReadableLemmas
 pub mod KernelLemmas
 pub mod FileLaws

@@ -2,7 +2,7 @@
 
 ghost use Rattle.std.specs.Prelude.{◌≡◌, ℕ, ◌+◌, ◌<◌, ◌≤◌, ◌^◌, true, false, not, ◌&&◌, ◌||◌, ◌==◌, nat_le, length, slice_index, slice_get, Some, if◌then◌else◌};
 ghost use Rattle.xs_base.specs.declared.component.Row.{Row};
-ghost use Rattle.xs_base.specs.Area.{StandsFor, HoldsPlaces, IsOfParts, IsCut, KeepsForm, has_room, is_named, control_in};
+ghost use Rattle.xs_base.specs.Area.{StandsFor, HasPlaces, IsOfParts, IsCut, KeepsForm, has_room, is_named, control_in};
 ghost use Rattle.xs_base.specs.Bytes.{splice, zeros};
 ghost use Rattle.xs_base.specs.Compact.{is_compacted, place};
 ghost use Rattle.xs_base.specs.Component.{initial_mxcsr};
@@ -55,7 +55,7 @@ pub fn compact_of(layout: &Layout, bytes: &[u8], parts: &Parts, area: &mut Area)
 pub fn copy_area(layout: &Layout, from: &Area, to: &mut Area)
     requires from_header { 576 ≤ length from.now.bytes.items }
     requires to_header { 576 ≤ length to.old.bytes.items }
-    requires places { HoldsPlaces layout.now from.now.bytes.items (header.xstate_bv from.now.bytes.items) }
+    requires places { HasPlaces layout.now from.now.bytes.items (header.xstate_bv from.now.bytes.items) }
     ensures stands { (file cut : File) → IsFile file → IsFile cut → StandsFor layout.now from.now.bytes.items file → IsCut layout.now to.old.bytes.items file cut → StandsFor layout.now to.new.bytes.items cut }
     ensures bits { (c : ℕ) → has (header.xstate_bv to.new.bytes.items) c ≡ is_named layout.now to.old.bytes.items (header.xstate_bv from.now.bytes.items) (control_in from.now.bytes.items) c }
     ensures form { KeepsForm to.old.bytes.items to.new.bytes.items }

@@ -1,7 +1,7 @@
 //! Images and areas for tests, and calls that first look whether what they require holds.
 
 ghost use Rattle.std.specs.Prelude.{◌≡◌, ◌+◌, ◌<◌, ◌≤◌, ◌^◌, ℕ, true, false, length};
-ghost use Rattle.xs_base.specs.Area.{HoldsPlaces, has_room};
+ghost use Rattle.xs_base.specs.Area.{HasPlaces, has_room};
 ghost use Rattle.xs_base.specs.Header as header;
 ghost use Rattle.xs_base.specs.Sets.{has};
 
@@ -121,7 +121,7 @@ pub fn copy(layout: &Layout, from: &Area, to: &mut Area) -> bool {
 /// The area holds the place of each component whose bit in XSTATE_BV is 1.
 pub fn holds_places(layout: &Layout, area: &[u8]) -> bool
     requires { 576 ≤ length area.now }
-    ensures { result ≡ true → HoldsPlaces layout.now area.now (header.xstate_bv area.now) }
+    ensures { result ≡ true → HasPlaces layout.now area.now (header.xstate_bv area.now) }
 {
     let bits = Features(xstate_bv(area));
     let names = Features(xcomp_bv(area));

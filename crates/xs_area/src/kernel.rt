@@ -1,7 +1,7 @@
 //! The save areas that a kernel keeps for its tasks, before anything was saved in them.
 
 ghost use Rattle.std.specs.Prelude.{◌≡◌, ℕ, ◌^◌, ◌<◌, ◌≤◌, ◌&&◌, ◌==◌, false, not, length, slice_index};
-ghost use Rattle.xs_base.specs.Area.{StandsFor, HoldsPlaces};
+ghost use Rattle.xs_base.specs.Area.{StandsFor, HasPlaces};
 ghost use Rattle.xs_base.specs.Bytes.{splice, is_within};
 ghost use Rattle.xs_base.specs.Compact.{compacted};
 ghost use Rattle.xs_base.specs.File.{initial_file};
@@ -46,7 +46,7 @@ pub fn make_initial(layout: &Layout, class: Class, area: &mut [u8])
     ensures names { header.xcomp_bv area.new ≡ compacted (kernel.class_features layout.now class) }
     ensures stands { StandsFor layout.now area.new (initial_file layout.now) }
     ensures loadable { (id : ℕ) → (id ≡ 0 → ⊥) → IsLoadable layout.now class id area.new }
-    ensures places { kernel.class_size layout.now class ≤ length area.old → HoldsPlaces layout.now area.new (header.xcomp_bv area.new) }
+    ensures places { kernel.class_size layout.now class ≤ length area.old → HasPlaces layout.now area.new (header.xcomp_bv area.new) }
 {
     // The rows pass every test of a table.
     let _ = layout.len();

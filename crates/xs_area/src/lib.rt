@@ -12,9 +12,9 @@ mod copies_tests;
 mod cursor;
 #[cfg(test)]
 mod fixtures;
-mod holding;
+mod readable;
 #[cfg(test)]
-mod holding_tests;
+mod readable_tests;
 mod kernel;
 mod laws;
 mod standard;
@@ -25,7 +25,7 @@ pub use area::{Area, Lease, mxcsr, xcomp_bv, xstate_bv};
 pub use check::read_standard;
 pub use copies::{compact_of, copy_area};
 pub use cursor::Cursor;
-pub use holding::{holds_named, stands};
+pub use readable::{has_named_places, stands};
 pub use kernel::{class_features, class_size, compacted, make_initial};
 pub use laws::{a_file_can_be_cut, parts_have_a_file};
 pub use standard::standard_of;

@@ -1,13 +1,13 @@
 //! The standard bytes of what an area stands for.
 
 ghost use Rattle.std.specs.Prelude.{◌≡◌, ℕ, ◌+◌, ◌≤◌, true, length, slice_index};
-ghost use Rattle.xs_base.specs.Area.{StandsFor, HoldsPlaces, control_in};
+ghost use Rattle.xs_base.specs.Area.{StandsFor, HasPlaces, control_in};
 ghost use Rattle.xs_base.specs.File.{File, IsFile, with_pkru};
 ghost use Rattle.xs_base.specs.Header as header;
 ghost use Rattle.xs_base.specs.Layout.{standard_size, IsSound};
 ghost use Rattle.xs_base.specs.Standard.{IsStandard, IsWritten, component_byte, saved_byte};
 ghost use Rattle.xs_base.specs.Sets.{has};
-ghost use Rattle.xs_area.specs.Held as held;
+ghost use Rattle.xs_area.specs.Stored as held;
 
 use crate::area::{Area, mxcsr, xcomp_bv, xstate_bv};
 use crate::cursor::Cursor;
@@ -21,7 +21,7 @@ use xs_layout::Layout;
 /// `out` has at least `standard_size(mask)` bytes.
 pub fn standard_of(layout: &Layout, area: &Area, pkru: u32, mask: Features, out: &mut [u8])
     requires header { 576 ≤ length area.now.bytes.items }
-    requires places { HoldsPlaces layout.now area.now.bytes.items (header.xstate_bv area.now.bytes.items) }
+    requires places { HasPlaces layout.now area.now.bytes.items (header.xstate_bv area.now.bytes.items) }
     requires room { standard_size layout.now mask.0 ≤ length out.old }
     ensures len { length out.new ≡ length out.old }
     ensures standard { (file : File) → IsFile file → StandsFor layout.now area.now.bytes.items file → IsStandard (with_pkru file pkru) mask.0 out.old out.new }
@@ -35,7 +35,7 @@ pub fn standard_of(layout: &Layout, area: &Area, pkru: u32, mask: Features, out:
 /// Writes the components of `mask` to their standard places. Bytes 24 to 31 stay.
 fn put_components(layout: &Layout, area: &[u8], pkru: u32, mask: Features, out: &mut [u8])
     requires header { 576 ≤ length area.now }
-    requires places { HoldsPlaces layout.now area.now (header.xstate_bv area.now) }
+    requires places { HasPlaces layout.now area.now (header.xstate_bv area.now) }
     requires room { standard_size layout.now mask.0 ≤ length out.old }
     ensures len { length out.new ≡ length out.old }
     ensures each { (file : File) → IsFile file → StandsFor layout.now area.now file → (k : ℕ) → slice_index out.new k ≡ component_byte (saved_byte (with_pkru file pkru)) (λ r. r.offset) mask.0 k layout.now (slice_index out.old k) }
@@ -46,19 +46,19 @@ fn put_components(layout: &Layout, area: &[u8], pkru: u32, mask: Features, out: 
         let row = layout.row_at(i);
         let at = cursor.pass(row);
         if mask.has(row.comp) {
-            put_held(area, at, bits, pkru, row, out);
+            put_stored(area, at, bits, pkru, row, out);
         }
     }
 }
 
 /// Writes a component to its standard place: PKRU, or what the area has from byte `at` on, or the initial
 /// configuration.
-fn put_held(area: &[u8], at: usize, bits: Features, pkru: u32, row: Row, out: &mut [u8])
+fn put_stored(area: &[u8], at: usize, bits: Features, pkru: u32, row: Row, out: &mut [u8])
     requires sound { IsSound row }
     requires held { has bits.0 row.comp.0 ≡ true → at + row.size ≤ length area.now }
     requires room { row.offset + row.size ≤ length out.old }
     requires legacy { 32 ≤ length out.old }
-    ensures { IsWritten row.offset row.size (held.held_byte area.now bits.0 pkru at row.comp.0) out.old out.new }
+    ensures { IsWritten row.offset row.size (held.stored_byte area.now bits.0 pkru at row.comp.0) out.old out.new }
 {
     let to = row.offset as usize;
     let size = row.size as usize;

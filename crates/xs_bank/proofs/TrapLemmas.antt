@@ -5,7 +5,7 @@ use Rattle.std.proofs.lemmas.Nat.Bits.{bit_at_and, bit_at-lt}
 use Rattle.std.specs.Int.{bit_at}
 use Rattle.std.specs.Prelude.{slice_get, Some}
 use Rattle.xs_base.specs.declared.component.Row.{Row}
-use Rattle.xs_base.specs.Area.{HoldsPlaces}
+use Rattle.xs_base.specs.Area.{HasPlaces}
 use Rattle.xs_base.specs.Compact.{place, is_compacted}
 use Rattle.xs_base.specs.Header.{xstate_bv, xcomp_bv}
 use Rattle.xs_base.specs.HeaderCheck.{has_outside}
@@ -55,7 +55,7 @@ pub standard_places : (rows : List Row) (armed mask : ℕ) (area : List ℕ) →
 standard_places rows armed mask area none places i r row wanted on =
     rw (standard_format rows armed mask area none) (places i r row wanted on)
 
-pub compacted_places : (rows : List Row) (armed mask : ℕ) (area : List ℕ) → compacted_trap rows armed mask area ≡ None → (is_compacted (xcomp_bv area) ≡ true → HoldsPlaces rows area (xcomp_bv area)) → (i : ℕ) (r : Row) → slice_get rows i ≡ Some r → has mask r.comp.0 ≡ true → has (xstate_bv area) r.comp.0 ≡ true → place rows (xcomp_bv area) r + r.size ≤ length area
+pub compacted_places : (rows : List Row) (armed mask : ℕ) (area : List ℕ) → compacted_trap rows armed mask area ≡ None → (is_compacted (xcomp_bv area) ≡ true → HasPlaces rows area (xcomp_bv area)) → (i : ℕ) (r : Row) → slice_get rows i ≡ Some r → has mask r.comp.0 ≡ true → has (xstate_bv area) r.comp.0 ≡ true → place rows (xcomp_bv area) r + r.size ≤ length area
 compacted_places rows armed mask area none places i r row wanted on =
     let format = compacted_format rows armed mask area none in
     places format.0 i r row (format.1 r.comp.0 on)

@@ -4,7 +4,7 @@ ghost use Rattle.std.specs.Prelude.{◌≡◌, ℕ, ◌⊎◌, List, ◌+◌, �
 ghost use Rattle.xs_base.specs.declared.class.Class.{Class};
 ghost use Rattle.xs_base.specs.declared.component.Row.{Row};
 ghost use Rattle.xs_bank.specs.Bank as banks;
-ghost use Rattle.xs_base.specs.Area.{StandsFor, HoldsPlaces};
+ghost use Rattle.xs_base.specs.Area.{StandsFor, HasPlaces};
 ghost use Rattle.xs_base.specs.Compact.{is_compacted, compact_size};
 ghost use Rattle.xs_base.specs.File.{IsFile, read_place, is_mxcsr};
 ghost use Rattle.xs_base.specs.Header.{xstate_bv, xcomp_bv};
@@ -118,7 +118,7 @@ pub trait Bank: Drop {
     fn xrstors(&mut self, mask: Features, area: &Area) -> Result<(), Trap>
         requires machine { (c : ℕ) → has mask.0 c ≡ true → has_row (state self.old).file.rows c ≡ true }
         requires header { 576 ≤ length area.now.bytes.items }
-        requires places { is_compacted (xcomp_bv area.now.bytes.items) ≡ true → HoldsPlaces (state self.old).file.rows area.now.bytes.items (xcomp_bv area.now.bytes.items) }
+        requires places { is_compacted (xcomp_bv area.now.bytes.items) ≡ true → HasPlaces (state self.old).file.rows area.now.bytes.items (xcomp_bv area.now.bytes.items) }
         ensures trap { MatchResult result (λ _. load.compacted_trap (state self.old).file.rows (state self.old).armed mask.0 area.now.bytes.items ≡ None) (λ t. load.compacted_trap (state self.old).file.rows (state self.old).armed mask.0 area.now.bytes.items ≡ Some t) }
         ensures loaded { IfOk result (λ _. load.IsLoaded mask.0 area.now.bytes.items (load.compacted_control mask.0 area.now.bytes.items (state self.old).file.mxcsr) (state self.old).file (state self.new).file) }
         ensures tracked { IfOk result (λ _. (state self.new).tracked ≡ Some (banks.loaded_from (state self.old).file.rows area.now.id mask.0 area.now.bytes.items)) }

@@ -1,7 +1,7 @@
 //! A processor: its bank, and what the kernel keeps for it.
 
 ghost use Rattle.std.specs.Prelude.{◌≡◌, ℕ, None, IfOk};
-ghost use Rattle.xs_base.specs.Area.{StandsFor, HoldsPlaces};
+ghost use Rattle.xs_base.specs.Area.{StandsFor, HasPlaces};
 ghost use Rattle.xs_base.specs.Compact.{compacted};
 ghost use Rattle.xs_base.specs.File.{initial_file};
 ghost use Rattle.xs_base.specs.Header.{xcomp_bv};
@@ -61,7 +61,7 @@ impl<B: Bank> Cpu<B> {
         ensures names { xcomp_bv self.new.initial ≡ compacted (class_features layout.now Small) }
         ensures stands { StandsFor layout.now self.new.initial (initial_file layout.now) }
         ensures loadable { (id : ℕ) → (id ≡ 0 → ⊥) → IsLoadable layout.now Small id self.new.initial }
-        ensures places { HoldsPlaces layout.now self.new.initial (xcomp_bv self.new.initial) }
+        ensures places { HasPlaces layout.now self.new.initial (xcomp_bv self.new.initial) }
     {
         self.bank.set_up(layout);
         self.layout = *layout;

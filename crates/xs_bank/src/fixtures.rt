@@ -9,7 +9,7 @@ ghost use Rattle.xs_bank.specs.Turn.{KeepsReady};
 
 use crate::{Bank, Trap};
 use std::alloc::{AllocError, Global};
-use xs_area::{Area, holds_named, xcomp_bv};
+use xs_area::{Area, has_named_places, xcomp_bv};
 use xs_base::{Comp, Features, Lane, Place};
 use xs_layout::Layout;
 use xs_regs::place_of;
@@ -162,7 +162,7 @@ pub fn load_compacted<B: Bank>(
     ensures ready { IfOk result (λ _. (m : ℕ) → IsReady (B.state bank.new) area.now.id m area.now.bytes.items) }
     ensures others { IfOk result (λ _. (id m : ℕ) (bytes : List ℕ) → (id ≡ area.now.id → ⊥) → IsReady (B.state bank.new) id m bytes) }
 {
-    if !holds_named(layout, area) {
+    if !has_named_places(layout, area) {
         return Err(Refusal::NoRoom);
     }
     match bank.xrstors(of_machine(layout, mask), area) {

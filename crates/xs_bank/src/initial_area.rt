@@ -1,7 +1,7 @@
 //! A processor's area in the initial configuration.
 
 ghost use Rattle.std.specs.Prelude.{◌≡◌, ℕ, length, IfOk};
-ghost use Rattle.xs_base.specs.Area.{StandsFor, HoldsPlaces};
+ghost use Rattle.xs_base.specs.Area.{StandsFor, HasPlaces};
 ghost use Rattle.xs_base.specs.Compact.{compacted};
 ghost use Rattle.xs_base.specs.File.{initial_file};
 ghost use Rattle.xs_base.specs.Header.{xcomp_bv};
@@ -58,7 +58,7 @@ impl InitialArea {
         ensures names { xcomp_bv self.new ≡ compacted (class_features layout.now Small) }
         ensures stands { StandsFor layout.now self.new (initial_file layout.now) }
         ensures loadable { (id : ℕ) → (id ≡ 0 → ⊥) → IsLoadable layout.now Small id self.new }
-        ensures places { HoldsPlaces layout.now self.new (xcomp_bv self.new) }
+        ensures places { HasPlaces layout.now self.new (xcomp_bv self.new) }
     {
         // The rows pass every test of a table.
         let _ = layout.len();

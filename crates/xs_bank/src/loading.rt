@@ -3,7 +3,7 @@
 ghost use Rattle.std.specs.Prelude.{◌≡◌, ℕ, ◌+◌, ◌≤◌, true, false, length, slice_get, Some, None, IfOk, IfErr, MatchResult};
 ghost use Rattle.xs_base.specs.declared.component.Row.{Row};
 ghost use Rattle.xs_base.specs.Compact.{place, is_compacted};
-ghost use Rattle.xs_base.specs.Area.{HoldsPlaces};
+ghost use Rattle.xs_base.specs.Area.{HasPlaces};
 ghost use Rattle.xs_bank.specs.Bank.{disarmed_file};
 ghost use Rattle.xs_base.specs.Header as header;
 ghost use Rattle.xs_base.specs.Layout.{IsSound, has_row};
@@ -58,7 +58,7 @@ pub fn load_compacted(
     area: &[u8],
 ) -> Result<(), Trap>
     requires header { 576 ≤ length area.now }
-    requires places { is_compacted (header.xcomp_bv area.now) ≡ true → HoldsPlaces file.old.rows area.now (header.xcomp_bv area.now) }
+    requires places { is_compacted (header.xcomp_bv area.now) ≡ true → HasPlaces file.old.rows area.now (header.xcomp_bv area.now) }
     ensures trap { MatchResult result (λ _. load.compacted_trap file.old.rows armed.0 mask.0 area.now ≡ None) (λ t. load.compacted_trap file.old.rows armed.0 mask.0 area.now ≡ Some t) }
     ensures loaded { IfOk result (λ _. IsLoaded mask.0 area.now (load.compacted_control mask.0 area.now file.old.mxcsr) file.old file.new) }
     ensures whole { IfOk result (λ _. IsWholeLoad mask.0 area.now file.old.rows file.new) }

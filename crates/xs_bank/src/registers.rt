@@ -4,7 +4,7 @@ ghost use Rattle.std.specs.Prelude.{◌≡◌, ℕ, ◌+◌, ◌^◌, ◌<◌, �
 ghost use Rattle.std.specs.Int.{from_le_bytes, w32};
 ghost use Rattle.xs_base.specs.declared.class.Class.{Class};
 ghost use Rattle.xs_base.specs.declared.component.Row.{Row};
-ghost use Rattle.xs_base.specs.Area.{HoldsPlaces};
+ghost use Rattle.xs_base.specs.Area.{HasPlaces};
 ghost use Rattle.xs_base.specs.Compact.{is_compacted};
 ghost use Rattle.xs_base.specs.Component.{initial_part};
 ghost use Rattle.xs_base.specs.File.{initial_file, part, with_part, with_pkru, read_place, write_place, is_mxcsr};
@@ -157,7 +157,7 @@ impl Registers {
     /// it (SDM volume 1, 13.12).
     pub fn load_compacted(&mut self, id: u64, mask: Features, area: &[u8]) -> Result<(), Trap>
         requires header { 576 ≤ length area.now }
-        requires places { is_compacted (header.xcomp_bv area.now) ≡ true → HoldsPlaces self.old.file.rows area.now (header.xcomp_bv area.now) }
+        requires places { is_compacted (header.xcomp_bv area.now) ≡ true → HasPlaces self.old.file.rows area.now (header.xcomp_bv area.now) }
         ensures trap { MatchResult result (λ _. load.compacted_trap self.old.file.rows self.old.armed mask.0 area.now ≡ None) (λ t. load.compacted_trap self.old.file.rows self.old.armed mask.0 area.now ≡ Some t) }
         ensures loaded { IfOk result (λ _. IsLoaded mask.0 area.now (load.compacted_control mask.0 area.now self.old.file.mxcsr) self.old.file self.new.file) }
         ensures armed { self.new.armed ≡ self.old.armed }

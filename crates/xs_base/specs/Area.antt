@@ -30,8 +30,8 @@ pub record StandsFor (rows : List Row) (area : List ℕ) (file : File) : Type 0 
   pub control : file.mxcsr ≡ control_in area
 
 -- The area has the bytes of the place of each component in a set, by its XCOMP_BV.
-abbrev pub HoldsPlaces : List Row → List ℕ → ℕ → Type 0
-HoldsPlaces rows area set = (i : ℕ) (r : Row) → slice_get rows i ≡ Some r → has set r.comp.0 ≡ true → place rows (xcomp_bv area) r + r.size ≤ length area
+abbrev pub HasPlaces : List Row → List ℕ → ℕ → Type 0
+HasPlaces rows area set = (i : ℕ) (r : Row) → slice_get rows i ≡ Some r → has set r.comp.0 ≡ true → place rows (xcomp_bv area) r + r.size ≤ length area
 
 -- ---- the file of an image in the standard format
 

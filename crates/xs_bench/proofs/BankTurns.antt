@@ -1,7 +1,7 @@
 -- What the instructions of a bank keep from turn to turn.
 use Rattle.std.proofs.Common.{◌≡◌, ℕ, ◌≤◌, true, List, length}
 use Rattle.xs_base.specs.declared.component.Row.{Row}
-use Rattle.xs_base.specs.Area.{HoldsPlaces}
+use Rattle.xs_base.specs.Area.{HasPlaces}
 use Rattle.xs_base.specs.Compact.{compact_size}
 use Rattle.xs_base.specs.Header.{xcomp_bv}
 use Rattle.xs_base.specs.Layout.{has_row}
@@ -20,4 +20,4 @@ pub record CanBeSaved (bank : Bank) (rows : List Row) (mask id : ℕ) (area : Li
 pub record CanBeLoaded (bank : Bank) (rows : List Row) (area : List ℕ) : Type 0 where
   pub rows_are : bank.file.rows ≡ rows
   pub header : 576 ≤ length area
-  pub places : HoldsPlaces rows area (xcomp_bv area)
+  pub places : HasPlaces rows area (xcomp_bv area)

@@ -5,7 +5,7 @@ use Rattle.std.specs.Prelude.{slice_range}
 use Rattle.xs_base.specs.declared.component.Row.{Row}
 use Rattle.xs_base.specs.declared.component.Place.{Place}
 use Rattle.xs_base.specs.declared.header.Parts.{Parts}
-use Rattle.xs_base.specs.Area.{HoldsPlaces, KeepsForm, has_room, ends_inside}
+use Rattle.xs_base.specs.Area.{HasPlaces, KeepsForm, has_room, ends_inside}
 use Rattle.xs_base.specs.Bytes.{splice}
 use Rattle.xs_base.specs.Compact.{place, has_place}
 use Rattle.xs_base.specs.File.{File, write_place, is_mxcsr, part, with_part}
@@ -37,7 +37,7 @@ changed_names at bytes old eight long low = ap (from_le_bytes w64) (changed_rang
 
 pub record CanBeRead (rows : List Row) (area : List ℕ) : Type 0 where
   pub header : 576 ≤ length area
-  pub places : HoldsPlaces rows area (xstate_bv area)
+  pub places : HasPlaces rows area (xstate_bv area)
 
 -- It stays one with the same header and length.
 pub read_on : (rows : List Row) (old new : List ℕ) → CanBeRead rows old → length new ≡ length old → xstate_bv new ≡ xstate_bv old → xcomp_bv new ≡ xcomp_bv old → CanBeRead rows new

@@ -9,7 +9,7 @@ use crate::command::{BankCall, BankKind};
 use crate::inputs::{full_area, zero_area};
 use crate::repeats::{change, put_state, sum_with};
 use std::alloc::{AllocError, Global};
-use xs_area::{Area, Class, class_features, holds_named};
+use xs_area::{Area, Class, class_features, has_named_places};
 use xs_bank::{Bank, PlainBank, TrackBank};
 use xs_base::{Features, Lane};
 use xs_layout::Layout;
@@ -70,7 +70,7 @@ fn load<B: Bank>(bank: &mut B, layout: &Layout, area: &Area) -> Option<()>
     ensures ready { IfSome result (λ _. (m : ℕ) → IsReady (B.state bank.new) area.now.id m area.now.bytes.items) }
     ensures others { IfSome result (λ _. (id m : ℕ) (bytes : List ℕ) → (id ≡ area.now.id → ⊥) → IsReady (B.state bank.new) id m bytes) }
 {
-    if !holds_named(layout, area) {
+    if !has_named_places(layout, area) {
         return None;
     }
     match bank.xrstors(class_features(layout, Class::Large), area) {
@@ -161,7 +161,7 @@ fn repeat_loads<B: Bank>(
     requires { (B.state bank.old).file.rows ≡ layout.now }
 {
     let mask = class_features(layout, Class::Large);
-    if !holds_named(layout, area) {
+    if !has_named_places(layout, area) {
         return None;
     }
     let mut sum: u64 = 0;

@@ -1,7 +1,7 @@
 //! The pool.
 
 ghost use Rattle.std.specs.Prelude.{◌≡◌, ℕ, ◌-◌, ◌^◌, ◌<◌, ◌≤◌, ◌⊎◌, ◌↔◌, false, length, slice_index, IfOk, IfErr, OnOk, OnErr};
-ghost use Rattle.xs_base.specs.Area.{StandsFor, HoldsPlaces};
+ghost use Rattle.xs_base.specs.Area.{StandsFor, HasPlaces};
 ghost use Rattle.xs_base.specs.Bytes.{is_within};
 ghost use Rattle.xs_base.specs.Compact.{compacted};
 ghost use Rattle.xs_base.specs.File.{initial_file};
@@ -93,7 +93,7 @@ impl AreaPool {
         ensures loadable { IfOk result (λ lease.
             IsLoadable self.old.rows class lease.area.id lease.area.bytes.items) }
         ensures places { IfOk result (λ lease.
-            HoldsPlaces self.old.rows lease.area.bytes.items (xcomp_bv lease.area.bytes.items)) }
+            HasPlaces self.old.rows lease.area.bytes.items (xcomp_bv lease.area.bytes.items)) }
     {
         let mut bytes = self.take(class)?;
         make_initial(&self.layout, class, &mut bytes);

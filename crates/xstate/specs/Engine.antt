@@ -4,7 +4,7 @@ use Rattle.std.specs.Prelude.{◌≡◌, ℕ, ◌+◌, ◌-◌, ◌<◌, ◌≤�
 use Rattle.xs_base.specs.declared.class.Class.TheVariants.{Small}
 use Rattle.xs_base.specs.declared.component.Row.{Row}
 use Rattle.xs_base.specs.declared.component.Place.{Place}
-use Rattle.xs_base.specs.Area.{StandsFor, HoldsPlaces}
+use Rattle.xs_base.specs.Area.{StandsFor, HasPlaces}
 use Rattle.xs_base.specs.Compact.{compacted}
 use Rattle.xs_base.specs.Component.{initial_part}
 use Rattle.xs_base.specs.File.{File, IsFile, AreSameButPkru, part, read_place}
@@ -57,7 +57,7 @@ pub record IsTaskArea (rows : List Row) (lease : Lease) : Type 0 where
   pub loadable : IsLoadable rows Small lease.area.id lease.area.bytes.items
   pub names : xcomp_bv lease.area.bytes.items ≡ compacted (class_features rows Small)
   pub len : length lease.area.bytes.items ≡ class_size rows Small
-  pub places : HoldsPlaces rows lease.area.bytes.items (xcomp_bv lease.area.bytes.items)
+  pub places : HasPlaces rows lease.area.bytes.items (xcomp_bv lease.area.bytes.items)
 
 -- A task has an area until it has ended.
 abbrev pub has_ended : Option Lease → Bool

@@ -5,7 +5,7 @@ ghost use Rattle.std.specs.Prelude.{◌≡◌};
 use super::*;
 use std::alloc::{AllocError, Global};
 use std::test::Fail;
-use xs_area::{Area, HeaderError, holds_named};
+use xs_area::{Area, HeaderError, has_named_places};
 use xs_bank::{PlainBank, TrackBank, Trap};
 use xs_pool::AreaPool;
 
@@ -19,7 +19,7 @@ fn load<B: Bank>(bank: &mut B, layout: &Layout, area: &mut Area, reserved: u8) -
     ensures { (B.state bank.new).file.rows ≡ layout.now }
 {
     *area.bytes.get_mut(528)? = reserved;
-    if !holds_named(layout, area) {
+    if !has_named_places(layout, area) {
         return None;
     }
     let result = bank.xrstors(class_features(layout, Class::Small), area);

@@ -1,4 +1,4 @@
-use Rattle.xs_area.proofs.HeldLemmas.{AreHeld}
+use Rattle.xs_area.proofs.StoredLemmas.{AreHeld}
 use Rattle.xs_area.proofs.standard.put_components.Given as goal
 
 abbrev pub invariant-each : goal.invariant-each

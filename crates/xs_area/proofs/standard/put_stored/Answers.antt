@@ -2,8 +2,8 @@ use Rattle.std.proofs.Common.{◌+◌, ◌∙◌, refl, sym, ap, length, arith}
 use Rattle.std.specs.Prelude.{slice_range}
 use Rattle.xs_base.specs.Component.{component_size}
 use Rattle.xs_base.proofs.ComponentLemmas.{pkru_size}
-use Rattle.xs_area.proofs.HeldLemmas.{pkru_eight, put_pkru, put_present}
-use Rattle.xs_area.proofs.standard.put_held.Goals as goal
+use Rattle.xs_area.proofs.StoredLemmas.{pkru_eight, put_pkru, put_present}
+use Rattle.xs_area.proofs.standard.put_stored.Goals as goal
 
 pub put_component-requires-clause-size : goal.put_component-requires-clause-size
 put_component-requires-clause-size c = ap length c.pkru_bytes.ensures ∙ pkru_eight c.args.pkru ∙ sym (ap component_size c.if-row-eq9.true ∙ pkru_size)

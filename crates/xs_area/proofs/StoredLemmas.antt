@@ -17,7 +17,7 @@ use Rattle.xs_base.specs.File.{File, IsFile, part, with_pkru, is_own}
 use Rattle.xs_base.specs.Header.{xstate_bv, xcomp_bv}
 use Rattle.xs_base.specs.Layout.{IsLayout, IsSound}
 use Rattle.xs_base.specs.Standard.{IsWritten, component_byte, saved_byte}
-use Rattle.xs_area.specs.Held.{held_byte, pkru_bytes}
+use Rattle.xs_area.specs.Stored.{stored_byte, pkru_bytes}
 use Rattle.xs_area.specs.declared.cursor.Cursor.{Cursor}
 use Rattle.xs_base.specs.declared.component.Features.{Features}
 use Rattle.xs_area.specs.Cursor.{place_after}
@@ -54,21 +54,21 @@ unfolding pkru_bytes
 pkru_eight pkru = length-append (to_le_bytes w32 pkru) (zeros 4) ∙ ap (λ n. 4 + n) (length_zeros 4)
 
 -- of a component whose bit is 1
-pub held_present : (area : List ℕ) (bits pkru at c k : ℕ) → (c ≡ 9 → ⊥) → has bits c ≡ true → held_byte area bits pkru at c k ≡ (if is_own c k then get_or area (at + k) 0 else 0)
+pub held_present : (area : List ℕ) (bits pkru at c k : ℕ) → (c ≡ 9 → ⊥) → has bits c ≡ true → stored_byte area bits pkru at c k ≡ (if is_own c k then get_or area (at + k) 0 else 0)
 held_present area bits pkru at c k other present =
     let b = if is_own c k then get_or area (at + k) 0 else 0 in
     ap (λ t. if t then get_or (pkru_bytes pkru) k 0 else if has bits c then b else get_or (initial_part c) k 0) (ne_eqb c 9 other)
     ∙ ap (λ t. if t then b else get_or (initial_part c) k 0) present
 
 -- and of one whose bit is 0
-pub held_absent : (area : List ℕ) (bits pkru at c k : ℕ) → (c ≡ 9 → ⊥) → has bits c ≡ false → held_byte area bits pkru at c k ≡ get_or (initial_part c) k 0
+pub held_absent : (area : List ℕ) (bits pkru at c k : ℕ) → (c ≡ 9 → ⊥) → has bits c ≡ false → stored_byte area bits pkru at c k ≡ get_or (initial_part c) k 0
 held_absent area bits pkru at c k other absent =
     let b = if is_own c k then get_or area (at + k) 0 else 0 in
     ap (λ t. if t then get_or (pkru_bytes pkru) k 0 else if has bits c then b else get_or (initial_part c) k 0) (ne_eqb c 9 other)
     ∙ ap (λ t. if t then b else get_or (initial_part c) k 0) absent
 
 -- what is held is what the file has
-pub held_saved : (rows : List Row) (area : List ℕ) (file : File) (pkru i : ℕ) (r : Row) (at k : ℕ) → IsFile file → StandsFor rows area file → i < length rows → r ≡ get_or rows i r → IsSound r → at ≡ place rows (xcomp_bv area) r → k < r.size → held_byte area (xstate_bv area) pkru at r.comp.0 k ≡ saved_byte (with_pkru file pkru) r.comp.0 k
+pub held_saved : (rows : List Row) (area : List ℕ) (file : File) (pkru i : ℕ) (r : Row) (at k : ℕ) → IsFile file → StandsFor rows area file → i < length rows → r ≡ get_or rows i r → IsSound r → at ≡ place rows (xcomp_bv area) r → k < r.size → stored_byte area (xstate_bv area) pkru at r.comp.0 k ≡ saved_byte (with_pkru file pkru) r.comp.0 k
 held_saved rows area file pkru i r at k h stands lt is sound placed small =
     here (cases_eq r.comp.0 9) (cases_Bool (has (xstate_bv area) r.comp.0))
   where
@@ -76,7 +76,7 @@ held_saved rows area file pkru i r at k h stands lt is sound placed small =
     row = slice_get_read rows (length rows) i r refl lt is
 
     P : ℕ → Type 0
-    P c = held_byte area (xstate_bv area) pkru at c k ≡ saved_byte (with_pkru file pkru) c k
+    P c = stored_byte area (xstate_bv area) pkru at c k ≡ saved_byte (with_pkru file pkru) c k
 
     pkru_case : P 9
     pkru_case = sym (ap (λ l. if is_own 9 k then get_or l k 0 else 0) (pkru_part file pkru h) ∙ pkru_byte pkru k)
@@ -107,26 +107,26 @@ held_saved rows area file pkru i r at k h stands lt is sound placed small =
 -- ---- one component written
 
 -- PKRU
-pub put_pkru : (area : List ℕ) (bits pkru at : ℕ) (r : Row) (bytes old new : List ℕ) → r.comp.0 ≡ 9 → IsSound r → bytes ≡ pkru_bytes pkru → IsWritten r.offset (length bytes) (λ k. if is_own r.comp.0 k then get_or bytes k 0 else 0) old new → IsWritten r.offset r.size (held_byte area bits pkru at r.comp.0) old new
+pub put_pkru : (area : List ℕ) (bits pkru at : ℕ) (r : Row) (bytes old new : List ℕ) → r.comp.0 ≡ 9 → IsSound r → bytes ≡ pkru_bytes pkru → IsWritten r.offset (length bytes) (λ k. if is_own r.comp.0 k then get_or bytes k 0 else 0) old new → IsWritten r.offset r.size (stored_byte area bits pkru at r.comp.0) old new
 put_pkru area bits pkru at r bytes old new nine sound are written =
     let many : length bytes ≡ r.size = ap length are ∙ pkru_eight pkru ∙ sym (sound.size ∙ ap component_size nine ∙ pkru_size) in
-    let Q : ℕ → Type 0 = λ n. IsWritten r.offset n (held_byte area bits pkru at r.comp.0) old new in
-    subst Q many (written_as r.offset (length bytes) _ (held_byte area bits pkru at r.comp.0) old new (λ k small. each k) written)
+    let Q : ℕ → Type 0 = λ n. IsWritten r.offset n (stored_byte area bits pkru at r.comp.0) old new in
+    subst Q many (written_as r.offset (length bytes) _ (stored_byte area bits pkru at r.comp.0) old new (λ k small. each k) written)
   where
-    each : (k : ℕ) → (if is_own r.comp.0 k then get_or bytes k 0 else 0) ≡ held_byte area bits pkru at r.comp.0 k
+    each : (k : ℕ) → (if is_own r.comp.0 k then get_or bytes k 0 else 0) ≡ stored_byte area bits pkru at r.comp.0 k
     each k =
-        let P : ℕ → Type 0 = λ c. (if is_own c k then get_or bytes k 0 else 0) ≡ held_byte area bits pkru at c k in
+        let P : ℕ → Type 0 = λ c. (if is_own c k then get_or bytes k 0 else 0) ≡ stored_byte area bits pkru at c k in
         subst P (sym nine) (ap (λ l. if is_own 9 k then get_or l k 0 else 0) are ∙ pkru_byte pkru k)
 
 -- a component that the area has
-pub put_present : (area : List ℕ) (bits pkru at : ℕ) (r : Row) (bytes old new : List ℕ) → (r.comp.0 ≡ 9 → ⊥) → has bits r.comp.0 ≡ true → at + r.size ≤ length area → bytes ≡ slice_range area at (at + r.size) → IsWritten r.offset (length bytes) (λ k. if is_own r.comp.0 k then get_or bytes k 0 else 0) old new → IsWritten r.offset r.size (held_byte area bits pkru at r.comp.0) old new
+pub put_present : (area : List ℕ) (bits pkru at : ℕ) (r : Row) (bytes old new : List ℕ) → (r.comp.0 ≡ 9 → ⊥) → has bits r.comp.0 ≡ true → at + r.size ≤ length area → bytes ≡ slice_range area at (at + r.size) → IsWritten r.offset (length bytes) (λ k. if is_own r.comp.0 k then get_or bytes k 0 else 0) old new → IsWritten r.offset r.size (stored_byte area bits pkru at r.comp.0) old new
 put_present area bits pkru at r bytes old new other present fits are written =
     let ranged : length (slice_range area at (at + r.size)) ≡ at + r.size - at = length-between area at (at + r.size) fits in
     let many : length bytes ≡ r.size = ap length are ∙ omega (arith, ranged) in
-    let Q : ℕ → Type 0 = λ n. IsWritten r.offset n (held_byte area bits pkru at r.comp.0) old new in
-    subst Q many (written_as r.offset (length bytes) _ (held_byte area bits pkru at r.comp.0) old new (λ k small. each k (omega arith)) written)
+    let Q : ℕ → Type 0 = λ n. IsWritten r.offset n (stored_byte area bits pkru at r.comp.0) old new in
+    subst Q many (written_as r.offset (length bytes) _ (stored_byte area bits pkru at r.comp.0) old new (λ k small. each k (omega arith)) written)
   where
-    each : (k : ℕ) → k < r.size → (if is_own r.comp.0 k then get_or bytes k 0 else 0) ≡ held_byte area bits pkru at r.comp.0 k
+    each : (k : ℕ) → k < r.size → (if is_own r.comp.0 k then get_or bytes k 0 else 0) ≡ stored_byte area bits pkru at r.comp.0 k
     each k small =
         ap (λ n. if is_own r.comp.0 k then n else 0) (ap (λ l. get_or l k 0) are ∙ get_or-between area at (at + r.size) k 0 (omega arith))
         ∙ sym (held_present area bits pkru at r.comp.0 k other present)
@@ -145,7 +145,7 @@ held_first rows area pkru mask names old is = record { len = refl; before = rw (
 
 module _ (rows : List Row) (table : IsLayout rows) (area : List ℕ) (pkru mask i : ℕ) (cursor : Cursor) (old out : List ℕ) (r : Row) (lt : i < length rows) (is : r ≡ get_or rows i r) (at : AreHeld rows area pkru mask i cursor old out) where
   -- a row of the mask was written
-  pub held_written : (new : List ℕ) (p : ℕ) → has mask r.comp.0 ≡ true → p ≡ place_after cursor.names.0 cursor.end r → IsWritten r.offset r.size (held_byte area (xstate_bv area) pkru p r.comp.0) out new → AreHeld rows area pkru mask (i + 1) (passed cursor r) old new
+  pub held_written : (new : List ℕ) (p : ℕ) → has mask r.comp.0 ≡ true → p ≡ place_after cursor.names.0 cursor.end r → IsWritten r.offset r.size (stored_byte area (xstate_bv area) pkru p r.comp.0) out new → AreHeld rows area pkru mask (i + 1) (passed cursor r) old new
   held_written new p wanted placed written = record {
     len = written.len ∙ at.len;
     before = before_next rows table (xcomp_bv area) i cursor r lt is at.before;

@@ -1,11 +1,11 @@
 //! Whether an area from elsewhere can be read.
 
 ghost use Rattle.std.specs.Prelude.{◌≡◌, ℕ, ◌≤◌, ◌<◌, ◌^◌, ◌↔◌, true, length, IsTrue, bit_and, ◌==◌};
-ghost use Rattle.xs_base.specs.Area.{has_room, HoldsPlaces};
+ghost use Rattle.xs_base.specs.Area.{has_room, HasPlaces};
 ghost use Rattle.xs_base.specs.Header as header;
 ghost use Rattle.xs_base.specs.Sets.{has};
 ghost use Rattle.xs_base.specs.Layout.{IsLayout, features};
-ghost use Rattle.xs_area.specs.Holding.{HoldsFile, HoldsRows, holds_row};
+ghost use Rattle.xs_area.specs.Readable.{IsReadable, HasRows, has_row_place};
 
 use crate::area::{Area, xcomp_bv, xstate_bv};
 use crate::cursor::Cursor;
@@ -16,7 +16,7 @@ use xs_layout::Layout;
 /// XCOMP_BV, and the area has the bytes of each such place. Then it stands for a file of the machine (SDM volume 1,
 /// 13.4.2 and 13.4.3).
 pub fn stands(layout: &Layout, area: &Area) -> bool
-    ensures holds { IsTrue result ↔ HoldsFile layout.now area.now.bytes.items }
+    ensures holds { IsTrue result ↔ IsReadable layout.now area.now.bytes.items }
     ensures room { IsTrue result → (c : ℕ) → has (header.xstate_bv area.now.bytes.items) c ≡ true → has_room layout.now area.now.bytes.items c ≡ true }
 {
     let bytes = area.bytes.as_slice();
@@ -26,22 +26,22 @@ pub fn stands(layout: &Layout, area: &Area) -> bool
     if !is_known(layout, xstate_bv(bytes)) {
         return false;
     }
-    holds_rows(layout, bytes)
+    has_rows(layout, bytes)
 }
 
 /// Whether the area can be loaded in the compacted format, as far as its length goes: it has at least 576 bytes, and the
 /// bytes of the place of each component of the machine that its XCOMP_BV names (SDM volume 1, 13.4.3).
-pub fn holds_named(layout: &Layout, area: &Area) -> bool
-    ensures { IsTrue result ↔ ((576 ≤ length area.now.bytes.items) × HoldsPlaces layout.now area.now.bytes.items (header.xcomp_bv area.now.bytes.items)) }
+pub fn has_named_places(layout: &Layout, area: &Area) -> bool
+    ensures { IsTrue result ↔ ((576 ≤ length area.now.bytes.items) × HasPlaces layout.now area.now.bytes.items (header.xcomp_bv area.now.bytes.items)) }
 {
     let bytes = area.bytes.as_slice();
-    bytes.len() >= 576 && holds_named_rows(layout, bytes)
+    bytes.len() >= 576 && has_named_rows(layout, bytes)
 }
 
 /// Whether the area has the place of each component of the machine that its XCOMP_BV names.
-fn holds_named_rows(layout: &Layout, bytes: &[u8]) -> bool
+fn has_named_rows(layout: &Layout, bytes: &[u8]) -> bool
     requires { 576 ≤ length bytes.now }
-    ensures { IsTrue result ↔ HoldsPlaces layout.now bytes.now (header.xcomp_bv bytes.now) }
+    ensures { IsTrue result ↔ HasPlaces layout.now bytes.now (header.xcomp_bv bytes.now) }
 {
     let names = Features(xcomp_bv(bytes));
     let mut cursor = Cursor::new(names);
@@ -63,9 +63,9 @@ fn is_known(layout: &Layout, bits: u64) -> bool
 }
 
 /// Whether the area has the place of each component of the machine whose bit in XSTATE_BV is 1.
-fn holds_rows(layout: &Layout, bytes: &[u8]) -> bool
+fn has_rows(layout: &Layout, bytes: &[u8]) -> bool
     requires { 576 ≤ length bytes.now }
-    ensures rows { IsTrue result ↔ HoldsRows layout.now bytes.now }
+    ensures rows { IsTrue result ↔ HasRows layout.now bytes.now }
     ensures layout { IsLayout layout.now }
 {
     let bits = Features(xstate_bv(bytes));
@@ -74,7 +74,7 @@ fn holds_rows(layout: &Layout, bytes: &[u8]) -> bool
     'each: for i in 0..layout.len() {
         let row = layout.row_at(i);
         let at = cursor.pass(row);
-        if bits.has(row.comp) && !holds_row(names, row, at, bytes.len()) {
+        if bits.has(row.comp) && !has_row_place(names, row, at, bytes.len()) {
             return false;
         }
     }
@@ -82,9 +82,9 @@ fn holds_rows(layout: &Layout, bytes: &[u8]) -> bool
 }
 
 /// Whether the row's component has a place by the XCOMP_BV `names`, which from byte `at` on is within `len` bytes.
-fn holds_row(names: Features, row: Row, at: usize, len: usize) -> bool
+fn has_row_place(names: Features, row: Row, at: usize, len: usize) -> bool
     requires { at < 2 ^ 33 }
-    ensures { result ≡ holds_row names.0 row at len }
+    ensures { result ≡ has_row_place names.0 row at len }
 {
     (!names.has(Comp(63)) || names.has(row.comp)) && at + row.size as usize <= len
 }

@@ -1,9 +1,9 @@
 use Rattle.std.proofs.Common.{refl, sym, ap, ◌∙◌, arith}
 use Rattle.std.proofs.lemmas.Bool.{false≢true}
 use Rattle.xs_base.specs.Sets.{has}
-use Rattle.xs_area.proofs.HoldingLemmas.{named_more, named_missing, named_all}
-use Rattle.xs_area.proofs.holding.holds_named_rows.Goals as goal
-use Rattle.xs_area.proofs.holding.holds_named_rows.Goals.{else-has-via-then-has+else-at-row, else-has-via-else-has}
+use Rattle.xs_area.proofs.ReadableLemmas.{named_more, named_missing, named_all}
+use Rattle.xs_area.proofs.readable.has_named_rows.Goals as goal
+use Rattle.xs_area.proofs.readable.has_named_rows.Goals.{else-has-via-then-has+else-at-row, else-has-via-else-has}
 
 pub returns-then-at-row : goal.returns-then-at-row
 returns-then-at-row c =

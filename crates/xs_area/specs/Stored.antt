@@ -12,8 +12,8 @@ pkru_bytes pkru = to_le_bytes w32 pkru ++ zeros 4
 
 -- Byte k of component c, which stands from `at` on where its bit of XSTATE_BV is 1, and is initial where it is 0. PKRU
 -- is kept beside the area.
-abbrev pub held_byte : List ℕ → ℕ → ℕ → ℕ → ℕ → ℕ → ℕ
-held_byte area bits pkru at c k =
+abbrev pub stored_byte : List ℕ → ℕ → ℕ → ℕ → ℕ → ℕ → ℕ
+stored_byte area bits pkru at c k =
     if c == 9 then slice_index (pkru_bytes pkru) k
     else if has bits c then (if is_own c k then slice_index area (at + k) else 0)
     else slice_index (initial_part c) k
