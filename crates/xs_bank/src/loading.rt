@@ -16,7 +16,7 @@ ghost use Rattle.xs_bank.specs.Rows.{IsRowLoaded};
 
 use crate::checks::{compacted_trap, standard_trap};
 use crate::instruction::Trap;
-use xs_area::{Cursor, mxcsr, xcomp_bv, xstate_bv};
+use xs_area::{mxcsr, xcomp_bv, xstate_bv};
 use xs_base::{Comp, Features, INITIAL_MXCSR, Row};
 use xs_regs::File;
 
@@ -96,8 +96,7 @@ fn load_components(file: &mut File, mask: Features, area: &[u8])
     let bits = Features(xstate_bv(area));
     let mut cursor = Cursor::new(Features(xcomp_bv(area)));
     'each: for i in 0..file.layout().len() {
-        let row = file.layout().row_at(i);
-        let at = cursor.pass(row);
+        let (row, at) = cursor.pass(file.layout(), i);
         if mask.has(row.comp) {
             load_row(file, bits, row, area, at);
         }
