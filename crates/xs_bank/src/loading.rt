@@ -18,6 +18,7 @@ use crate::checks::{compacted_trap, standard_trap};
 use crate::instruction::Trap;
 use xs_area::{mxcsr, xcomp_bv, xstate_bv};
 use xs_base::{Comp, Features, INITIAL_MXCSR, Row};
+use xs_layout::Cursor;
 use xs_regs::File;
 
 /// Loads the components of the mask from an area in the standard format, where these components are armed, or answers the
