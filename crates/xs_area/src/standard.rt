@@ -72,7 +72,7 @@ fn put_stored(area: &[u8], at: usize, bits: Features, pkru: u32, row: Row, out: 
 }
 
 /// The bytes of component 9.
-#[tactic(auto, unfolding(crate::specs::Held::pkru_bytes, xs_base::specs::Bytes::zeros))]
+#[tactic(auto, unfolding(crate::specs::Stored::pkru_bytes, xs_base::specs::Bytes::zeros))]
 fn pkru_bytes(pkru: u32) -> [u8; 8]
     ensures { result ≡ held.pkru_bytes pkru }
 {
