@@ -18,7 +18,8 @@ mod words;
 mod zeros;
 
 pub use bytes::{
-    clean, clear, put, put_component, put_control, put_initial, put_initial_component, put_number,
+    after, clean, clear, pkru_bytes, put, put_component, put_control, put_initial,
+    put_initial_component, put_number,
 };
 pub use class::Class;
 pub use component::{Comp, Features, Place, Row};
