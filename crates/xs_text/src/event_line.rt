@@ -1,6 +1,6 @@
 //! The line of one event.
 
-ghost use Rattle.std.specs.Prelude.{◌≡◌, ◌+◌, ◌*◌, ◌<◌, ◌≤◌, List, [], ◌∷◌, ◌++◌, length, slice_index, decimal};
+ghost use Rattle.std.specs.Prelude.{◌≡◌, ◌+◌, ◌*◌, ◌%◌, ◌<◌, ◌≤◌, List, [], ◌∷◌, ◌++◌, length, slice_index, decimal};
 ghost use Rattle.arrayvec.specs.ArrayVec.{array_vec_len};
 ghost use Rattle.hex.specs.Hex.{encode_lower, lower_digits};
 ghost use Rattle.xs_model.specs.declared.script.Script.{Script};
@@ -11,12 +11,14 @@ ghost use Rattle.xs_text.specs.Text.{how_word, signal_word, reply_word, cause_wo
 mod tests;
 
 use arrayvec::ArrayVec;
-use itoa::Buffer;
 use xs_base::{How, Lane, Signo};
 use xs_model::{Event, Reply, Script, Why};
 
 /// One line of a history's text with its line feed.
 pub type Line = ArrayVec<u8, 192>;
+
+/// Room for the digits of a lane.
+const ZEROS: [u8; 128] = [0; 128];
 
 /// Replaces `out` by the event's line with its line feed.
 pub fn write_event(script: &Script, event: &Event, out: &mut Line)
@@ -126,8 +128,41 @@ fn put_digits(out: &mut Line, n: u32)
     ensures items { out.new.items ≡ out.old.items ++ decimal n }
     ensures len { array_vec_len out.new ≤ array_vec_len out.old + 10 }
 {
-    let mut buffer = Buffer::new();
-    put(out, buffer.format(n).as_bytes());
+    put_fours(out, n);
+}
+
+/// Appends the number's digits. Digits whose count is known go out as one piece, and the last four of a longer number do.
+fn put_fours(out: &mut Line, n: u32)
+    requires { array_vec_len out.old + length (decimal n) ≤ 192 }
+    ensures { out.new.items ≡ out.old.items ++ decimal n }
+{
+    if n < 10 {
+        put(out, &[last_digit(n)]);
+    } else if n < 100 {
+        put(out, &[last_digit(n / 10), last_digit(n)]);
+    } else if n < 10_000 {
+        put_fours(out, n / 100);
+        put(out, &[last_digit(n / 10), last_digit(n)]);
+    } else {
+        put_fours(out, n / 10_000);
+        put(
+            out,
+            &[
+                last_digit(n / 1000),
+                last_digit(n / 100),
+                last_digit(n / 10),
+                last_digit(n),
+            ],
+        );
+    }
+}
+
+/// The last digit of a number.
+#[inline]
+fn last_digit(n: u32) -> u8
+    ensures { result ≡ 48 + n % 10 }
+{
+    (n % 10) as u8 + b'0'
 }
 
 /// Appends a space and the number, at most ten digits.
@@ -188,10 +223,9 @@ fn put_hex(out: &mut Line, lane: &Lane)
     ensures len { array_vec_len out.new ≤ array_vec_len out.old + 128 }
 {
     let bytes = lane.as_slice();
-    let mut digits = [0u8; 128];
-    let part = &mut digits[..2 * bytes.len()];
-    fill_digits(bytes, part);
-    put(out, part);
+    let from = out.len();
+    put(out, &ZEROS[..2 * bytes.len()]);
+    fill_digits(bytes, &mut out.as_mut_slice()[from..]);
 }
 
 /// Fills `digits` with the bytes' digits, two a byte. By a test and a sum for each digit the loop becomes vector
