@@ -51,9 +51,9 @@ returns-then-n-lt10000 t c =
     let new = c.put-then-n-lt10000.new.out.items in
     let mid = c.put_fours.new.out.items in
     let put : new ≡ mid ++ (48 + c.args.n / 10 % 10) ∷ (48 + c.args.n % 10) ∷ [] =
-      c.put-then-n-lt10000.ensures.items
-      ∙ ap (λ d. mid ++ d ∷ c.last_digit-then-n-lt10000-2.result ∷ []) c.last_digit-then-n-lt10000.ensures
-      ∙ ap (λ d. mid ++ (48 + c.args.n / 10 % 10) ∷ d ∷ []) c.last_digit-then-n-lt10000-2.ensures in
+    c.put-then-n-lt10000.ensures.items
+    ∙ ap (λ d. mid ++ d ∷ c.last_digit-then-n-lt10000-2.result ∷ []) c.last_digit-then-n-lt10000.ensures
+    ∙ ap (λ d. mid ++ (48 + c.args.n / 10 % 10) ∷ d ∷ []) c.last_digit-then-n-lt10000-2.ensures in
     joined c.args.out.now.items mid new _ c.args.n (c.args.n / 100) put c.put_fours.ensures (last_two c.args.n c.if-n-lt100.false c.ranges.n.fits)
 
 pub returns-else-n-lt10000 : goal.returns-else-n-lt10000
@@ -61,6 +61,6 @@ returns-else-n-lt10000 t c =
     let new = c.put-else-n-lt10000.new.out.items in
     let mid = c.put_fours-else-n-lt10000.new.out.items in
     let put : new ≡ mid ++ (48 + c.args.n / 1000 % 10) ∷ (48 + c.args.n / 100 % 10) ∷ (48 + c.args.n / 10 % 10) ∷ (48 + c.args.n % 10) ∷ [] =
-      c.put-else-n-lt10000.ensures.items
-      ∙ ap (λ ds. mid ++ ds) (rw (sym c.last_digit-else-n-lt10000.ensures, sym c.last_digit-else-n-lt10000-2.ensures, sym c.last_digit-else-n-lt10000-3.ensures, sym c.last_digit-else-n-lt10000-4.ensures) refl) in
+    c.put-else-n-lt10000.ensures.items
+    ∙ ap (λ ds. mid ++ ds) (rw (sym c.last_digit-else-n-lt10000.ensures, sym c.last_digit-else-n-lt10000-2.ensures, sym c.last_digit-else-n-lt10000-3.ensures, sym c.last_digit-else-n-lt10000-4.ensures) refl) in
     joined c.args.out.now.items mid new _ c.args.n (c.args.n / 10000) put c.put_fours-else-n-lt10000.ensures (last_four c.args.n c.if-n-lt10000.false c.ranges.n.fits)
