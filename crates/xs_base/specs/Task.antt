@@ -6,7 +6,7 @@ use Rattle.xs_base.specs.declared.component.Row.{Row}
 use Rattle.xs_base.specs.Bytes.{zeros}
 use Rattle.xs_base.specs.Component.{component_numbers, initial_part}
 use Rattle.xs_base.specs.Sets.{has}
-use Rattle.xs_base.specs.Layout.{features, default_features, full_size, default_size, set_of}
+use Rattle.xs_base.specs.Layout.{features, default_features, set_of}
 use Rattle.xs_base.specs.File.{File, IsFile, part, initial_file, with_pkru, is_saved}
 
 pub record PrivateTask : Type 0 where
@@ -26,13 +26,9 @@ pub record PrivateTask : Type 0 where
   -- the place to go back to after the handler
   pub back : ℕ
 
--- The components that the task may use, and the size of its standard format (Linux 6.6,
--- arch/x86/include/asm/fpu/types.h, struct fpstate: user_xfeatures, user_size).
+-- The components that the task may use (Linux 6.6, arch/x86/include/asm/fpu/types.h, struct fpstate: user_xfeatures).
 abbrev pub user_features : PrivateTask → ℕ
 user_features task = if task.large then features task.file.rows else default_features task.file.rows
-
-abbrev pub user_size : PrivateTask → ℕ
-user_size task = if task.large then full_size task.file.rows else default_size task.file.rows
 
 -- the PKRU of a file
 abbrev pub pkru_of : File → ℕ
