@@ -16,7 +16,7 @@ use Rattle.xs_base.proofs.LayoutLemmas.{has_row_at, sound_at}
 use Rattle.xs_base.proofs.PlaceLemmas.{place_legacy}
 use Rattle.xs_area.specs.Copy.{IsTaken, is_copied}
 use Rattle.xs_area.proofs.RoomLemmas.{room_tells}
-use Rattle.xs_area.proofs.TakeLemmas.{row_index}
+use Rattle.xs_base.proofs.RowLemmas.{row_index}
 
 -- The components of the set stand for the file in these bytes by `names`, and every other one is initial.
 pub record IsSource (rows : List Row) (from : List ℕ) (names set control : ℕ) (file : File) : Type 0 where
