@@ -14,6 +14,7 @@ use Rattle.xs_base.specs.Layout.{has_row}
 use Rattle.xs_base.specs.Register.{IsRegister}
 use Rattle.xs_area.specs.declared.area.Lease.{Lease}
 use Rattle.xs_bank.specs.Bank as banks
+use Rattle.xs_bank.specs.declared.cpu.Cpu.{Cpu}
 use Rattle.xs_bank.specs.Load.{tiles}
 use Rattle.xs_pool.specs.Pool.{Pool}
 use Rattle.xs_model.specs.declared.script.Command.{Command}
@@ -36,6 +37,11 @@ use Rattle.xstate.specs.Turns.{SavedTask, fresh, task_at, with_task, body_at, Is
 pub record IsSetUp (rows : List Row) (bank : banks.Bank) : Type 0 where
   pub rows_are : bank.file.rows ≡ rows
   pub armed : bank.armed ≡ (if has_row rows 18 then tiles else 0)
+
+-- The processor keeps its number and its machine.
+pub record IsSameProcessor {B : Type 0} (old new : Cpu B) : Type 0 where
+  pub number : new.number ≡ old.number
+  pub layout : new.layout ≡ old.layout
 
 -- What a command does to the bank, and its reply. No built register traps.
 abbrev pub BankRuns : List Row → banks.Bank → Command → Reply → banks.Bank → Type 0
