@@ -15,7 +15,8 @@ mod writing;
 
 ghost use Rattle.std.specs.Prelude.{◌≡◌, ℕ, length, slice_get, Some, IfOk};
 ghost use Rattle.xs_bank.specs.declared.cpu.Cpu.{Cpu};
-ghost use Rattle.xs_bank.specs.declared.track.TrackBank.{TrackBank};
+ghost use Rattle.xs_bank.specs.declared.bank_of.BankOf.{BankOf};
+ghost use Rattle.xs_bank.specs.declared.choice.Changes.{Changes};
 ghost use Rattle.xs_bank.specs.Bank.{HasCountedNothing};
 
 use crate::status::Status;
@@ -60,8 +61,8 @@ fn answer(rt: &HostRuntime) -> Status {
 /// The processors, numbered from 0 in order, whose banks save only what may have changed.
 fn processors(alloc: Global) -> Result<Vec<Cpu<TrackBank>>, AllocError>
     ensures many { IfOk result (λ cpus. length cpus.items ≡ 16) }
-    ensures numbers { IfOk result (λ cpus. (i : ℕ) (cpu : Cpu TrackBank) → slice_get cpus.items i ≡ Some cpu → cpu.number ≡ i) }
-    ensures counts { IfOk result (λ cpus. (i : ℕ) (cpu : Cpu TrackBank) → slice_get cpus.items i ≡ Some cpu → HasCountedNothing (⟦<TrackBank as Bank>⟧.state cpu.bank)) }
+    ensures numbers { IfOk result (λ cpus. (i : ℕ) (cpu : Cpu (BankOf Changes)) → slice_get cpus.items i ≡ Some cpu → cpu.number ≡ i) }
+    ensures counts { IfOk result (λ cpus. (i : ℕ) (cpu : Cpu (BankOf Changes)) → slice_get cpus.items i ≡ Some cpu → HasCountedNothing (⟦<TrackBank as Bank>⟧.state cpu.bank)) }
 {
     let mut cpus = Vec::new(alloc);
     'each: for number in 0..PROCESSORS {
