@@ -6,7 +6,7 @@ ghost use Rattle.xs_model.specs.Machine.{how_of};
 ghost use Rattle.xs_model.specs.Script.{IsValid, IsBuilt};
 ghost use Rattle.xs_model.specs.History.{IsWhole};
 ghost use Rattle.xstate.specs.Turns.{task_at, body_at, is_last};
-ghost use Rattle.xstate.specs.Engine.{state_of, HasRoom, HasTold, body_lines, IsSetUp, IsResting, IsTurning, IsPaused, IsHeld, EngineAfterLine, EngineAfterLines, AreOpened, IsPoolOf, parked_at, IsFirst, IsInOrder, IsNext, NoneFrom, NoneLives, IsSameProcessor, work};
+ghost use Rattle.xstate.specs.Engine.{state_of, HasRoom, HasTold, body_lines, IsSetUp, IsResting, IsTurning, IsPaused, HoldsBlock, EngineAfterLine, EngineAfterLines, AreOpened, IsPoolOf, parked_at, IsFirst, IsInOrder, IsLiving, NoneFrom, NoneLives, IsSameProcessor, work};
 
 #[cfg(test)]
 mod tests;
@@ -120,7 +120,7 @@ impl Engine {
     /// first of all. None where every task has ended.
     fn next_task(&self, last: Option<u32>) -> Option<u32>
         requires { vec_len self.now.tasks ≤ 64 }
-        ensures some { IfSome result (λ t. IsNext self.now.tasks.items t) }
+        ensures some { IfSome result (λ t. IsLiving self.now.tasks.items t) }
         ensures order { IfSome result (λ t. IsInOrder self.now.tasks.items last t) }
         ensures none { IfNone result (NoneLives self.now.tasks.items) }
     {
@@ -138,9 +138,9 @@ impl Engine {
     /// whose registers the bank still has.
     fn restore<B: Bank>(&self, script: &Script, cpu: &mut Cpu<B>, task: u32) -> How
         requires rest { IsResting script.now (B.state cpu.old.bank) cpu.old.mark (state_of self.now) }
-        requires next { IsNext self.now.tasks.items task }
+        requires next { IsLiving self.now.tasks.items task }
         ensures how { result ≡ how_of BlockKind.Task (is_last cpu.old.mark task) }
-        ensures held { (rest : IsResting script.now (B.state cpu.old.bank) cpu.old.mark (state_of self.now)) → IsHeld script.now.layout (B.state cpu.new.bank) (task_at rest.saved task).file self.now.tasks.items task }
+        ensures holds { (rest : IsResting script.now (B.state cpu.old.bank) cpu.old.mark (state_of self.now)) → HoldsBlock script.now.layout (B.state cpu.new.bank) (task_at rest.saved task).file self.now.tasks.items task }
         ensures machine { IsSetUp script.now.layout (B.state cpu.new.bank) }
         ensures mark { cpu.new.mark ≡ cpu.old.mark }
         ensures same { IsSameProcessor cpu.old cpu.new }
@@ -160,7 +160,7 @@ impl Engine {
         requires valid { IsValid script.now }
         requires built { IsBuilt script.now }
         requires rest { IsResting script.now (B.state cpu.old.bank) cpu.old.mark (state_of self.old) }
-        requires next { IsNext self.old.tasks.items task }
+        requires next { IsLiving self.old.tasks.items task }
         requires room { HasRoom (state_of self.old) 1 }
         ensures turn { IsTurning script.now (B.state cpu.new.bank) cpu.new.mark (state_of self.new) task (parked_at self.old.tasks.items task).place 0 }
         ensures tasks { self.new.tasks.items ≡ self.old.tasks.items }
@@ -294,7 +294,7 @@ impl Engine {
         requires valid { IsValid script.now }
         requires built { IsBuilt script.now }
         requires rest { IsResting script.now (B.state cpu.old.bank) cpu.old.mark (state_of self.old) }
-        requires next { IsNext self.old.tasks.items task }
+        requires next { IsLiving self.old.tasks.items task }
         requires room { HasRoom (state_of self.old) (2 * work script.now.blocks self.old.tasks.items) }
         ensures rest { IsResting script.now (B.state cpu.new.bank) cpu.new.mark (state_of self.new) }
         ensures progress { work script.now.blocks self.new.tasks.items < work script.now.blocks self.old.tasks.items }
