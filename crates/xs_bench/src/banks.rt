@@ -46,9 +46,16 @@ pub fn repeat_bank_call<B: Bank>(
             repeat_saves(bank, &layout, area, turns)
         }
         BankCall::SaveInitial => repeat_saves(bank, &layout, area, turns),
-        BankCall::LoadFull => repeat_loads(bank, &layout, area, ALL, turns),
-        BankCall::LoadOne => repeat_loads(bank, &layout, area, Features::SSE, turns),
-        BankCall::LoadInitial => repeat_loads(bank, &layout, area, Features(0), turns),
+        _ => repeat_loads(bank, &layout, area, set_of(call), turns),
+    }
+}
+
+/// The components that the area has state of in the odd turns of a load.
+fn set_of(call: BankCall) -> Features {
+    match call {
+        BankCall::LoadOne => Features::SSE,
+        BankCall::LoadInitial => Features(0),
+        _ => ALL,
     }
 }
 
@@ -87,7 +94,10 @@ fn write_sse<B: Bank>(bank: &mut B, layout: &Layout) -> Option<()>
     if place.len != 16 || place.offset != 0 {
         return None;
     }
-    bank.write(place, &Lane::from_slice(&[2; 16])).ok()
+    match bank.write(place, &Lane::from_slice(&[2; 16])) {
+        Ok(()) => Some(()),
+        Err(_) => None,
+    }
 }
 
 /// Saves every component of the machine but PKRU.
