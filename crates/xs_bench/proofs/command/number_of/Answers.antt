@@ -1,7 +1,7 @@
 use Rattle.std.proofs.Common.{ap, ◌∙◌, arith}
 use Rattle.std.specs.Prelude.{slice_get}
-use Rattle.xs_bench.proofs.CommandWords.{plain_number}
-use Rattle.xs_bench.proofs.command.mask_of.Goals as goal
+use Rattle.xs_bench.proofs.Numbers.{plain_number}
+use Rattle.xs_bench.proofs.command.number_of.Goals as goal
 
 pub returns : goal.returns
 returns c =
