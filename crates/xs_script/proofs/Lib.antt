@@ -5,6 +5,7 @@ pub mod Lanes
 pub mod HexText
 pub mod Spellings
 pub mod FirstLines
+pub mod FirstWords
 pub mod Kept
 pub mod HeadRows
 pub mod Fronts
