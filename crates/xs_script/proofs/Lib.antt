@@ -16,6 +16,7 @@ pub mod Unbuilt
 pub mod BodyLines
 pub mod CommandFaults
 pub mod KnownLines
+pub mod Outlines
 pub mod Numbering
 pub mod WholeScripts
 pub mod OneRefusal

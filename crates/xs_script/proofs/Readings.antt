@@ -1,9 +1,8 @@
 -- Readers of one line, part by part.
-use Rattle.std.proofs.Common.{◌≡◌, ℕ, ◌<◌, ◌≤◌, ◌*◌, ◌/◌, Bool, true, false, List, [], ◌∷◌, ◌++◌, length, Option, Some, None, MatchOption, refl, sym, ◌∙◌, ap, arith, codes, decimal}
+use Rattle.std.proofs.Common.{◌≡◌, ℕ, ◌<◌, ◌≤◌, ◌*◌, ◌/◌, Bool, true, false, List, [], ◌∷◌, ◌++◌, length, Option, Some, None, MatchOption, refl, sym, ◌∙◌, ap, arith, decimal}
 use Rattle.std.specs.Prelude.{nat_eq}
 use Rattle.std.specs.Cmp.Lexicographic.{pointwise}
 use Rattle.std.proofs.lemmas.Bool.Decides.{Decides-eqb}
-use Rattle.std.proofs.lemmas.List.{append_cancel_left}
 use Rattle.std.proofs.lemmas.Slice.Eq.{slice_eq-Decides}
 use Rattle.hex.specs.Hex.{encode_lower, lower_digits}
 use Rattle.hex.proofs.HexLemmas.{length-encode_with}
@@ -12,7 +11,7 @@ use Rattle.xs_base.specs.Layout.{row}
 use Rattle.xs_script.specs.declared.line.Line.{Line}
 use Rattle.xs_script.specs.declared.line.Line.TheVariants as lines
 use Rattle.xs_script.specs.ScriptLine.{line_text, IsLine, IsNumber, row_text, kept_bytes, is_register_word}
-use Rattle.xs_script.specs.Reads.{Reads, ReadsAs, Lacks}
+use Rattle.xs_script.specs.Reads.{ReadsAs, Lacks}
 use Rattle.xs_script.specs.Refusal.{NoLine}
 use Rattle.xs_script.specs.Parts.{IsValue, IsLane, is_hex_text}
 use Rattle.xs_script.proofs.Cuts.{one_cut, no_cut, Lacks-register}

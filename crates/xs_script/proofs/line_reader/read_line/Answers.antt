@@ -1,4 +1,4 @@
-use Rattle.std.proofs.Common.{◌∙◌, sym, codes, ap, refl, List, ℕ, ◌++◌}
+use Rattle.std.proofs.Common.{◌∙◌, codes, ap, refl, List, ℕ, ◌++◌}
 use Rattle.xs_script.specs.declared.line.Line.TheVariants as lines
 use Rattle.xs_script.proofs.Readings.{word_is}
 use Rattle.xs_script.proofs.FirstWords.{no_cpus, no_quantum, no_large}
