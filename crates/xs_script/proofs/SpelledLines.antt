@@ -34,7 +34,7 @@ use Rattle.xs_script.proofs.CommandFaults.{fits_length}
 use Rattle.xs_script.proofs.HeadRows.{row_leads, rows_over}
 use Rattle.xs_script.proofs.Fronts.{all_join, leads_join}
 use Rattle.xs_script.proofs.KnownLines.{all_parts}
-use Rattle.xs_script.proofs.WholeScripts.{HasNoRows, blocks_no_rows, table_of_lines, head_known, may_end_some}
+use Rattle.xs_script.proofs.WholeScripts.{blocks_no_rows, no_rows_table, table_of_lines, head_known, may_end_some}
 use Rattle.xs_script.proofs.OneRefusal.{one_lines, passes_not_refused, known_not_fails}
 
 -- ---- each has a spelling
@@ -197,10 +197,6 @@ blocks_are_known rows (b ∷ blocks) h g =
 pub spelled_known : (text : List ℕ) (script : Script) → Spells text script → AllByRecursion (IsKnown script.layout) (script_lines script)
 spelled_known text script h =
     all_join (IsKnown script.layout) (head_lines script) (flat_map block_lines script.blocks) (head_known script.layout script) (blocks_are_known script.layout script.blocks h.valid.commands h.built.registers)
-
-no_rows_table : (ls : List Line) → HasNoRows ls → table_of ls ≡ []
-no_rows_table [] h = refl
-no_rows_table (l ∷ ls) h = rw h.0 (no_rows_table ls h.1)
 
 pub spelled_table : (text : List ℕ) (script : Script) → Spells text script → table_of (script_lines script) ≡ script.layout
 spelled_table text script h = table_of_lines script (flat_map block_lines script.blocks) h.valid.machine (no_rows_table (flat_map block_lines script.blocks) (blocks_no_rows script.blocks))
