@@ -10,6 +10,7 @@ pub mod CompactLemmas
 pub mod PlaceLemmas
 pub mod StandardLemmas
 pub mod FileLemmas
+pub mod TaskLemmas
 pub mod Registers
 pub mod WorkedValues
 pub mod AreaLemmas

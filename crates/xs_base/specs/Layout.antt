@@ -8,7 +8,7 @@ use Rattle.xs_base.specs.declared.layout_error.LayoutError.TheVariants as errors
 use Rattle.xs_base.specs.declared.layout_error.LayoutFault.{LayoutFault}
 use Rattle.xs_base.specs.First.{first_of}
 use Rattle.xs_base.specs.Sets.{has}
-use Rattle.xs_base.specs.Component.{component_numbers, component_count, component_size}
+use Rattle.xs_base.specs.Component.{component_numbers, component_count, component_size, x87_number, sse_number, tilecfg_number, tiledata_number}
 
 abbrev pub row : ℕ → ℕ → ℕ → ℕ → Row
 row number size offset flags = record { comp = record { 0 = number }; size = size; offset = offset; flags = flags }
@@ -22,6 +22,17 @@ amx_rows =
 -- The machine `avx`: x87, SSE and AVX alone.
 unfoldable pub avx_rows : List Row
 avx_rows = row 0 160 0 0 ∷ row 1 256 160 0 ∷ row 2 256 576 0 ∷ []
+
+-- The flags of a row, the bits of ECX: the component is a supervisor's, it begins at a multiple of 64 in the compacted
+-- format, and XFD supports it (SDM volume 1, 13.2 and 13.14).
+abbrev pub is_supervisor : Row → Bool
+is_supervisor r = has r.flags 0
+
+abbrev pub is_aligned : Row → Bool
+is_aligned r = has r.flags 1
+
+abbrev pub has_xfd : Row → Bool
+has_xfd r = has r.flags 2
 
 -- the machine has component c
 unfoldable pub has_row : List Row → ℕ → Bool
@@ -52,13 +63,13 @@ is_repeated (Some before) r = nat_le r.comp.0 before.comp.0
 -- Rows 0 and 1 stand in the legacy region, at 0 and at 160 (SDM volume 1, 13.4.1).
 abbrev pub has_wrong_size : Row → Bool
 has_wrong_size r =
-    not (r.size == component_size r.comp.0) || ((r.comp.0 == 0) && not (r.offset == 0)) || ((r.comp.0 == 1) && not (r.offset == 160))
+    not (r.size == component_size r.comp.0) || ((r.comp.0 == x87_number) && not (r.offset == 0)) || ((r.comp.0 == sse_number) && not (r.offset == 160))
 
--- A flag above bit 2, a supervisor component, XFD (SDM volume 1, 13.14) of another component than TILEDATA, TILEDATA
--- without XFD, or a flag of a legacy component.
+-- A flag above bit 2, a supervisor component, XFD of another component than TILEDATA, TILEDATA without XFD, or a flag of
+-- a legacy component.
 abbrev pub has_wrong_flags : Row → Bool
 has_wrong_flags r =
-    nat_lt 7 r.flags || has r.flags 0 || (has r.flags 2 && not (r.comp.0 == 18)) || (not (has r.flags 2) && (r.comp.0 == 18))
+    nat_lt 7 r.flags || is_supervisor r || (has_xfd r && not (r.comp.0 == tiledata_number)) || (not (has_xfd r) && (r.comp.0 == tiledata_number))
     || (nat_le r.comp.0 1 && not (r.flags == 0))
 
 -- the greatest end of a component
@@ -91,11 +102,12 @@ row_error before r = first_of (
 -- ---- the tests of a table
 
 abbrev pub lacks_legacy : List Row → Bool
-lacks_legacy rows = not (has_row rows 0 && has_row rows 1)
+lacks_legacy rows = not (has_row rows x87_number && has_row rows sse_number)
 
 -- TILECFG or TILEDATA is there without the other
 abbrev pub has_lone_tile : List Row → Bool
-has_lone_tile rows = (has_row rows 17 && not (has_row rows 18)) || (not (has_row rows 17) && has_row rows 18)
+has_lone_tile rows =
+    (has_row rows tilecfg_number && not (has_row rows tiledata_number)) || (not (has_row rows tilecfg_number) && has_row rows tiledata_number)
 
 -- the first test of the whole table that it fails
 unfoldable pub table_error : List Row → Option LayoutError
@@ -131,8 +143,8 @@ pub record IsSound (r : Row) : Type 0 where
   pub some : 0 < r.size
   pub flags : r.flags ≤ 7
   pub ends : r.offset + r.size ≤ most_bytes
-  pub x87 : r.comp.0 ≡ 0 → (r.offset ≡ 0) × (r.size ≡ 160)
-  pub sse : r.comp.0 ≡ 1 → (r.offset ≡ 160) × (r.size ≡ 256)
+  pub x87 : r.comp.0 ≡ x87_number → (r.offset ≡ 0) × (r.size ≡ 160)
+  pub sse : r.comp.0 ≡ sse_number → (r.offset ≡ 160) × (r.size ≡ 256)
   pub extended : 2 ≤ r.comp.0 → 576 ≤ r.offset
 
 -- The row is that of component c, at a place of the list.
@@ -160,7 +172,7 @@ features rows = set_of (has_row rows) component_numbers
 -- The machine's features without TILEDATA, which a task must ask for (Linux 6.6, arch/x86/kernel/fpu/xstate.c,
 -- fpu__init_system_xstate: default_features).
 abbrev pub default_features : List Row → ℕ
-default_features rows = set_of (λ c. has_row rows c && not (c == 18)) component_numbers
+default_features rows = set_of (λ c. has_row rows c && not (c == tiledata_number)) component_numbers
 
 -- The end of the last row that a test names, and at least 576, the end of the header.
 unfoldable pub end_of : (ℕ → Bool) → List Row → ℕ
@@ -177,4 +189,4 @@ abbrev pub full_size : List Row → ℕ
 full_size rows = end_of (λ _. true) rows
 
 abbrev pub default_size : List Row → ℕ
-default_size rows = end_of (λ c. not (c == 18)) rows
+default_size rows = end_of (λ c. not (c == tiledata_number)) rows

@@ -4,7 +4,7 @@ ghost use Rattle.std.specs.Prelude.{◌≡◌, None};
 ghost use Rattle.xs_base.specs.Layout as table;
 ghost use Rattle.xs_base.specs.Component as component;
 
-use xs_base::{Comp, Features, LayoutError, LayoutFault, Row};
+use xs_base::{Comp, LayoutError, LayoutFault, Row};
 
 /// The greatest end of a component, in bytes.
 const MOST_BYTES: u64 = 16384;
@@ -49,10 +49,10 @@ pub fn row_error(before: Option<Row>, row: Row) -> Option<LayoutError>
 pub fn table_error(rows: &[Row]) -> Option<LayoutError>
     ensures { result ≡ table.table_error rows.now }
 {
-    if !(has_row(rows, Comp(0)) && has_row(rows, Comp(1))) {
+    if !(has_row(rows, Comp::X87) && has_row(rows, Comp::SSE)) {
         return Some(LayoutError::LegacyMissing);
     }
-    if has_row(rows, Comp(17)) != has_row(rows, Comp(18)) {
+    if has_row(rows, Comp::TILECFG) != has_row(rows, Comp::TILEDATA) {
         return Some(LayoutError::TileAlone);
     }
     None
@@ -103,20 +103,17 @@ fn has_wrong_size(row: Row) -> bool
     ensures { result ≡ table.has_wrong_size row }
 {
     row.size != component_size(row.comp)
-        || (row.comp.0 == 0 && row.offset != 0)
-        || (row.comp.0 == 1 && row.offset != 160)
+        || (row.comp == Comp::X87 && row.offset != 0)
+        || (row.comp == Comp::SSE && row.offset != 160)
 }
 
-/// Whether the component may not have these flags. Of the flags bit 0 is a supervisor component and bit 2 is XFD, which
-/// TILEDATA alone has.
+/// Whether the component may not have these flags: none is a supervisor's, and XFD supports TILEDATA alone.
 fn has_wrong_flags(row: Row) -> bool
     ensures { result ≡ table.has_wrong_flags row }
 {
-    let flags = Features(row.flags as u64);
     row.flags > 7
-        || flags.has(Comp(0))
-        || (flags.has(Comp(2)) && row.comp.0 != 18)
-        || (!flags.has(Comp(2)) && row.comp.0 == 18)
+        || row.is_supervisor()
+        || row.has_xfd() != (row.comp == Comp::TILEDATA)
         || (row.comp.0 <= 1 && row.flags != 0)
 }
 

@@ -49,7 +49,7 @@ pub fn write_event(script: &Script, event: &Event, out: &mut Line)
         Event::Grow { task } => begin(out, b"grow", name_of(script, *task)),
         Event::Kill { task, signo, why } => {
             begin(out, b"kill", name_of(script, *task));
-            put_number(out, u32::from(signo.0));
+            put_number(out, u32::from(signo.number));
             put_word(out, cause_word(*why));
         }
         Event::End { task } => begin(out, b"end", name_of(script, *task)),
@@ -149,7 +149,7 @@ fn put_signal(out: &mut Line, signal: Option<Signo>)
 {
     match signal {
         None => put_word(out, b"-"),
-        Some(signo) => put_number(out, u32::from(signo.0)),
+        Some(signo) => put_number(out, u32::from(signo.number)),
     }
 }
 
