@@ -1,13 +1,16 @@
 -- Where the components of a machine stand, in the standard format and by XCOMP_BV in either.
-use Rattle.std.proofs.Common.{◌≡◌, ◌≢◌, ◌⊎◌, inl, inr, ℕ, ◌+◌, ◌<◌, ◌≤◌, Bool, true, false, not, ◌&&◌, ◌||◌, nat_le, nat_lt, List, length, take, get_or, if◌then◌else◌, refl, ap, subst, ◌∙◌, arith}
-use Rattle.std.proofs.lemmas.Bool.{cases_order, cases_lt, cases_Bool, le-leb}
+use Rattle.std.proofs.Common.{◌≡◌, ◌≢◌, ◌⊎◌, inl, inr, ℕ, zero, suc, ◌+◌, ◌%◌, ◌<◌, ◌≤◌, ◌==◌, Bool, true, false, true≢false, not, ◌&&◌, ◌||◌, nat_le, List, [], ◌∷◌, length, get_or, Option, Some, None, if◌then◌else◌, refl, sym, ap, subst, ◌∙◌, arith, nat_lt, take}
+use Rattle.std.proofs.lemmas.Bool.{cases_order, cases_lt, cases_eq, cases_Bool, le-leb}
 use Rattle.std.proofs.lemmas.Bool.Decides.{nat_tests}
 use Rattle.std.specs.List.{list_any}
 use Rattle.xs_base.specs.declared.component.Row.{Row}
+use Rattle.xs_base.specs.Bytes.{is_within}
+use Rattle.xs_base.specs.File.{is_own}
 use Rattle.xs_base.specs.Sets.{has}
 use Rattle.xs_base.specs.Layout.{IsLayout, IsSound, has_row, row_end, standard_size}
 use Rattle.xs_base.specs.Compact.{is_extended, is_compacted, compact_offset, compact_size, place, has_place}
 use Rattle.std.specs.Cmp.Derive.{both_true}
+use Rattle.xs_base.proofs.ByteLemmas.{within_below, within_above, within_tells}
 use Rattle.xs_base.proofs.CompactLemmas.{compact_offset_low, compact_size_low, compact_size_covers, compact_apart}
 use Rattle.xs_base.proofs.SizeLemmas.{end_covers}
 use Rattle.xs_base.proofs.LayoutLemmas.{AreApart, Passes, passes_in, rising, none_before, layout_parts, sound_at}
@@ -136,3 +139,38 @@ compacted_within rows h xcomp i r lt is on placed = here (cases_lt r.comp.0 2)
 -- and a component of a mask by the mask's standard size in the standard format
 pub standard_within : (rows : List Row) (xcomp mask i : ℕ) (r : Row) → i < length rows → r ≡ get_or rows i r → is_compacted xcomp ≡ false → has mask r.comp.0 ≡ true → place rows xcomp r + r.size ≤ standard_size rows mask
 standard_within rows xcomp mask i r lt is off on = rw (place_standard rows xcomp r off) (end_covers (has mask) rows i r lt is on)
+
+-- ---- bytes of no row's place
+
+-- a row's place is in the legacy region or behind the header
+pub place_sides : (rows : List Row) (xcomp : ℕ) (r : Row) → IsSound r → (place rows xcomp r + r.size ≤ 416) ⊎ (576 ≤ place rows xcomp r)
+place_sides rows xcomp r sound = elim (cases_lt r.comp.0 2) [
+  | inl low ↦ inl (omega (arith, place_legacy rows xcomp r low, legacy_end r sound low))
+  | inr high ↦ inr (place_extended rows xcomp r sound high)
+]
+
+-- so nothing of it is between
+pub place_outside : (rows : List Row) (xcomp : ℕ) (r : Row) (k : ℕ) → IsSound r → is_within 416 160 k ≡ true → is_within (place rows xcomp r) r.size k ≡ false
+place_outside rows xcomp r k sound inside =
+    let tells = within_tells 416 160 k inside in
+    elim (place_sides rows xcomp r sound) [
+      | inl low ↦ within_above (place rows xcomp r) r.size k (omega arith)
+      | inr high ↦ within_below (place rows xcomp r) r.size k (omega arith)
+    ]
+
+-- Bytes 24 to 31 belong to no register.
+pub own_outside : (rows : List Row) (xcomp : ℕ) (r : Row) (k : ℕ) → IsSound r → is_own r.comp.0 k ≡ true → is_within 24 8 (place rows xcomp r + k) ≡ false
+own_outside rows xcomp r k sound own = here (cases_eq r.comp.0 0) (cases_eq r.comp.0 1)
+  where
+    middle : (a b c : Bool) → (not a && not b && not c) ≡ true → b ≡ false
+    middle true b c h = absurd (true≢false (sym h))
+    middle false true c h = absurd (true≢false (sym h))
+    middle false false c h = refl
+
+    here : (r.comp.0 ≡ 0) ⊎ (r.comp.0 ≡ 0 → ⊥) → (r.comp.0 ≡ 1) ⊎ (r.comp.0 ≡ 1 → ⊥) → is_within 24 8 (place rows xcomp r + k) ≡ false
+    here (inl x87) b =
+        let at : place rows xcomp r + k ≡ k = omega (arith, place_legacy rows xcomp r (omega arith), (sound.x87 x87).0) in
+        let own0 : is_own 0 k ≡ true = ap (λ c. is_own c k) (sym x87) ∙ own in
+        ap (is_within 24 8) at ∙ middle (k == 5) (is_within 24 8 k) (nat_le 32 k && nat_le 10 (k % 16)) own0
+    here (inr a) (inl sse) = within_above 24 8 (place rows xcomp r + k) (omega (arith, place_legacy rows xcomp r (omega arith), (sound.sse sse).0))
+    here (inr a) (inr b) = within_above 24 8 (place rows xcomp r + k) (omega (arith, place_extended rows xcomp r sound (omega arith)))

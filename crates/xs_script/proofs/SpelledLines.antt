@@ -1,10 +1,11 @@
 -- The lines of a script that a text spells.
-use Rattle.std.proofs.Common.{◌≡◌, ℕ, ◌+◌, ◌<◌, ◌≤◌, Bool, true, false, ◌&&◌, ◌||◌, ◌==◌, nat_le, nat_lt, List, [], ◌∷◌, ◌++◌, length, map, None, Ok, refl, sym, ◌∙◌, ap, subst, arith, length-append}
+use Rattle.std.proofs.Common.{◌≡◌, ℕ, ◌+◌, ◌<◌, ◌≤◌, ◌^◌, Bool, true, false, ◌&&◌, ◌||◌, ◌==◌, nat_le, nat_lt, List, [], ◌∷◌, ◌++◌, length, map, Option, Some, None, Ok, refl, sym, ◌∙◌, ap, subst, arith, length-append}
 use Rattle.std.specs.Prelude.{bytes_eq}
 use Rattle.std.specs.List.{AllByRecursion, flat_map, list_any, list_all}
 use Rattle.std.proofs.lemmas.Bool.{lt-leb, le-leb, lt-ltb}
 use Rattle.std.proofs.lemmas.List.{append_assoc, append-nil, append_cancel_left}
 use Rattle.std.proofs.lemmas.Slice.Eq.{bytes_eq-Decides}
+use Rattle.std.proofs.Props.{props}
 use Rattle.xs_base.specs.declared.component.Row.{Row}
 use Rattle.xs_base.specs.declared.component.Place.{Place}
 use Rattle.xs_base.specs.Layout.{IsSound, IsLayout, first_row_fault}
@@ -33,7 +34,7 @@ use Rattle.xs_script.proofs.CommandFaults.{fits_length}
 use Rattle.xs_script.proofs.HeadRows.{row_leads, rows_over}
 use Rattle.xs_script.proofs.Fronts.{all_join, leads_join}
 use Rattle.xs_script.proofs.KnownLines.{all_parts}
-use Rattle.xs_script.proofs.WholeScripts.{HasNoRows, blocks_no_rows, table_of_lines, head_known, may_end_some}
+use Rattle.xs_script.proofs.WholeScripts.{blocks_no_rows, no_rows_table, table_of_lines, head_known, may_end_some}
 use Rattle.xs_script.proofs.OneRefusal.{one_lines, passes_not_refused, known_not_fails}
 
 -- ---- each has a spelling
@@ -192,10 +193,6 @@ pub spelled_known : (text : List ℕ) (script : Script) → Spells text script �
 spelled_known text script h =
     all_join (IsKnown script.layout) (head_lines script) (flat_map block_lines script.blocks) (head_known script.layout script) (blocks_are_known script.layout script.blocks h.valid.commands h.built.registers)
 
-no_rows_table : (ls : List Line) → HasNoRows ls → table_of ls ≡ []
-no_rows_table [] h = refl
-no_rows_table (l ∷ ls) h = rw h.0 (no_rows_table ls h.1)
-
 pub spelled_table : (text : List ℕ) (script : Script) → Spells text script → table_of (script_lines script) ≡ script.layout
 spelled_table text script h = table_of_lines script (flat_map block_lines script.blocks) h.valid.machine (no_rows_table (flat_map block_lines script.blocks) (blocks_no_rows script.blocks))
 
@@ -212,8 +209,17 @@ not_both text script number kind h (ByCommand r) =
 
 -- ---- one script
 
+-- Orders of one number and one command are the same: that the number is in its range has one proof.
+abbrev order_of : (n : ℕ) → n < 2 ^ 32 → Command → Order
+order_of n small command = record { number = n; command = command; in_range = small }
+
+one_proof : (n : ℕ) → IsProp (n < 2 ^ 32)
+one_proof n = Prim.hlevel props
+
 same_order : (a b : Order) → a.number ≡ b.number → a.command ≡ b.command → a ≡ b
-same_order a b en ec = ap (λ (n : ℕ). record { number = n; command = a.command }) en ∙ ap (λ (k : Command). record { number = b.number; command = k }) ec
+same_order a b en ec =
+    subst (λ n. (small : n < 2 ^ 32) → a ≡ order_of n small b.command) en
+    (λ small. ap (λ (h : a.number < 2 ^ 32). order_of a.number h a.command) (one_proof a.number a.in_range small) ∙ ap (order_of a.number small) ec) b.in_range
 
 same_orders : (number : ℕ) (x y : List Order) (r s : List Line) → AreNumbered number x → AreNumbered number y → order_lines x ++ lines.End ∷ r ≡ order_lines y ++ lines.End ∷ s → (x ≡ y) × (r ≡ s)
 same_orders number [] [] r s hx hy e = (refl, cc e)

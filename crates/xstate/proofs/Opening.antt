@@ -127,6 +127,6 @@ engine_opens script bank old mark engine built set_up none first opened pool = r
   rest = rw (none, first) (at_opening script (initial_file script.layout) built);
   parked = opened_parked script.layout engine.tasks (length script.blocks) opened;
   machine = rw set_up (record { rows_are = refl; armed = refl });
-  held = λ t is. absurd (cc (sym none ∙ is));
+  holds = λ t is. absurd (cc (sym none ∙ is));
   pool = pool;
 }
