@@ -49,10 +49,12 @@ root_bytes rows c k = elim (cases_eq c 9) [
 pub root_is_private : (rows : List Row) → IsLayout rows → IsPrivateTask rows (root_task rows)
 unfolding root_task
 root_is_private rows table = record {
-  is_file = pkru_is_file (initial_file rows) start_pkru (initial_is_file rows table);
-  rows_are = refl;
-  bytes = root_bytes rows;
-  control = lit< tt;
+  file = record {
+    is_file = pkru_is_file (initial_file rows) start_pkru (initial_is_file rows table);
+    rows_are = refl;
+    bytes = root_bytes rows;
+    control = lit< tt;
+  };
   tiles_are = λ small. part_other (initial_file rows) 9 18 (to_le_bytes w32 start_pkru ++ zeros 4) (λ e. absurd (cc e)) ∙ initial_at rows 18 (lit< tt);
   frame_size = length_zeros 16388;
   frame_bytes = zeros_bytes 16388;

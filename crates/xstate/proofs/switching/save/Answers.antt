@@ -11,7 +11,7 @@ pub returns-clause-area : goal.returns-clause-area
 returns-clause-area g c =
     let rows = c.args.layout.now in
     let old = g.B.Bank.state c.args.bank.now in
-    let held = c.requires.held in
+    let held = c.requires.file in
     let after = c.xsaves.new.area.bytes.items in
     let save = loadable_save rows held.0 old.file c.class_features-mask.result.0 c.args.lease.now held.1 held.2 c.class_features-mask.ensures.bits c.requires.area in
     let names = c.xsaves.ensures.area.saved.names ∙ ap compacted c.class_features-mask.ensures.bits in
