@@ -18,7 +18,7 @@ use Rattle.xs_base.specs.Sets.{has}
 use Rattle.xs_base.specs.Standard.{has_control}
 use Rattle.xs_base.proofs.LayoutLemmas.{sound_at, has_row_at, has_row_known}
 use Rattle.xs_base.proofs.SetLemmas.{has_set_of, same_set}
-use Rattle.xs_area.proofs.TakeLemmas.{row_index}
+use Rattle.xs_base.proofs.RowLemmas.{row_index}
 use Rattle.xs_bank.specs.declared.tracking.LoadedArea.{LoadedArea}
 use Rattle.xs_bank.specs.Tracking.{shown}
 use Rattle.xs_bank.proofs.SetBits.{bit_cases}

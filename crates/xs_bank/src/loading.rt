@@ -11,8 +11,9 @@ ghost use Rattle.xs_bank.specs.Load.{IsLoaded};
 ghost use Rattle.xs_base.specs.Sets.{has};
 ghost use Rattle.xs_bank.specs.Rows.{IsRowLoaded};
 
-use xs_area::{Cursor, mxcsr, xcomp_bv, xstate_bv};
+use xs_area::{mxcsr, xcomp_bv, xstate_bv};
 use xs_base::{Comp, Features, INITIAL_MXCSR, Row};
+use xs_layout::Cursor;
 use xs_regs::File;
 
 /// Loads the components of the mask from an area in either format, and MXCSR as it is given. The area has the place of
@@ -35,8 +36,7 @@ fn load_components(file: &mut File, mask: Features, area: &[u8])
     let bits = Features(xstate_bv(area));
     let mut cursor = Cursor::new(Features(xcomp_bv(area)));
     'each: for i in 0..file.layout().len() {
-        let row = file.layout().row_at(i);
-        let at = cursor.pass(row);
+        let (row, at) = cursor.pass(file.layout(), i);
         if mask.has(row.comp) {
             load_row(file, bits, row, area, at);
         }

@@ -107,7 +107,7 @@ impl Layout {
 }
 
 /// Where the row's component begins in the compacted format behind byte `end`.
-fn aligned(row: Row, end: u32) -> u32
+pub(crate) fn aligned(row: Row, end: u32) -> u32
     requires { end + 63 < 2 ^ 32 }
     ensures { result ≡ compact.aligned row end }
 {
@@ -119,7 +119,7 @@ fn aligned(row: Row, end: u32) -> u32
 }
 
 /// Where the components end in the compacted format with the row's, which has a place where the mask names it.
-fn compact_after(mask: Features, end: u32, row: Row) -> u32
+pub(crate) fn compact_after(mask: Features, end: u32, row: Row) -> u32
     requires { end + 63 + row.size < 2 ^ 32 }
     ensures { result ≡ compact.compact_after mask.0 end row }
 {

@@ -144,16 +144,13 @@ fn is_register_word(bytes: &[u8]) -> bool
 pub fn read_bytes(text: &[u8]) -> Option<Lane>
     ensures { ReadsAs encode_lower IsValue kept_bytes result text.now }
 {
-    if text.is_empty() {
+    if text.is_empty() || !is_hex_text(text) {
         return None;
     }
     if text.len() <= 128 {
-        return read_lane(text.len() / 2, text);
-    }
-    if is_hex_text(text) {
-        Some(Lane::from_slice(b""))
+        decode_lane(text.len() / 2, text)
     } else {
-        None
+        Some(Lane::from_slice(b""))
     }
 }
 
@@ -176,19 +173,6 @@ fn are_lower_digits(bytes: &[u8]) -> bool
     bytes.iter().all(|b| is_lower_digit(*b))
 }
 
-/// The lane of `len` bytes, at most 64, that the text spells in lower-case hex.
-fn read_lane(len: usize, text: &[u8]) -> Option<Lane>
-    requires { len ≤ 64 }
-    ensures { Reads encode_lower (IsLane len) result text.now }
-{
-    let lane = decode_lane(len, text)?;
-    if is_spelling(&lane, text) {
-        Some(lane)
-    } else {
-        None
-    }
-}
-
 /// The lane that the crate `hex` reads: also one with capital digits.
 fn decode_lane(len: usize, text: &[u8]) -> Option<Lane>
     requires { len ≤ 64 }
@@ -200,15 +184,4 @@ fn decode_lane(len: usize, text: &[u8]) -> Option<Lane>
         Ok(()) => Some(Lane::from_slice(lane)),
         Err(_) => None,
     }
-}
-
-/// Whether the text is the lane's, in lower-case hex.
-fn is_spelling(lane: &Lane, text: &[u8]) -> bool
-    ensures { result ≡ bytes_eq (encode_lower lane.now) text.now }
-{
-    let bytes = lane.as_slice();
-    let mut digits = [0u8; 128];
-    let spelled = &mut digits[..2 * bytes.len()];
-    let _ = hex::encode_to_slice(bytes, spelled);
-    *spelled == *text
 }

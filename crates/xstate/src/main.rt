@@ -23,7 +23,7 @@ use crate::status::Status;
 use crate::top::top;
 use std::alloc::{AllocError, Global};
 use std::env;
-use std::io::{self, BufWriter, ErrorKind};
+use std::io::{self, ErrorKind};
 use std::process::ExitCode;
 use xs_bank::{Bank, Cpu, TrackBank};
 use xs_io::{StdSink, StdSource};
@@ -31,9 +31,9 @@ use xs_io::{StdSink, StdSource};
 /// The most processors that a script may name.
 const PROCESSORS: u32 = 16;
 
-/// Takes the command line, standard input and a buffer over standard output, and ends with the status of the top call.
-/// The last flush is made here, since a buffer that is dropped loses its error: where it fails the output was not all
-/// taken, and the status is that of a failed write.
+/// Takes the command line, standard input and standard output, and ends with the status of the top call. The last flush is
+/// made here, since a sink that is dropped loses its error: where it fails the output was not all taken, and the status is
+/// that of a failed write. After a failed write nothing more is handed on.
 fn main(rt: HostRuntime) -> ExitCode {
     ExitCode::from(answer(&rt).code())
 }
@@ -44,14 +44,13 @@ fn answer(rt: &HostRuntime) -> Status {
     let Ok(words) = command_line(rt) else {
         return Status::NoMemory;
     };
-    let Ok(writer) = BufWriter::new(alloc, io::writer(rt)) else {
+    let Ok(mut sink) = StdSink::open(alloc, io::writer(rt)) else {
         return Status::NoMemory;
     };
     let Ok(mut cpus) = processors(alloc) else {
         return Status::NoMemory;
     };
     let mut source = StdSource::new(rt.reader());
-    let mut sink = StdSink::new(writer);
     let status = top(alloc, &words, &mut source, &mut sink, &mut cpus);
     match sink.flush() {
         Ok(()) => status,
