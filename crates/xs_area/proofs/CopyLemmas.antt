@@ -1,6 +1,6 @@
 -- Components copied along the rows.
-use Rattle.std.proofs.Common.{◌≡◌, ◌⊎◌, ℕ, ◌+◌, ◌-◌, ◌<◌, ◌≤◌, ◌==◌, ◌&&◌, ◌%◌, nat_le, Bool, true, false, true≢false, not, List, length, get_or, if◌then◌else◌, refl, sym, ap, subst, ◌∙◌, arith, inl, inr}
-use Rattle.std.proofs.lemmas.Bool.{cases_eq, cases_lt}
+use Rattle.std.proofs.Common.{◌≡◌, ℕ, ◌+◌, ◌-◌, ◌<◌, ◌≤◌, ◌&&◌, true, false, true≢false, not, List, length, get_or, if◌then◌else◌, refl, sym, ap, subst, ◌∙◌, arith, inl, inr}
+use Rattle.std.proofs.lemmas.Bool.{cases_lt}
 use Rattle.std.proofs.lemmas.List.{get_or_default}
 use Rattle.std.proofs.lemmas.List.Edits.{length-between, get_or-between}
 use Rattle.std.specs.Prelude.{slice_range}
@@ -14,49 +14,11 @@ use Rattle.xs_base.specs.Header.{xcomp_bv}
 use Rattle.xs_base.specs.Layout.{IsLayout, IsSound}
 use Rattle.xs_base.specs.Sets.{has}
 use Rattle.xs_base.specs.Standard.{IsWritten}
-use Rattle.xs_base.proofs.ByteLemmas.{within_in, within_below, within_above, within_tells}
+use Rattle.xs_base.proofs.ByteLemmas.{within_in, within_below, within_above}
 use Rattle.xs_base.proofs.LayoutLemmas.{AreApart, sound_at}
-use Rattle.xs_base.proofs.PlaceLemmas.{place_legacy, place_extended, legacy_end, places_apart}
+use Rattle.xs_base.proofs.PlaceLemmas.{places_apart, place_outside, own_outside}
 use Rattle.xs_area.specs.Copy.{AreCopied}
-use Rattle.xs_area.specs.Cursor.{place_after}
-use Rattle.xs_area.specs.declared.cursor.Cursor.{Cursor}
-use Rattle.xs_area.proofs.CursorLemmas.{IsBefore, passed, before_place, before_next}
 use Rattle.xs_area.proofs.RoomLemmas.{room_tells}
-
--- ---- a row's place
-
--- a row's place is in the legacy region or behind the header
-pub place_sides : (rows : List Row) (xcomp : ℕ) (r : Row) → IsSound r → (place rows xcomp r + r.size ≤ 416) ⊎ (576 ≤ place rows xcomp r)
-place_sides rows xcomp r sound = elim (cases_lt r.comp.0 2) [
-  | inl low ↦ inl (omega (arith, place_legacy rows xcomp r low, legacy_end r sound low))
-  | inr high ↦ inr (place_extended rows xcomp r sound high)
-]
-
--- so nothing of it is between
-pub place_outside : (rows : List Row) (xcomp : ℕ) (r : Row) (k : ℕ) → IsSound r → is_within 416 160 k ≡ true → is_within (place rows xcomp r) r.size k ≡ false
-place_outside rows xcomp r k sound inside =
-    let tells = within_tells 416 160 k inside in
-    elim (place_sides rows xcomp r sound) [
-      | inl low ↦ within_above (place rows xcomp r) r.size k (omega arith)
-      | inr high ↦ within_below (place rows xcomp r) r.size k (omega arith)
-    ]
-
--- Bytes 24 to 31 belong to no register.
-pub own_outside : (rows : List Row) (xcomp : ℕ) (r : Row) (k : ℕ) → IsSound r → is_own r.comp.0 k ≡ true → is_within 24 8 (place rows xcomp r + k) ≡ false
-own_outside rows xcomp r k sound own = here (cases_eq r.comp.0 0) (cases_eq r.comp.0 1)
-  where
-    middle : (a b c : Bool) → (not a && not b && not c) ≡ true → b ≡ false
-    middle true b c h = absurd (true≢false (sym h))
-    middle false true c h = absurd (true≢false (sym h))
-    middle false false c h = refl
-
-    here : (r.comp.0 ≡ 0) ⊎ (r.comp.0 ≡ 0 → ⊥) → (r.comp.0 ≡ 1) ⊎ (r.comp.0 ≡ 1 → ⊥) → is_within 24 8 (place rows xcomp r + k) ≡ false
-    here (inl x87) b =
-        let at : place rows xcomp r + k ≡ k = omega (arith, place_legacy rows xcomp r (omega arith), (sound.x87 x87).0) in
-        let own0 : is_own 0 k ≡ true = ap (λ c. is_own c k) (sym x87) ∙ own in
-        ap (is_within 24 8) at ∙ middle (k == 5) (is_within 24 8 k) (nat_le 32 k && nat_le 10 (k % 16)) own0
-    here (inr a) (inl sse) = within_above 24 8 (place rows xcomp r + k) (omega (arith, place_legacy rows xcomp r (omega arith), (sound.sse sse).0))
-    here (inr a) (inr b) = within_above 24 8 (place rows xcomp r + k) (omega (arith, place_extended rows xcomp r sound (omega arith)))
 
 -- a component as it was sliced and put
 pub row_put : (from : List ℕ) (at into : ℕ) (r : Row) (old new : List ℕ) → at + r.size ≤ length from → IsWritten into (length (slice_range from at (at + r.size))) (λ k. if is_own r.comp.0 k then get_or (slice_range from at (at + r.size)) k 0 else 0) old new → IsWritten into r.size (λ k. if is_own r.comp.0 k then get_or from (at + k) 0 else 0) old new
@@ -69,31 +31,17 @@ row_put from at into r old new fits written =
 
 -- ---- along the rows
 
--- The components of the rows before i have been copied, and both cursors stand before row i.
-pub record AreCopiedTo (rows : List Row) (from : List ℕ) (names copied i : ℕ) (source target : Cursor) (old out : List ℕ) : Type 0 where
-  pub are : AreCopied rows from names copied i old out
-  pub source_is : IsBefore rows names i source
-  pub target_is : IsBefore rows (xcomp_bv old) i target
-
 -- before the first row
-pub copied_first : (rows : List Row) (from : List ℕ) (names copied : ℕ) (source target : Cursor) (old : List ℕ) → IsBefore rows names 0 source → IsBefore rows (xcomp_bv old) 0 target → AreCopiedTo rows from names copied 0 source target old old
-copied_first rows from names copied source target old s t = record {
-  are = record { len = refl; each = λ j r none lt is bit k small own. absurd (omega arith); others = λ k inside. refl };
-  source_is = s;
-  target_is = t;
-}
+pub copied_first : (rows : List Row) (from : List ℕ) (names copied : ℕ) (old : List ℕ) → AreCopied rows from names copied 0 old old
+copied_first rows from names copied old = record { len = refl; each = λ j r none lt is bit k small own. absurd (omega arith); others = λ k inside. refl }
 
-module _ (rows : List Row) (table : IsLayout rows) (from : List ℕ) (names copied i : ℕ) (source target : Cursor) (old out : List ℕ) (r : Row) (lt : i < length rows) (is : r ≡ get_or rows i r) (at : AreCopiedTo rows from names copied i source target old out) where
+module _ (rows : List Row) (table : IsLayout rows) (from : List ℕ) (names copied i : ℕ) (old out : List ℕ) (r : Row) (lt : i < length rows) (is : r ≡ get_or rows i r) (at : AreCopied rows from names copied i old out) where
   same_row : (j : ℕ) (s : Row) → s ≡ get_or rows j s → j ≡ i → s ≡ r
   same_row j s it one = it ∙ ap (λ n. get_or rows n s) one ∙ get_or_default rows i s r lt ∙ sym is
 
   -- a component was copied
-  pub copied_written : (new : List ℕ) (p q : ℕ) → ((c : ℕ) → has copied c ≡ true → has_room rows old c ≡ true) → has copied r.comp.0 ≡ true → p ≡ place_after source.names.0 source.end r → q ≡ place_after target.names.0 target.end r → IsWritten q r.size (λ k. if is_own r.comp.0 k then get_or from (p + k) 0 else 0) out new → AreCopiedTo rows from names copied (i + 1) (passed source r) (passed target r) old new
-  copied_written new p q room bit p_is q_is written = record {
-    are = record { len = written.len ∙ at.are.len; each = each; others = others };
-    source_is = before_next rows table names i source r lt is at.source_is;
-    target_is = before_next rows table (xcomp_bv old) i target r lt is at.target_is;
-  }
+  pub copied_written : (new : List ℕ) (p q : ℕ) → ((c : ℕ) → has copied c ≡ true → has_room rows old c ≡ true) → has copied r.comp.0 ≡ true → p ≡ place rows names r → q ≡ place rows (xcomp_bv old) r → IsWritten q r.size (λ k. if is_own r.comp.0 k then get_or from (p + k) 0 else 0) out new → AreCopied rows from names copied (i + 1) old new
+  copied_written new p q room bit p_place q_place written = record { len = written.len ∙ at.len; each = each; others = others }
     where
       x : ℕ
       x = xcomp_bv old
@@ -101,18 +49,12 @@ module _ (rows : List Row) (table : IsLayout rows) (from : List ℕ) (names copi
       sound : IsSound r
       sound = sound_at rows table i r lt is
 
-      p_place : p ≡ place rows names r
-      p_place = p_is ∙ before_place rows table names i source r lt is at.source_is
-
-      q_place : q ≡ place rows (xcomp_bv old) r
-      q_place = q_is ∙ before_place rows table (xcomp_bv old) i target r lt is at.target_is
-
       -- a byte outside of the place
       kept : (n : ℕ) → is_within (place rows (xcomp_bv old) r) r.size n ≡ false → get_or new n 0 ≡ get_or out n 0
       kept n off = written.each n ∙ ap (λ b. if b && not (is_within 24 8 n) then (if is_own r.comp.0 (n - q) then get_or from (p + (n - q)) 0 else 0) else get_or out n 0) (ap (λ a. is_within a r.size n) q_place ∙ off)
 
       others : (k : ℕ) → is_within 416 160 k ≡ true → get_or new k 0 ≡ get_or old k 0
-      others k inside = kept k (place_outside rows (xcomp_bv old) r k sound inside) ∙ at.are.others k inside
+      others k inside = kept k (place_outside rows (xcomp_bv old) r k sound inside) ∙ at.others k inside
 
       -- a byte of the place
       here : (k : ℕ) → k < r.size → is_own r.comp.0 k ≡ true → get_or new (place rows (xcomp_bv old) r + k) 0 ≡ get_or from (place rows names r + k) 0
@@ -136,7 +78,7 @@ module _ (rows : List Row) (table : IsLayout rows) (from : List ℕ) (names copi
             | inl first ↦ within_above (place rows (xcomp_bv old) r) r.size (place rows (xcomp_bv old) s + k) (omega arith)
             | inr later ↦ within_below (place rows (xcomp_bv old) r) r.size (place rows (xcomp_bv old) s + k) (omega arith)
           ] in
-          kept (place rows (xcomp_bv old) s + k) off ∙ at.are.each j s early within it bit_s k small own
+          kept (place rows (xcomp_bv old) s + k) off ∙ at.each j s early within it bit_s k small own
 
       each : (j : ℕ) (s : Row) → j < i + 1 → j < length rows → s ≡ get_or rows j s → has copied s.comp.0 ≡ true → (k : ℕ) → k < s.size → is_own s.comp.0 k ≡ true → get_or new (place rows (xcomp_bv old) s + k) 0 ≡ get_or from (place rows names s + k) 0
       each j s early within it bit_s k small own = elim (cases_lt j i) [
@@ -148,22 +90,18 @@ module _ (rows : List Row) (table : IsLayout rows) (from : List ℕ) (names copi
       ]
 
   -- a component that isn't copied
-  pub copied_left : has copied r.comp.0 ≡ false → AreCopiedTo rows from names copied (i + 1) (passed source r) (passed target r) old out
+  pub copied_left : has copied r.comp.0 ≡ false → AreCopied rows from names copied (i + 1) old out
   copied_left left = record {
-    are = record {
-      len = at.are.len;
-      each = λ j s early within it bit k small own. elim (cases_lt j i) [
-        | inl less ↦ at.are.each j s less within it bit k small own
-        | inr more ↦
-            let same = same_row j s it (omega arith) in
-            absurd (true≢false (sym bit ∙ ap (λ (t : Row). has copied t.comp.0) same ∙ left))
-      ];
-      others = at.are.others;
-    };
-    source_is = before_next rows table names i source r lt is at.source_is;
-    target_is = before_next rows table (xcomp_bv old) i target r lt is at.target_is;
+    len = at.len;
+    each = λ j s early within it bit k small own. elim (cases_lt j i) [
+      | inl less ↦ at.each j s less within it bit k small own
+      | inr more ↦
+          let same = same_row j s it (omega arith) in
+          absurd (true≢false (sym bit ∙ ap (λ (t : Row). has copied t.comp.0) same ∙ left))
+    ];
+    others = at.others;
   }
 
 -- every row
-pub copied_all : (rows : List Row) (from : List ℕ) (names copied i : ℕ) (source target : Cursor) (old out : List ℕ) → length rows ≡ i → AreCopiedTo rows from names copied i source target old out → AreCopied rows from names copied (length rows) old out
-copied_all rows from names copied i source target old out last at = let P : ℕ → Type 0 = λ n. AreCopied rows from names copied n old out in subst P (sym last) at.are
+pub copied_all : (rows : List Row) (from : List ℕ) (names copied i : ℕ) (old out : List ℕ) → length rows ≡ i → AreCopied rows from names copied i old out → AreCopied rows from names copied (length rows) old out
+copied_all rows from names copied i old out last at = let P : ℕ → Type 0 = λ n. AreCopied rows from names copied n old out in subst P (sym last) at

@@ -1,5 +1,4 @@
 pub mod LittleEndian
-pub mod CursorLemmas
 pub mod StoredLemmas
 pub mod RoomLemmas
 pub mod FinishLemmas

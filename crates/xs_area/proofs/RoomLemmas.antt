@@ -10,21 +10,20 @@ use Rattle.xs_base.specs.Compact.{is_compacted, place, has_place}
 use Rattle.xs_base.specs.Header.{xcomp_bv}
 use Rattle.xs_base.specs.Layout.{IsLayout, IsRowOf, has_row, row_of}
 use Rattle.xs_base.specs.Sets.{has}
-use Rattle.xs_base.proofs.LayoutLemmas.{has_row_at, sound_at}
+use Rattle.xs_base.proofs.LayoutLemmas.{sound_at}
 use Rattle.xs_base.proofs.PlaceLemmas.{place_legacy}
 use Rattle.xs_base.proofs.RowLemmas.{row_of_at, row_of_tells, row_found, has_sse}
 use Rattle.xs_area.specs.Copy.{is_copied}
-use Rattle.xs_area.specs.declared.cursor.Cursor.{Cursor}
-use Rattle.xs_area.proofs.CursorLemmas.{IsBefore, passed, before_place, before_next}
-use Rattle.xs_area.specs.Cursor.{place_after}
 
 -- ---- room
 
 -- whether there is room for a row's component
-pub room_at : (rows : List Row) → IsLayout rows → (area : List ℕ) (i : ℕ) (r : Row) → i < length rows → r ≡ get_or rows i r → has_room rows area r.comp.0 ≡ ((not (is_compacted (xcomp_bv area)) || has (xcomp_bv area) r.comp.0) && nat_le (place rows (xcomp_bv area) r + r.size) (length area))
-room_at rows table area i r lt is =
-    ap (λ b. b && (not (is_compacted (xcomp_bv area)) || has (xcomp_bv area) r.comp.0) && ends_inside rows area (row_of rows r.comp.0)) (has_row_at rows i r lt is)
-    ∙ ap (λ o. (not (is_compacted (xcomp_bv area)) || has (xcomp_bv area) r.comp.0) && ends_inside rows area o) (row_of_at rows table i r lt is)
+pub room_at : (rows : List Row) → IsLayout rows → (area : List ℕ) (i : ℕ) (r : Row) → i < length rows → r ≡ get_or rows i r → has_room rows area r.comp.0 ≡ (has_place rows (xcomp_bv area) r.comp.0 && nat_le (place rows (xcomp_bv area) r + r.size) (length area))
+room_at rows table area i r lt is = ap (λ o. has_place rows (xcomp_bv area) r.comp.0 && ends_inside rows area o) (row_of_at rows table i r lt is)
+
+-- what the test of a row's room answers
+pub room_test : (rows : List Row) → IsLayout rows → (area : List ℕ) (i : ℕ) (r : Row) (names at : ℕ) → i < length rows → r ≡ get_or rows i r → names ≡ xcomp_bv area → at ≡ place rows names r → (has_place rows names r.comp.0 && nat_le (at + r.size) (length area)) ≡ has_room rows area r.comp.0
+room_test rows table area i r names at lt is named placed = rw (placed, named) (sym (room_at rows table area i r lt is))
 
 -- what room tells
 pub record HasRoom (rows : List Row) (area : List ℕ) (c : ℕ) : Type 0 where
@@ -53,7 +52,7 @@ room_tells rows table area c h =
 -- room for a row's component
 pub room_row : (rows : List Row) → IsLayout rows → (area : List ℕ) (i : ℕ) (r : Row) → i < length rows → r ≡ get_or rows i r → has_room rows area r.comp.0 ≡ true → place rows (xcomp_bv area) r + r.size ≤ length area
 room_row rows table area i r lt is h =
-    second (not (is_compacted (xcomp_bv area)) || has (xcomp_bv area) r.comp.0) (place rows (xcomp_bv area) r + r.size) (length area) (sym (room_at rows table area i r lt is) ∙ h)
+    second (has_place rows (xcomp_bv area) r.comp.0) (place rows (xcomp_bv area) r + r.size) (length area) (sym (room_at rows table area i r lt is) ∙ h)
   where
     second : (a : Bool) (m n : ℕ) → (a && nat_le m n) ≡ true → m ≤ n
     second true m n h = grind (arith, nat_tests)
@@ -80,23 +79,13 @@ room_sse rows table area long =
 -- ---- sets
 
 -- The set has the components that are copied, of the rows before i.
-pub record AreChosen (rows : List Row) (area : List ℕ) (set i : ℕ) (cursor : Cursor) (copied : ℕ) : Type 0 where
-  pub before : IsBefore rows (xcomp_bv area) i cursor
+pub record AreChosen (rows : List Row) (area : List ℕ) (set i : ℕ) (copied : ℕ) : Type 0 where
   pub sound : (c : ℕ) → has copied c ≡ true → is_copied rows area set c ≡ true
   pub whole : (j : ℕ) (r : Row) → j < i → j < length rows → r ≡ get_or rows j r → is_copied rows area set r.comp.0 ≡ true → has copied r.comp.0 ≡ true
 
--- what the test of a row answers
-pub chosen_row : (rows : List Row) → IsLayout rows → (area : List ℕ) (set i : ℕ) (cursor : Cursor) (r : Row) (at : ℕ) (wanted : Bool) → i < length rows → r ≡ get_or rows i r → IsBefore rows (xcomp_bv area) i cursor → at ≡ place_after cursor.names.0 cursor.end r → wanted ≡ (has set r.comp.0 && not (r.comp.0 == 9) && ((not (is_compacted (xcomp_bv area)) || has (xcomp_bv area) r.comp.0) && nat_le (at + r.size) (length area))) → wanted ≡ is_copied rows area set r.comp.0
-chosen_row rows table area set i cursor r at wanted lt is before at_is test =
-    let placed = at_is ∙ before_place rows table (xcomp_bv area) i cursor r lt is before in
-    test
-    ∙ ap (λ p. has set r.comp.0 && not (r.comp.0 == 9) && ((not (is_compacted (xcomp_bv area)) || has (xcomp_bv area) r.comp.0) && nat_le (p + r.size) (length area))) placed
-    ∙ ap (λ b. has set r.comp.0 && not (r.comp.0 == 9) && b) (sym (room_at rows table area i r lt is))
-
 -- one row more
-pub chosen_more : (rows : List Row) → IsLayout rows → (area : List ℕ) (set i : ℕ) (cursor : Cursor) (copied more : ℕ) (r : Row) (wanted : Bool) → i < length rows → r ≡ get_or rows i r → AreChosen rows area set i cursor copied → wanted ≡ is_copied rows area set r.comp.0 → ((c : ℕ) → has more c ≡ (if c == r.comp.0 then wanted else has copied c)) → AreChosen rows area set (i + 1) (passed cursor r) more
-chosen_more rows table area set i cursor copied more r wanted lt is at wants bits = record {
-  before = before_next rows table (xcomp_bv area) i cursor r lt is at.before;
+pub chosen_more : (rows : List Row) → IsLayout rows → (area : List ℕ) (set i : ℕ) (copied more : ℕ) (r : Row) (wanted : Bool) → i < length rows → r ≡ get_or rows i r → AreChosen rows area set i copied → wanted ≡ is_copied rows area set r.comp.0 → ((c : ℕ) → has more c ≡ (if c == r.comp.0 then wanted else has copied c)) → AreChosen rows area set (i + 1) more
+chosen_more rows table area set i copied more r wanted lt is at wants bits = record {
   sound = λ c h. elim (cases_eq c r.comp.0) [
     | inl same ↦ sym (here c same) ∙ h
     | inr apart ↦ at.sound c (sym (other c apart) ∙ h)
@@ -120,12 +109,12 @@ chosen_more rows table area set i cursor copied more r wanted lt is at wants bit
     ]
 
 -- before the first row
-pub chosen_first : (rows : List Row) (area : List ℕ) (set : ℕ) (cursor : Cursor) → IsBefore rows (xcomp_bv area) 0 cursor → AreChosen rows area set 0 cursor 0
-chosen_first rows area set cursor at = record { before = at; sound = λ c h. absurd (true≢false (sym h ∙ has_none c)); whole = λ j r none within it chosen. absurd (omega arith) }
+pub chosen_first : (rows : List Row) (area : List ℕ) (set : ℕ) → AreChosen rows area set 0 0
+chosen_first rows area set = record { sound = λ c h. absurd (true≢false (sym h ∙ has_none c)); whole = λ j r none within it chosen. absurd (omega arith) }
 
 -- every row
-pub chosen_all : (rows : List Row) → IsLayout rows → (area : List ℕ) (set i : ℕ) (cursor : Cursor) (copied : ℕ) → length rows ≤ i → AreChosen rows area set i cursor copied → (c : ℕ) → has copied c ≡ is_copied rows area set c
-chosen_all rows table area set i cursor copied past at c = here (cases_Bool (has copied c)) (cases_Bool (is_copied rows area set c))
+pub chosen_all : (rows : List Row) → IsLayout rows → (area : List ℕ) (set i : ℕ) (copied : ℕ) → length rows ≤ i → AreChosen rows area set i copied → (c : ℕ) → has copied c ≡ is_copied rows area set c
+chosen_all rows table area set i copied past at c = here (cases_Bool (has copied c)) (cases_Bool (is_copied rows area set c))
   where
     second : (a b c : Bool) → (a && b && c) ≡ true → c ≡ true
     second true true true h = refl

@@ -1,4 +1,4 @@
--- What an area holds of a component is the byte of the file that it stands for.
+-- What an area stores of a component is the byte of the file that it stands for.
 use Rattle.std.proofs.Common.{◌≡◌, ◌⊎◌, ℕ, ◌+◌, ◌-◌, ◌<◌, ◌≤◌, Bool, true, false, List, ◌++◌, length, get_or, drop, Some, if◌then◌else◌, refl, sym, ap, subst, ◌∙◌, arith, inl, inr, get_or-set_same, get_or-set_other, length-append}
 use Rattle.std.proofs.lemmas.Bool.{cases_Bool, cases_eq, cases_lt, ne_eqb}
 use Rattle.std.proofs.lemmas.Bool.Decides.{nat_tests}
@@ -18,11 +18,7 @@ use Rattle.xs_base.specs.Header.{xstate_bv, xcomp_bv}
 use Rattle.xs_base.specs.Layout.{IsLayout, IsSound}
 use Rattle.xs_base.specs.Standard.{IsWritten, component_byte, saved_byte}
 use Rattle.xs_area.specs.Stored.{stored_byte, pkru_bytes}
-use Rattle.xs_area.specs.declared.cursor.Cursor.{Cursor}
-use Rattle.xs_base.specs.declared.component.Features.{Features}
-use Rattle.xs_area.specs.Cursor.{place_after}
 use Rattle.xs_base.proofs.LayoutLemmas.{sound_at}
-use Rattle.xs_area.proofs.CursorLemmas.{IsBefore, passed, before_first, before_place, before_next}
 use Rattle.xs_base.proofs.ComponentLemmas.{zero_at, length_zeros, pkru_size}
 use Rattle.xs_base.proofs.StandardLemmas.{written_as, component_written, component_skip, component_all}
 
@@ -37,7 +33,7 @@ pkru_part file pkru h = get_or-set_same file.parts 9 (to_le_bytes w32 pkru ++ ze
 pub other_part : (file : File) (pkru c : ℕ) → (c ≡ 9 → ⊥) → part (with_pkru file pkru) c ≡ part file c
 other_part file pkru c other = get_or-set_other file.parts 9 c (to_le_bytes w32 pkru ++ zeros 4) _ other
 
--- ---- the byte that is held
+-- ---- the byte that is stored
 
 -- behind the four bytes of PKRU there is zero
 pub pkru_byte : (pkru k : ℕ) → (if is_own 9 k then get_or (pkru_bytes pkru) k 0 else 0) ≡ get_or (pkru_bytes pkru) k 0
@@ -54,22 +50,22 @@ unfolding pkru_bytes
 pkru_eight pkru = length-append (to_le_bytes w32 pkru) (zeros 4) ∙ ap (λ n. 4 + n) (length_zeros 4)
 
 -- of a component whose bit is 1
-pub held_present : (area : List ℕ) (bits pkru at c k : ℕ) → (c ≡ 9 → ⊥) → has bits c ≡ true → stored_byte area bits pkru at c k ≡ (if is_own c k then get_or area (at + k) 0 else 0)
-held_present area bits pkru at c k other present =
+pub stored_present : (area : List ℕ) (bits pkru at c k : ℕ) → (c ≡ 9 → ⊥) → has bits c ≡ true → stored_byte area bits pkru at c k ≡ (if is_own c k then get_or area (at + k) 0 else 0)
+stored_present area bits pkru at c k other present =
     let b = if is_own c k then get_or area (at + k) 0 else 0 in
     ap (λ t. if t then get_or (pkru_bytes pkru) k 0 else if has bits c then b else get_or (initial_part c) k 0) (ne_eqb c 9 other)
     ∙ ap (λ t. if t then b else get_or (initial_part c) k 0) present
 
 -- and of one whose bit is 0
-pub held_absent : (area : List ℕ) (bits pkru at c k : ℕ) → (c ≡ 9 → ⊥) → has bits c ≡ false → stored_byte area bits pkru at c k ≡ get_or (initial_part c) k 0
-held_absent area bits pkru at c k other absent =
+pub stored_absent : (area : List ℕ) (bits pkru at c k : ℕ) → (c ≡ 9 → ⊥) → has bits c ≡ false → stored_byte area bits pkru at c k ≡ get_or (initial_part c) k 0
+stored_absent area bits pkru at c k other absent =
     let b = if is_own c k then get_or area (at + k) 0 else 0 in
     ap (λ t. if t then get_or (pkru_bytes pkru) k 0 else if has bits c then b else get_or (initial_part c) k 0) (ne_eqb c 9 other)
     ∙ ap (λ t. if t then b else get_or (initial_part c) k 0) absent
 
--- what is held is what the file has
-pub held_saved : (rows : List Row) (area : List ℕ) (file : File) (pkru i : ℕ) (r : Row) (at k : ℕ) → IsFile file → StandsFor rows area file → i < length rows → r ≡ get_or rows i r → IsSound r → at ≡ place rows (xcomp_bv area) r → k < r.size → stored_byte area (xstate_bv area) pkru at r.comp.0 k ≡ saved_byte (with_pkru file pkru) r.comp.0 k
-held_saved rows area file pkru i r at k h stands lt is sound placed small =
+-- what is stored is what the file has
+pub stored_saved : (rows : List Row) (area : List ℕ) (file : File) (pkru i : ℕ) (r : Row) (at k : ℕ) → IsFile file → StandsFor rows area file → i < length rows → r ≡ get_or rows i r → IsSound r → at ≡ place rows (xcomp_bv area) r → k < r.size → stored_byte area (xstate_bv area) pkru at r.comp.0 k ≡ saved_byte (with_pkru file pkru) r.comp.0 k
+stored_saved rows area file pkru i r at k h stands lt is sound placed small =
     here (cases_eq r.comp.0 9) (cases_Bool (has (xstate_bv area) r.comp.0))
   where
     row : slice_get rows i ≡ Some r
@@ -95,11 +91,11 @@ held_saved rows area file pkru i r at k h stands lt is sound placed small =
     here : (r.comp.0 ≡ 9) ⊎ (r.comp.0 ≡ 9 → ⊥) → (has (xstate_bv area) r.comp.0 ≡ true) ⊎ (has (xstate_bv area) r.comp.0 ≡ false) → P r.comp.0
     here (inl nine) bit = subst P (sym nine) pkru_case
     here (inr other) (inl present) =
-        held_present area (xstate_bv area) pkru at r.comp.0 k other present
+        stored_present area (xstate_bv area) pkru at r.comp.0 k other present
         ∙ choose (is_own r.comp.0 k) (get_or area (at + k) 0) (get_or (part file r.comp.0) k 0) (λ own. ap (λ n. get_or area (n + k) 0) placed ∙ stands.present i r row other present k (omega (arith, sound.size)) own)
         ∙ sym (saved other)
     here (inr other) (inr absent) =
-        held_absent area (xstate_bv area) pkru at r.comp.0 k other absent
+        stored_absent area (xstate_bv area) pkru at r.comp.0 k other absent
         ∙ ap (λ l. get_or l k 0) (sym (stands.absent i r row other absent))
         ∙ clean (is_own r.comp.0 k) (get_or (part file r.comp.0) k 0) (λ own. h.clean r.comp.0 k own)
         ∙ sym (saved other)
@@ -129,41 +125,37 @@ put_present area bits pkru at r bytes old new other present fits are written =
     each : (k : ℕ) → k < r.size → (if is_own r.comp.0 k then get_or bytes k 0 else 0) ≡ stored_byte area bits pkru at r.comp.0 k
     each k small =
         ap (λ n. if is_own r.comp.0 k then n else 0) (ap (λ l. get_or l k 0) are ∙ get_or-between area at (at + r.size) k 0 (omega arith))
-        ∙ sym (held_present area bits pkru at r.comp.0 k other present)
+        ∙ sym (stored_present area bits pkru at r.comp.0 k other present)
 
 -- ---- along the rows
 
--- The components of the rows before i have been written over `old`, and the cursor stands before row i.
-pub record AreHeld (rows : List Row) (area : List ℕ) (pkru mask i : ℕ) (cursor : Cursor) (old out : List ℕ) : Type 0 where
+-- The components of the rows before i have been written over `old`.
+pub record AreStored (rows : List Row) (area : List ℕ) (pkru mask i : ℕ) (old out : List ℕ) : Type 0 where
   pub len : length out ≡ length old
-  pub before : IsBefore rows (xcomp_bv area) i cursor
   pub each : (file : File) → IsFile file → StandsFor rows area file → (k : ℕ) → component_byte (saved_byte (with_pkru file pkru)) (λ r. r.offset) mask k (drop i rows) (get_or out k 0) ≡ component_byte (saved_byte (with_pkru file pkru)) (λ r. r.offset) mask k rows (get_or old k 0)
 
 -- before the first row
-pub held_first : (rows : List Row) (area : List ℕ) (pkru mask : ℕ) (names : Features) (old : List ℕ) → names.0 ≡ xcomp_bv area → AreHeld rows area pkru mask 0 (record { names = names; end = 576 }) old old
-held_first rows area pkru mask names old is = record { len = refl; before = rw (← is) (before_first rows names); each = λ file h stands k. refl }
+pub stored_first : (rows : List Row) (area : List ℕ) (pkru mask : ℕ) (old : List ℕ) → AreStored rows area pkru mask 0 old old
+stored_first rows area pkru mask old = record { len = refl; each = λ file h stands k. refl }
 
-module _ (rows : List Row) (table : IsLayout rows) (area : List ℕ) (pkru mask i : ℕ) (cursor : Cursor) (old out : List ℕ) (r : Row) (lt : i < length rows) (is : r ≡ get_or rows i r) (at : AreHeld rows area pkru mask i cursor old out) where
+module _ (rows : List Row) (table : IsLayout rows) (area : List ℕ) (pkru mask i : ℕ) (old out : List ℕ) (r : Row) (lt : i < length rows) (is : r ≡ get_or rows i r) (at : AreStored rows area pkru mask i old out) where
   -- a row of the mask was written
-  pub held_written : (new : List ℕ) (p : ℕ) → has mask r.comp.0 ≡ true → p ≡ place_after cursor.names.0 cursor.end r → IsWritten r.offset r.size (stored_byte area (xstate_bv area) pkru p r.comp.0) out new → AreHeld rows area pkru mask (i + 1) (passed cursor r) old new
-  held_written new p wanted placed written = record {
+  pub stored_written : (new : List ℕ) (p : ℕ) → has mask r.comp.0 ≡ true → p ≡ place rows (xcomp_bv area) r → IsWritten r.offset r.size (stored_byte area (xstate_bv area) pkru p r.comp.0) out new → AreStored rows area pkru mask (i + 1) old new
+  stored_written new p wanted placed written = record {
     len = written.len ∙ at.len;
-    before = before_next rows table (xcomp_bv area) i cursor r lt is at.before;
     each = λ file h stands k.
         let saved = saved_byte (with_pkru file pkru) in
-        let p_is : p ≡ place rows (xcomp_bv area) r = placed ∙ before_place rows table (xcomp_bv area) i cursor r lt is at.before in
-        let meant : IsWritten r.offset r.size (saved r.comp.0) out new = written_as r.offset r.size _ (saved r.comp.0) out new (λ j small. held_saved rows area file pkru i r p j h stands lt is (sound_at rows table i r lt is) p_is small) written in
+        let meant : IsWritten r.offset r.size (saved r.comp.0) out new = written_as r.offset r.size _ (saved r.comp.0) out new (λ j small. stored_saved rows area file pkru i r p j h stands lt is (sound_at rows table i r lt is) placed small) written in
         component_written saved (λ (x : Row). x.offset) mask rows i r out new k lt is wanted meant ∙ at.each file h stands k;
   }
 
   -- a row that isn't of the mask
-  pub held_left : has mask r.comp.0 ≡ false → AreHeld rows area pkru mask (i + 1) (passed cursor r) old out
-  held_left left = record {
+  pub stored_left : has mask r.comp.0 ≡ false → AreStored rows area pkru mask (i + 1) old out
+  stored_left left = record {
     len = at.len;
-    before = before_next rows table (xcomp_bv area) i cursor r lt is at.before;
     each = λ file h stands k. component_skip (saved_byte (with_pkru file pkru)) (λ (x : Row). x.offset) mask rows i r k (get_or out k 0) lt is left ∙ at.each file h stands k;
   }
 
 -- every row
-pub held_all : (rows : List Row) (area : List ℕ) (pkru mask i : ℕ) (cursor : Cursor) (old out : List ℕ) → length rows ≤ i → AreHeld rows area pkru mask i cursor old out → (file : File) → IsFile file → StandsFor rows area file → (k : ℕ) → get_or out k 0 ≡ component_byte (saved_byte (with_pkru file pkru)) (λ r. r.offset) mask k rows (get_or old k 0)
-held_all rows area pkru mask i cursor old out past at file h stands k = sym (component_all (saved_byte (with_pkru file pkru)) (λ (x : Row). x.offset) mask rows i k (get_or out k 0) past) ∙ at.each file h stands k
+pub stored_all : (rows : List Row) (area : List ℕ) (pkru mask i : ℕ) (old out : List ℕ) → length rows ≤ i → AreStored rows area pkru mask i old out → (file : File) → IsFile file → StandsFor rows area file → (k : ℕ) → get_or out k 0 ≡ component_byte (saved_byte (with_pkru file pkru)) (λ r. r.offset) mask k rows (get_or old k 0)
+stored_all rows area pkru mask i old out past at file h stands k = sym (component_all (saved_byte (with_pkru file pkru)) (λ (x : Row). x.offset) mask rows i k (get_or out k 0) past) ∙ at.each file h stands k

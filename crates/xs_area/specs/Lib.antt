@@ -1,5 +1,4 @@
 -- The definitions of areas stand in xs_base: here is what the crate's own loops cite.
-pub mod Cursor
 pub mod Stored
 pub mod Copy
 pub mod Readable

@@ -1,4 +1,4 @@
--- What an area holds of a component.
+-- What an area stores of a component.
 use Rattle.std.specs.Prelude.{ℕ, ◌+◌, ◌==◌, List, ◌++◌, slice_index, if◌then◌else◌}
 use Rattle.std.specs.Int.{to_le_bytes, w32}
 use Rattle.xs_base.specs.Sets.{has}

@@ -6,23 +6,23 @@ ghost use Rattle.xs_base.specs.Area.{StandsFor, HasPlaces, IsOfParts, IsCut, Kee
 ghost use Rattle.xs_base.specs.Bytes.{splice, zeros};
 ghost use Rattle.xs_base.specs.Compact.{is_compacted, place};
 ghost use Rattle.xs_base.specs.Component.{initial_mxcsr};
-ghost use Rattle.xs_base.specs.File.{File, IsFile, is_own};
+ghost use Rattle.xs_base.specs.File.{File, IsFile, initial_file, is_own};
 ghost use Rattle.xs_base.specs.Header as header;
 ghost use Rattle.xs_base.specs.Layout.{IsLayout, IsSound};
 ghost use Rattle.xs_base.specs.Sets.{has};
 ghost use Rattle.xs_base.specs.Standard.{IsWritten};
 ghost use Rattle.xs_area.specs.Copy as copy;
-ghost use Rattle.xs_area.specs.Copy.{IsTaken, is_copied, AreCopied, IsFinished};
+ghost use Rattle.xs_area.specs.Copy.{IsTaken, AreCopied, IsFinished};
 
 use crate::area::{Area, xcomp_bv, xstate_bv};
-use crate::cursor::Cursor;
+use crate::readable::has_room;
 use crate::standard::control_in;
 use xs_base::{
     Comp, Features, INITIAL_MXCSR, Parts, Row, clear, put_component, put_control, put_number,
 };
-use xs_layout::Layout;
+use xs_layout::{Cursor, Layout};
 
-/// Makes the area stand for the parts of an image in the standard format, `bytes`: its XSTATE_BV becomes the bits
+/// Makes the area stand for the parts of an image in the standard format, `bytes`, and what they lack is initial: its XSTATE_BV becomes the bits
 /// without PKRU, in a compacted area with bit 1 also where MXCSR isn't initial. The id, the length, XCOMP_BV and bytes
 /// 528 to 575 of the area stay. The area has at least 576 bytes and room for component 1 and for each component of the
 /// bits but PKRU; `bytes` has the standard place of each component of the bits.
@@ -31,7 +31,7 @@ pub fn compact_of(layout: &Layout, bytes: &[u8], parts: &Parts, area: &mut Area)
     requires sse { has_room layout.now area.old.bytes.items 1 ≡ true }
     requires room { (c : ℕ) → (c ≡ 9 → ⊥) → has parts.now.bits.0 c ≡ true → has_room layout.now area.old.bytes.items c ≡ true }
     requires places { (i : ℕ) (r : Row) → slice_get layout.now i ≡ Some r → has parts.now.bits.0 r.comp.0 ≡ true → r.offset + r.size ≤ length bytes.now }
-    ensures stands { (file : File) → IsFile file → IsOfParts layout.now bytes.now parts.now file → StandsFor layout.now area.new.bytes.items file }
+    ensures stands { (file : File) → IsFile file → IsOfParts layout.now bytes.now parts.now (initial_file layout.now) file → StandsFor layout.now area.new.bytes.items file }
     ensures bits { (c : ℕ) → has (header.xstate_bv area.new.bytes.items) c ≡ is_named layout.now area.old.bytes.items parts.now.bits.0 parts.now.mxcsr c }
     ensures form { KeepsForm area.old.bytes.items area.new.bytes.items }
     ensures id { area.new.id ≡ area.old.id }
@@ -88,30 +88,25 @@ fn take(layout: &Layout, from: &[u8], names: Features, set: Features, control: u
 /// The components that are copied.
 pub fn copied_of(layout: &Layout, to: &[u8], set: Features) -> Features
     requires { 576 ≤ length to.now }
-    ensures copied { (c : ℕ) → has result.0 c ≡ is_copied layout.now to.now set.0 c }
+    ensures copied { (c : ℕ) → has result.0 c ≡ copy.is_copied layout.now to.now set.0 c }
     ensures layout { IsLayout layout.now }
 {
     let names = Features(xcomp_bv(to));
     let mut cursor = Cursor::new(names);
     let mut copied = Features(0);
     'each: for i in 0..layout.len() {
-        let row = layout.row_at(i);
-        let at = cursor.pass(row);
-        let wanted = is_copied_row(set, names, row, at, to.len());
-        copied = copied.with(row.comp, wanted);
+        let (row, at) = cursor.pass(layout, i);
+        let room = has_room(layout, names, row, at, to.len());
+        copied = copied.with(row.comp, is_copied(set, row.comp, room));
     }
     copied
 }
 
-/// Whether the row's component is copied to byte `at` of `len`.
-fn is_copied_row(set: Features, names: Features, row: Row, at: usize, len: usize) -> bool
-    requires { at < 2 ^ 33 }
-    ensures { result ≡ (has set.0 row.comp.0 && not (row.comp.0 == 9) && ((not (is_compacted names.0) || has names.0 row.comp.0) && nat_le (at + row.size) len)) }
+/// Whether a component is copied that there is room for, or not: it is of the set, and isn't PKRU.
+fn is_copied(set: Features, c: Comp, room: bool) -> bool
+    ensures { result ≡ (has set.0 c.0 && not (c.0 == 9) && room) }
 {
-    set.has(row.comp)
-        && row.comp.0 != 9
-        && (!names.has(Comp(63)) || names.has(row.comp))
-        && at + row.size as usize <= len
+    set.has(c) && c.0 != 9 && room
 }
 
 /// Copies components to their places.
@@ -124,9 +119,8 @@ fn copy_rows(layout: &Layout, from: &[u8], names: Features, copied: Features, to
     let mut source = Cursor::new(names);
     let mut target = Cursor::new(Features(xcomp_bv(to)));
     'each: for i in 0..layout.len() {
-        let row = layout.row_at(i);
-        let at = source.pass(row);
-        let into = target.pass(row);
+        let (_, at) = source.pass(layout, i);
+        let (row, into) = target.pass(layout, i);
         if copied.has(row.comp) {
             copy_row(from, at, row, to, into);
         }

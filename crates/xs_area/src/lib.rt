@@ -9,14 +9,13 @@ mod check;
 mod copies;
 #[cfg(test)]
 mod copies_tests;
-mod cursor;
 #[cfg(test)]
 mod fixtures;
+mod kernel;
+mod laws;
 mod readable;
 #[cfg(test)]
 mod readable_tests;
-mod kernel;
-mod laws;
 mod standard;
 #[cfg(test)]
 mod tests;
@@ -24,9 +23,8 @@ mod tests;
 pub use area::{Area, Lease, mxcsr, xcomp_bv, xstate_bv};
 pub use check::read_standard;
 pub use copies::{compact_of, copy_area};
-pub use cursor::Cursor;
-pub use readable::{has_named_places, stands};
 pub use kernel::{class_features, class_size, compacted, make_initial};
 pub use laws::{a_file_can_be_cut, parts_have_a_file};
+pub use readable::{has_named_places, stands};
 pub use standard::standard_of;
 pub use xs_base::{Class, HeaderError, Origin, Parts};

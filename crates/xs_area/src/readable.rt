@@ -1,22 +1,22 @@
 //! Whether an area from elsewhere can be read.
 
-ghost use Rattle.std.specs.Prelude.{◌≡◌, ℕ, ◌≤◌, ◌<◌, ◌^◌, ◌↔◌, true, length, IsTrue, bit_and, ◌==◌};
+ghost use Rattle.std.specs.Prelude.{◌≡◌, ℕ, ◌+◌, ◌≤◌, ◌<◌, ◌^◌, ◌↔◌, ◌&&◌, nat_le, true, length, IsTrue, bit_and, ◌==◌};
 ghost use Rattle.xs_base.specs.Area.{has_room, HasPlaces};
+ghost use Rattle.xs_base.specs.Compact.{has_place};
 ghost use Rattle.xs_base.specs.Header as header;
 ghost use Rattle.xs_base.specs.Sets.{has};
 ghost use Rattle.xs_base.specs.Layout.{IsLayout, features};
-ghost use Rattle.xs_area.specs.Readable.{IsReadable, HasRows, has_row_place};
+ghost use Rattle.xs_area.specs.Readable.{IsReadable, HasRows};
 
 use crate::area::{Area, xcomp_bv, xstate_bv};
-use crate::cursor::Cursor;
-use xs_base::{Comp, Features, Row};
-use xs_layout::Layout;
+use xs_base::{Features, Row};
+use xs_layout::{Cursor, Layout};
 
 /// Whether the area can be read: it has at least 576 bytes, each component whose bit in XSTATE_BV is 1 has a place by
 /// XCOMP_BV, and the area has the bytes of each such place. Then it stands for a file of the machine (SDM volume 1,
 /// 13.4.2 and 13.4.3).
 pub fn stands(layout: &Layout, area: &Area) -> bool
-    ensures holds { IsTrue result ↔ IsReadable layout.now area.now.bytes.items }
+    ensures readable { IsTrue result ↔ IsReadable layout.now area.now.bytes.items }
     ensures room { IsTrue result → (c : ℕ) → has (header.xstate_bv area.now.bytes.items) c ≡ true → has_room layout.now area.now.bytes.items c ≡ true }
 {
     let bytes = area.bytes.as_slice();
@@ -46,8 +46,7 @@ fn has_named_rows(layout: &Layout, bytes: &[u8]) -> bool
     let names = Features(xcomp_bv(bytes));
     let mut cursor = Cursor::new(names);
     'each: for i in 0..layout.len() {
-        let row = layout.row_at(i);
-        let at = cursor.pass(row);
+        let (row, at) = cursor.pass(layout, i);
         if names.has(row.comp) && at + row.size as usize > bytes.len() {
             return false;
         }
@@ -72,19 +71,19 @@ fn has_rows(layout: &Layout, bytes: &[u8]) -> bool
     let names = Features(xcomp_bv(bytes));
     let mut cursor = Cursor::new(names);
     'each: for i in 0..layout.len() {
-        let row = layout.row_at(i);
-        let at = cursor.pass(row);
-        if bits.has(row.comp) && !has_row_place(names, row, at, bytes.len()) {
+        let (row, at) = cursor.pass(layout, i);
+        if bits.has(row.comp) && !has_room(layout, names, row, at, bytes.len()) {
             return false;
         }
     }
     true
 }
 
-/// Whether the row's component has a place by the XCOMP_BV `names`, which from byte `at` on is within `len` bytes.
-fn has_row_place(names: Features, row: Row, at: usize, len: usize) -> bool
-    requires { at < 2 ^ 33 }
-    ensures { result ≡ has_row_place names.0 row at len }
+/// Whether the component of this row of the machine has a place by the XCOMP_BV `names`, which from byte `at` on is
+/// within `len` bytes.
+pub fn has_room(layout: &Layout, names: Features, row: Row, at: usize, len: usize) -> bool
+    requires { at < 2 ^ 32 }
+    ensures { result ≡ (has_place layout.now names.0 row.comp.0 && nat_le (at + row.size) len) }
 {
-    (!names.has(Comp(63)) || names.has(row.comp)) && at + row.size as usize <= len
+    layout.has_place(names, row.comp) && at + row.size as usize <= len
 }

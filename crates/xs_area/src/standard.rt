@@ -7,14 +7,13 @@ ghost use Rattle.xs_base.specs.Header as header;
 ghost use Rattle.xs_base.specs.Layout.{standard_size, IsSound};
 ghost use Rattle.xs_base.specs.Standard.{IsStandard, IsWritten, component_byte, saved_byte};
 ghost use Rattle.xs_base.specs.Sets.{has};
-ghost use Rattle.xs_area.specs.Stored as held;
+ghost use Rattle.xs_area.specs.Stored as stored;
 
 use crate::area::{Area, mxcsr, xcomp_bv, xstate_bv};
-use crate::cursor::Cursor;
 use xs_base::{
     Comp, Features, INITIAL_MXCSR, Row, put_component, put_control, put_initial_component,
 };
-use xs_layout::Layout;
+use xs_layout::{Cursor, Layout};
 
 /// Writes the standard bytes of what the area stands for, with this PKRU, for the components of `mask`, over `out`
 /// (SDM volume 1, 13.7). The area has at least 576 bytes and the place of each component whose bit in XSTATE_BV is 1;
@@ -43,8 +42,7 @@ fn put_components(layout: &Layout, area: &[u8], pkru: u32, mask: Features, out: 
     let bits = Features(xstate_bv(area));
     let mut cursor = Cursor::new(Features(xcomp_bv(area)));
     'each: for i in 0..layout.len() {
-        let row = layout.row_at(i);
-        let at = cursor.pass(row);
+        let (row, at) = cursor.pass(layout, i);
         if mask.has(row.comp) {
             put_stored(area, at, bits, pkru, row, out);
         }
@@ -55,10 +53,10 @@ fn put_components(layout: &Layout, area: &[u8], pkru: u32, mask: Features, out: 
 /// configuration.
 fn put_stored(area: &[u8], at: usize, bits: Features, pkru: u32, row: Row, out: &mut [u8])
     requires sound { IsSound row }
-    requires held { has bits.0 row.comp.0 ≡ true → at + row.size ≤ length area.now }
+    requires inside { has bits.0 row.comp.0 ≡ true → at + row.size ≤ length area.now }
     requires room { row.offset + row.size ≤ length out.old }
     requires legacy { 32 ≤ length out.old }
-    ensures { IsWritten row.offset row.size (held.stored_byte area.now bits.0 pkru at row.comp.0) out.old out.new }
+    ensures { IsWritten row.offset row.size (stored.stored_byte area.now bits.0 pkru at row.comp.0) out.old out.new }
 {
     let to = row.offset as usize;
     let size = row.size as usize;
@@ -72,9 +70,9 @@ fn put_stored(area: &[u8], at: usize, bits: Features, pkru: u32, row: Row, out: 
 }
 
 /// The bytes of component 9.
-#[tactic(auto, unfolding(crate::specs::Held::pkru_bytes, xs_base::specs::Bytes::zeros))]
+#[tactic(auto, unfolding(crate::specs::Stored::pkru_bytes, xs_base::specs::Bytes::zeros))]
 fn pkru_bytes(pkru: u32) -> [u8; 8]
-    ensures { result ≡ held.pkru_bytes pkru }
+    ensures { result ≡ stored.pkru_bytes pkru }
 {
     let [a, b, c, d] = pkru.to_le_bytes();
     [a, b, c, d, 0, 0, 0, 0]

@@ -1,5 +1,5 @@
 -- What a bank tracks: components that weren't changed since a load, and that they stand in the area.
-use Rattle.std.proofs.Common.{◌≡◌, ◌⊎◌, inl, inr, ℕ, ◌+◌, ◌%◌, ◌==◌, Bool, true, false, not, ◌&&◌, ◌||◌, min, List, bit_and, Option, Some, if◌then◌else◌, refl, sym, ap, subst, ◌∙◌}
+use Rattle.std.proofs.Common.{◌≡◌, ◌⊎◌, inl, inr, ℕ, ◌+◌, ◌%◌, ◌==◌, Bool, true, false, not, ◌&&◌, min, List, bit_and, Option, Some, if◌then◌else◌, refl, sym, ap, subst, ◌∙◌}
 use Rattle.std.proofs.lemmas.Bool.{eq-eqb, true≢false, false≢true}
 use Rattle.std.proofs.lemmas.Nat.Bits.{bit_at_and, bit_at_xor}
 use Rattle.std.specs.Int.{bit_at}
@@ -15,9 +15,10 @@ use Rattle.xs_base.specs.Header.{xstate_bv, xcomp_bv, mxcsr}
 use Rattle.xs_base.specs.Layout.{IsLayout, has_row, set_of, is_known}
 use Rattle.xs_bank.specs.Load.{IsLoaded, standard_control, compacted_control}
 use Rattle.xs_base.specs.Sets.{has}
+use Rattle.xs_base.specs.Standard.{has_control}
 use Rattle.xs_base.proofs.LayoutLemmas.{sound_at, has_row_at, has_row_known}
 use Rattle.xs_base.proofs.SetLemmas.{has_set_of, same_set}
-use Rattle.xs_area.proofs.TakeLemmas.{row_index}
+use Rattle.xs_base.proofs.RowLemmas.{row_index}
 use Rattle.xs_bank.specs.declared.tracking.LoadedArea.{LoadedArea}
 use Rattle.xs_bank.specs.Tracking.{shown}
 use Rattle.xs_bank.proofs.SetBits.{bit_cases}
@@ -91,13 +92,9 @@ ready_loaded before after mask area control id tracked table h control_is is i r
     }
 
 -- MXCSR that was loaded is the area's
-pub standard_control_is : (mask : ℕ) (area : List ℕ) (old : ℕ) → xcomp_bv area ≡ 0 → has mask 1 ≡ true → standard_control mask area old ≡ control_in area
+pub standard_control_is : (mask : ℕ) (area : List ℕ) (old : ℕ) → xcomp_bv area ≡ 0 → has_control mask ≡ true → standard_control mask area old ≡ control_in area
 standard_control_is mask area old zero_is wanted =
-    here (has mask 1) (has mask 2) wanted ∙ sym (ap (λ n. if is_compacted n && not (has (xstate_bv area) 1) then initial_mxcsr else mxcsr area) zero_is)
-  where
-    here : (a b : Bool) → a ≡ true → (if a || b then mxcsr area else old) ≡ mxcsr area
-    here true b h = refl
-    here false b h = absurd (false≢true h)
+    ap (λ b. if b then mxcsr area else old) wanted ∙ sym (ap (λ n. if is_compacted n && not (has (xstate_bv area) 1) then initial_mxcsr else mxcsr area) zero_is)
 
 pub compacted_control_is : (mask : ℕ) (area : List ℕ) (old : ℕ) → is_compacted (xcomp_bv area) ≡ true → has mask 1 ≡ true → compacted_control mask area old ≡ control_in area
 compacted_control_is mask area old compact wanted =

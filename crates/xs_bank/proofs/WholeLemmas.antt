@@ -13,27 +13,34 @@ use Rattle.xs_base.specs.Area.{StandsAt, StandsFor, control_in}
 use Rattle.xs_base.specs.Bytes.{is_within}
 use Rattle.xs_base.specs.Compact.{place, is_compacted, compacted}
 use Rattle.xs_base.specs.Component.{component_count, component_size, initial_mxcsr}
-use Rattle.xs_base.specs.File.{File, IsFile, AreSameButPkru, part, is_own, is_saved}
+use Rattle.xs_base.specs.File.{File, IsFile, part, is_own, is_saved}
 use Rattle.xs_base.specs.Header.{xstate_bv, xcomp_bv, mxcsr}
 use Rattle.xs_base.specs.HeaderCheck.{has_outside, is_wrong_mxcsr}
 use Rattle.xs_base.specs.KernelArea.{IsLoadable, class_features, is_of_class}
 use Rattle.xs_base.specs.Layout.{IsLayout, has_row, features}
 use Rattle.xs_base.specs.Sets.{has}
 use Rattle.xs_base.specs.Standard.{has_control, control_bytes, component_byte, saved_byte, has_byte}
-use Rattle.xs_bank.specs.Bank.{IsKept}
+use Rattle.xs_bank.specs.Bank.{Tracked, IsKept, StandsUnmodified, loaded_from}
 use Rattle.xs_bank.specs.declared.instruction.Trap.{Trap}
 use Rattle.xs_bank.specs.declared.instruction.Trap.TheVariants.{Nm}
-use Rattle.xs_bank.specs.Load.{IsLoaded, IsWholeLoad, standard_trap, compacted_trap, named_in, stops_tiles, IsStopped, tiles}
+use Rattle.xs_bank.specs.Load.{IsLoaded, IsTakenFrom, IsWholeLoad, standard_control, compacted_control, standard_trap, compacted_trap, named_in, stops_tiles, IsStopped, tiles}
 use Rattle.xs_bank.specs.Save.{IsCompactedSave, IsLoadableSave, StandsWithin}
 use Rattle.xs_base.proofs.ByteLemmas.{range_same, within_above, within_in}
 use Rattle.xs_base.proofs.LayoutLemmas.{sound_at, row_found, has_features}
 use Rattle.xs_base.proofs.RowLemmas.{has_sse}
 use Rattle.xs_base.proofs.SetLemmas.{has_and, set_within}
 use Rattle.xs_base.proofs.StandardLemmas.{component_none}
-use Rattle.xs_area.proofs.CopyLemmas.{place_outside}
-use Rattle.xs_area.proofs.KernelLemmas.{has_compacted, has_class}
+use Rattle.xs_base.proofs.PlaceLemmas.{place_outside}
+use Rattle.xs_base.proofs.CompactedLemmas.{has_compacted}
+use Rattle.xs_base.proofs.ClassLemmas.{has_class}
+use Rattle.xs_bank.proofs.ReadyLemmas.{ready_loaded, standard_control_is, compacted_control_is}
+use Rattle.xs_bank.proofs.TrapLemmas.{standard_format, compacted_format}
 
 -- ---- a load of a whole file
+
+or_left : (a b : Bool) → a ≡ true → (a || b) ≡ true
+or_left true b h = refl
+or_left false b h = absurd (false≢true h)
 
 -- what both hold of a component is the same bytes
 same_part : (area : List ℕ) (at c : ℕ) (a b : File) → IsFile a → IsFile b → c < component_count → StandsAt area at a c → StandsAt area at b c → part a c ≡ part b c
@@ -43,14 +50,14 @@ same_part area at c a b is_a is_b lt stands_a stands_b =
       | inr loose ↦ is_a.clean c k loose ∙ sym (is_b.clean c k loose)
     ])
 
-module _ (mask : ℕ) (area : List ℕ) (control : ℕ) (before after : File) (is_after : IsFile after) (h : IsLoaded mask area control before after) (file : File) (is_file : IsFile file) (stands : StandsFor before.rows area file) (covers : (c : ℕ) → has_row before.rows c ≡ true → (c ≡ 9 → ⊥) → has mask c ≡ true) where
-  row_part : (c : ℕ) → c < component_count → (c ≡ 9 → ⊥) → has_row before.rows c ≡ true → part after c ≡ part file c
-  row_part c lt other there =
+module _ (mask : ℕ) (takes : Bool) (area : List ℕ) (control : ℕ) (before after : File) (is_after : IsFile after) (h : IsLoaded mask area control before after) (file : File) (is_file : IsFile file) (stands : StandsFor before.rows area file) where
+  row_part : (c : ℕ) → c < component_count → (c ≡ 9 → ⊥) → has mask c ≡ true → has_row before.rows c ≡ true → part after c ≡ part file c
+  row_part c lt other taken there =
       let found = row_found before.rows c there in
       let r = found.0 in
       let row : slice_get before.rows found.1.index ≡ Some r = slice_get_read before.rows (length before.rows) found.1.index r refl found.1.within found.1.is in
       let apart : r.comp.0 ≡ 9 → ⊥ = λ nine. other (sym found.1.number ∙ nine) in
-      let wanted : has mask r.comp.0 ≡ true = ap (has mask) found.1.number ∙ covers c there other in
+      let wanted : has mask r.comp.0 ≡ true = ap (has mask) found.1.number ∙ taken in
       let below : r.comp.0 < component_count = omega (arith, found.1.number) in
       subst (λ n. part after n ≡ part file n) found.1.number (elim (cases_Bool (has (xstate_bv area) r.comp.0)) [
         | inl on ↦ same_part area (place before.rows (xcomp_bv area) r) r.comp.0 after file is_after is_file below (h.present found.1.index r row wanted on) (stands.present found.1.index r row apart on)
@@ -65,25 +72,59 @@ module _ (mask : ℕ) (area : List ℕ) (control : ℕ) (before after : File) (i
   past_all : (c : ℕ) → component_count ≤ c → part after c ≡ part file c
   past_all c past = get_or_past after.parts c [] (omega (arith, is_after.count)) ∙ sym (get_or_past file.parts c [] (omega (arith, is_file.count)))
 
+  -- a component that the mask has, where the machine has it
+  each_part : (c : ℕ) → (c ≡ 9 → ⊥) → (has_row before.rows c ≡ true → has mask c ≡ true) → part after c ≡ part file c
+  each_part c other taken = elim (cases_lt c component_count) [
+    | inl lt ↦ elim (cases_Bool (has_row before.rows c)) [
+      | inl there ↦ row_part c lt other (taken there) there
+      | inr lacks ↦ lacking c lt other lacks
+    ]
+    | inr past ↦ past_all c past
+  ]
+
   table : IsLayout before.rows
   table = subst (λ rows. IsLayout rows) h.rows_are is_after.layout
 
-  pub same_loaded : (has mask 1 ≡ true → control ≡ control_in area) → AreSameButPkru file after
-  same_loaded control_is = record {
-    rows_are = h.rows_are ∙ sym stands.rows_are;
-    parts = λ c other. elim (cases_lt c component_count) [
-      | inl lt ↦ elim (cases_Bool (has_row before.rows c)) [
-        | inl there ↦ row_part c lt other there
-        | inr lacks ↦ lacking c lt other lacks
-      ]
-      | inr past ↦ past_all c past
-    ];
-    control = h.control_is ∙ control_is (covers 1 (has_sse before.rows table) (λ e. omega arith)) ∙ sym stands.control;
+  pub taken_from : (has mask 1 ≡ true → takes ≡ true) → (takes ≡ true → control ≡ control_in area) → IsTakenFrom file before.rows mask takes after
+  taken_from with_sse control_is = record {
+    parts = λ c other wanted. each_part c other (λ there. wanted);
+    control = λ takes_it. mxcsr_is takes_it;
+    all = λ covers. record {
+      rows_are = h.rows_are ∙ sym stands.rows_are;
+      parts = λ c other. each_part c other (λ there. covers c there other);
+      control = mxcsr_is (with_sse (covers 1 (has_sse before.rows table) (λ e. omega arith)));
+    };
   }
+    where
+      mxcsr_is : takes ≡ true → after.mxcsr ≡ file.mxcsr
+      mxcsr_is takes_it = h.control_is ∙ control_is takes_it ∙ sym stands.control
 
-pub whole_loaded : (mask : ℕ) (area : List ℕ) (control : ℕ) (before after : File) → IsFile after → IsLoaded mask area control before after → (has mask 1 ≡ true → control ≡ control_in area) → IsWholeLoad mask area before.rows after
-whole_loaded mask area control before after is_after h control_is file is_file stands covers =
-    same_loaded mask area control before after is_after h file is_file stands covers control_is
+-- of a load from the standard format that isn't refused
+pub standard_whole : (armed mask : ℕ) (area : List ℕ) (before after : File) → IsFile after → standard_trap before.rows armed mask area ≡ None → IsLoaded mask area (standard_control mask area before.mxcsr) before after → IsWholeLoad mask (has_control mask) area before.rows after
+standard_whole armed mask area before after is_after none h file is_file stands =
+    taken_from mask (has_control mask) area (standard_control mask area before.mxcsr) before after is_after h file is_file stands
+    (λ sse. or_left (has mask 1) (has mask 2) sse)
+    (λ takes. standard_control_is mask area before.mxcsr (standard_format before.rows armed mask area none) takes)
+
+-- and from the compacted one
+pub compacted_whole : (armed mask : ℕ) (area : List ℕ) (before after : File) → IsFile after → compacted_trap before.rows armed mask area ≡ None → IsLoaded mask area (compacted_control mask area before.mxcsr) before after → IsWholeLoad mask (has mask 1) area before.rows after
+compacted_whole armed mask area before after is_after none h file is_file stands =
+    taken_from mask (has mask 1) area (compacted_control mask area before.mxcsr) before after is_after h file is_file stands
+    (λ sse. sse)
+    (λ takes. compacted_control_is mask area before.mxcsr (compacted_format before.rows armed mask area none).0 takes)
+
+-- what was loaded is ready for a save
+pub standard_ready : (armed id mask : ℕ) (area : List ℕ) (before after : File) (tracked : Option Tracked) → IsFile after → standard_trap before.rows armed mask area ≡ None → IsLoaded mask area (standard_control mask area before.mxcsr) before after → tracked ≡ Some (loaded_from before.rows id mask area) → (m : ℕ) → StandsUnmodified after tracked id m area
+standard_ready armed id mask area before after tracked is_after none h is m i r row wanted unmodified =
+    ready_loaded before after mask area (standard_control mask area before.mxcsr) id tracked is_after.layout h
+    (λ sse. standard_control_is mask area before.mxcsr (standard_format before.rows armed mask area none) (or_left (has mask 1) (has mask 2) sse))
+    (rw h.rows_are is) i r row unmodified
+
+pub compacted_ready : (armed id mask : ℕ) (area : List ℕ) (before after : File) (tracked : Option Tracked) → IsFile after → compacted_trap before.rows armed mask area ≡ None → IsLoaded mask area (compacted_control mask area before.mxcsr) before after → tracked ≡ Some (loaded_from before.rows id mask area) → (m : ℕ) → StandsUnmodified after tracked id m area
+compacted_ready armed id mask area before after tracked is_after none h is m i r row wanted unmodified =
+    ready_loaded before after mask area (compacted_control mask area before.mxcsr) id tracked is_after.layout h
+    (λ sse. compacted_control_is mask area before.mxcsr (compacted_format before.rows armed mask area none).0 sse)
+    (rw h.rows_are is) i r row unmodified
 
 -- ---- areas that are accepted
 
@@ -97,10 +138,6 @@ or_off : (a b : Bool) → (a || b) ≡ false → (a ≡ false) × (b ≡ false)
 or_off true b h = absurd (true≢false h)
 or_off false b h = (refl, h)
 
-or_left : (a b : Bool) → a ≡ true → (a || b) ≡ true
-or_left true b h = refl
-or_left false b h = absurd (false≢true h)
-
 and_first : (a b : Bool) → (a && b) ≡ true → a ≡ true
 and_first true b h = refl
 and_first false b h = absurd (false≢true h)
@@ -109,9 +146,12 @@ and_first false b h = absurd (false≢true h)
 right_mxcsr : (value : ℕ) → value < 2 ^ 16 → is_wrong_mxcsr value ≡ false
 right_mxcsr value small = grind (arith, nat_tests)
 
-module _ (rows : List Row) (class : Class) (id : ℕ) (area : List ℕ) (armed mask : ℕ) (table : IsLayout rows) (h : IsLoadable rows class id area) where
+module _ (rows : List Row) (class : Class) (id : ℕ) (area : List ℕ) (armed mask : ℕ) (h : IsLoadable rows class id area) where
+  sound : IsLayout rows
+  sound = subst (λ rs. IsLayout rs) h.stands.rows_are h.is_file.layout
+
   class_row : (c : ℕ) → has (class_features rows class) c ≡ true → has (features rows) c ≡ true
-  class_row c on = has_features rows table c ∙ and_first (has_row rows c) (is_of_class class c) (sym (has_class rows class table c) ∙ on)
+  class_row c on = has_features rows sound c ∙ and_first (has_row rows c) (is_of_class class c) (sym (has_class rows class sound c) ∙ on)
 
   bits_inside : has_outside (xstate_bv area) (features rows) ≡ false
   bits_inside = inside (xstate_bv area) (features rows) (λ c on. class_row c (h.bits c on))
@@ -155,7 +195,7 @@ module _ (rows : List Row) (class : Class) (id : ℕ) (area : List ℕ) (armed m
       no_middle false d = refl
 
   -- XRSTORS takes a compacted one, but for tiles
-  pub compacted_accepts : is_compacted (xcomp_bv area) ≡ true → compacted_trap rows armed mask area ≡ (if stops_tiles armed mask area then Some (Nm (record { 0 = tiles })) else None)
+  compacted_accepts : is_compacted (xcomp_bv area) ≡ true → compacted_trap rows armed mask area ≡ (if stops_tiles armed mask area then Some (Nm (record { 0 = tiles })) else None)
   unfolding compacted_trap
   compacted_accepts compact = elim h.names [
     | inl names ↦ rw (bits_inside, names_inside names, bits_named names, compact, h.reserved, right_control (has (xstate_bv area) 1) refl) refl
@@ -174,7 +214,7 @@ module _ (rows : List Row) (class : Class) (id : ℕ) (area : List ℕ) (armed m
   reserved_first = ap (list_any (λ byte. not (byte == 0))) (sym (take-take 8 48 (drop 528 area) (omega arith))) ∙ none_first 8 (slice_range area 528 576) h.reserved
 
   -- XRSTOR a standard one
-  pub standard_accepts : xcomp_bv area ≡ 0 → standard_trap rows armed mask area ≡ (if stops_tiles armed mask area then Some (Nm (record { 0 = tiles })) else None)
+  standard_accepts : xcomp_bv area ≡ 0 → standard_trap rows armed mask area ≡ (if stops_tiles armed mask area then Some (Nm (record { 0 = tiles })) else None)
   unfolding standard_trap
   standard_accepts zero_is =
       let same : h.file.mxcsr ≡ mxcsr area = h.stands.control ∙ ap (λ n. if is_compacted n && not (has (xstate_bv area) 1) then initial_mxcsr else mxcsr area) zero_is in
@@ -186,12 +226,19 @@ module _ (rows : List Row) (class : Class) (id : ℕ) (area : List ℕ) (armed m
       no_right false = refl
 
 -- and then that is the reason
-pub stopped : (armed mask : ℕ) (area : List ℕ) (trap : Trap) → Some trap ≡ (if stops_tiles armed mask area then Some (Nm (record { 0 = tiles })) else None) → IsStopped armed mask area trap
+stopped : (armed mask : ℕ) (area : List ℕ) (trap : Trap) → Some trap ≡ (if stops_tiles armed mask area then Some (Nm (record { 0 = tiles })) else None) → IsStopped armed mask area trap
 stopped armed mask area trap is = here (stops_tiles armed mask area) is
   where
     here : (b : Bool) → Some trap ≡ (if b then Some (Nm (record { 0 = tiles })) else None) → (b ≡ true) × (trap ≡ Nm (record { 0 = tiles }))
     here true is = (refl, cc is)
     here false is = absurd (cc is)
+
+-- of what can be loaded, by its format
+pub standard_stopped : (rows : List Row) (class : Class) (id : ℕ) (area : List ℕ) (armed mask : ℕ) (trap : Trap) → standard_trap rows armed mask area ≡ Some trap → IsLoadable rows class id area → xcomp_bv area ≡ 0 → IsStopped armed mask area trap
+standard_stopped rows class id area armed mask trap is loadable zero_is = stopped armed mask area trap (sym is ∙ standard_accepts rows class id area armed mask loadable zero_is)
+
+pub compacted_stopped : (rows : List Row) (class : Class) (id : ℕ) (area : List ℕ) (armed mask : ℕ) (trap : Trap) → compacted_trap rows armed mask area ≡ Some trap → IsLoadable rows class id area → is_compacted (xcomp_bv area) ≡ true → IsStopped armed mask area trap
+compacted_stopped rows class id area armed mask trap is loadable compact = stopped armed mask area trap (sym is ∙ compacted_accepts rows class id area armed mask loadable compact)
 
 -- ---- an area that can be loaded after a save
 

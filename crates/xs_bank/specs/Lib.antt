@@ -6,4 +6,5 @@ pub mod Bank
 pub mod Rows
 pub mod Tracking
 pub mod Holds
+pub mod SetUp
 pub mod Turn

@@ -69,7 +69,13 @@ pub record IsLoaded (mask : ℕ) (area : List ℕ) (control : ℕ) (before after
   pub others : (c : ℕ) → has mask c ≡ false → part after c ≡ part before c
   pub control_is : after.mxcsr ≡ control
 
--- A load of every component of the machine but PKRU, from an area that stands for a file, gives the registers of that file, PKRU
--- aside: what the area has no state of is initial.
-abbrev pub IsWholeLoad : ℕ → List ℕ → List Row → File → Type 0
-IsWholeLoad mask area rows after = (file : File) → IsFile file → StandsFor rows area file → ((c : ℕ) → has_row rows c ≡ true → (c ≡ 9 → ⊥) → has mask c ≡ true) → AreSameButPkru file after
+-- What a load takes of a file: each component of the mask but PKRU is that file's, and so is MXCSR where the load takes it.
+-- Where the mask leaves out PKRU alone, the whole file is that one, PKRU aside: what the area has no state of is initial.
+pub record IsTakenFrom (file : File) (rows : List Row) (mask : ℕ) (takes_control : Bool) (after : File) : Type 0 where
+  pub parts : (c : ℕ) → (c ≡ 9 → ⊥) → has mask c ≡ true → part after c ≡ part file c
+  pub control : takes_control ≡ true → after.mxcsr ≡ file.mxcsr
+  pub all : ((c : ℕ) → has_row rows c ≡ true → (c ≡ 9 → ⊥) → has mask c ≡ true) → AreSameButPkru file after
+
+-- A load from an area that stands for a file takes it of that file.
+abbrev pub IsWholeLoad : ℕ → Bool → List ℕ → List Row → File → Type 0
+IsWholeLoad mask takes_control area rows after = (file : File) → IsFile file → StandsFor rows area file → IsTakenFrom file rows mask takes_control after

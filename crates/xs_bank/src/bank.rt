@@ -15,6 +15,7 @@ ghost use Rattle.xs_base.specs.Register.{IsRegister};
 ghost use Rattle.xs_bank.specs.Registers.{AreRegisters};
 ghost use Rattle.xs_bank.specs.Save as save;
 ghost use Rattle.xs_base.specs.Sets.{has};
+ghost use Rattle.xs_base.specs.Standard.{has_control};
 ghost use Rattle.xs_base.specs.Trail as trail;
 
 use crate::instruction::{Execs, Trap};
@@ -109,8 +110,8 @@ pub trait Bank: Drop {
         ensures bank { IfOk result (λ _. state self.new ≡ record (state self.old) { file = (state self.new).file; tracked = (state self.new).tracked; loads = trail.counted (state self.old).loads }) }
         ensures kept { IfErr result (λ _. state self.new ≡ state self.old) }
         ensures ready { IfOk result (λ _. (m : ℕ) → banks.IsReady (state self.new) area.now.id m area.now.bytes.items) }
-        ensures whole { IfOk result (λ _. load.IsWholeLoad mask.0 area.now.bytes.items (state self.old).file.rows (state self.new).file) }
-        ensures accepted { IfErr result (λ t. (class : Class) → IsLoadable (state self.old).file.rows class area.now.id area.now.bytes.items → xcomp_bv area.now.bytes.items ≡ 0 → load.IsStopped (state self.old).armed mask.0 area.now.bytes.items t) };
+        ensures whole { IfOk result (λ _. load.IsWholeLoad mask.0 (has_control mask.0) area.now.bytes.items (state self.old).file.rows (state self.new).file) }
+        ensures accepted { IfErr result (λ t. (class : Class) (id : ℕ) → IsLoadable (state self.old).file.rows class id area.now.bytes.items → xcomp_bv area.now.bytes.items ≡ 0 → load.IsStopped (state self.old).armed mask.0 area.now.bytes.items t) };
 
     /// Loads the components of the mask from an area in the compacted format (SDM volume 1, 13.12). The area has at least
     /// 576 bytes and, where it is compacted, the bytes of each component of the machine that XCOMP_BV names. Refused by the
@@ -125,8 +126,8 @@ pub trait Bank: Drop {
         ensures bank { IfOk result (λ _. state self.new ≡ record (state self.old) { file = (state self.new).file; tracked = (state self.new).tracked; loads = trail.counted (state self.old).loads }) }
         ensures kept { IfErr result (λ _. state self.new ≡ state self.old) }
         ensures ready { IfOk result (λ _. (m : ℕ) → banks.IsReady (state self.new) area.now.id m area.now.bytes.items) }
-        ensures whole { IfOk result (λ _. load.IsWholeLoad mask.0 area.now.bytes.items (state self.old).file.rows (state self.new).file) }
-        ensures accepted { IfErr result (λ t. (class : Class) → IsLoadable (state self.old).file.rows class area.now.id area.now.bytes.items → is_compacted (xcomp_bv area.now.bytes.items) ≡ true → load.IsStopped (state self.old).armed mask.0 area.now.bytes.items t) };
+        ensures whole { IfOk result (λ _. load.IsWholeLoad mask.0 (has mask.0 1) area.now.bytes.items (state self.old).file.rows (state self.new).file) }
+        ensures accepted { IfErr result (λ t. (class : Class) (id : ℕ) → IsLoadable (state self.old).file.rows class id area.now.bytes.items → is_compacted (xcomp_bv area.now.bytes.items) ≡ true → load.IsStopped (state self.old).armed mask.0 area.now.bytes.items t) };
 
     /// PKRU (SDM volume 2, RDPKRU). It isn't counted.
     fn rdpkru(&self) -> u32

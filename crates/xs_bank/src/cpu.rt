@@ -1,14 +1,9 @@
 //! A processor: its bank, and what the kernel keeps for it.
 
-ghost use Rattle.std.specs.Prelude.{◌≡◌, ℕ, None, IfOk};
-ghost use Rattle.xs_base.specs.Area.{StandsFor, HasPlaces};
-ghost use Rattle.xs_base.specs.Compact.{compacted};
-ghost use Rattle.xs_base.specs.File.{initial_file};
-ghost use Rattle.xs_base.specs.Header.{xcomp_bv};
-ghost use Rattle.xs_base.specs.KernelArea.{class_features, IsLoadable};
+ghost use Rattle.std.specs.Prelude.{◌≡◌, None, IfOk};
 ghost use Rattle.xs_base.specs.Layout.{avx_rows};
-ghost use Rattle.xs_base.specs.declared.class.Class.TheVariants.{Small};
 ghost use Rattle.xs_bank.specs.Bank as banks;
+ghost use Rattle.xs_bank.specs.SetUp.{WasSetUp};
 
 use crate::bank::Bank;
 use crate::initial_area::InitialArea;
@@ -58,10 +53,7 @@ impl<B: Bank> Cpu<B> {
         ensures layout { self.new.layout ≡ layout.now }
         ensures bank { B.state self.new.bank ≡ banks.set_up (B.state self.old.bank) layout.now }
         ensures mark { self.new.mark ≡ None }
-        ensures names { xcomp_bv self.new.initial ≡ compacted (class_features layout.now Small) }
-        ensures stands { StandsFor layout.now self.new.initial (initial_file layout.now) }
-        ensures loadable { (id : ℕ) → (id ≡ 0 → ⊥) → IsLoadable layout.now Small id self.new.initial }
-        ensures places { HasPlaces layout.now self.new.initial (xcomp_bv self.new.initial) }
+        ensures set_up { WasSetUp layout.now (B.state self.new.bank) self.new.initial }
     {
         self.bank.set_up(layout);
         self.layout = *layout;

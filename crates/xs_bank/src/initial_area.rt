@@ -1,12 +1,7 @@
 //! A processor's area in the initial configuration.
 
-ghost use Rattle.std.specs.Prelude.{◌≡◌, ℕ, length, IfOk};
-ghost use Rattle.xs_base.specs.Area.{StandsFor, HasPlaces};
-ghost use Rattle.xs_base.specs.Compact.{compacted};
-ghost use Rattle.xs_base.specs.File.{initial_file};
-ghost use Rattle.xs_base.specs.Header.{xcomp_bv};
-ghost use Rattle.xs_base.specs.KernelArea.{class_features, IsLoadable};
-ghost use Rattle.xs_base.specs.declared.class.Class.TheVariants.{Small};
+ghost use Rattle.std.specs.Prelude.{◌≡◌, length, IfOk};
+ghost use Rattle.xs_bank.specs.SetUp.{IsInitialArea};
 
 use std::alloc::{AllocError, Global};
 use std::marker::Model;
@@ -55,10 +50,7 @@ impl InitialArea {
     /// Makes it a Small area of the machine without state, in the compacted format. But for its number it can be loaded, and it
     /// has the bytes of each place that it names.
     pub fn set_up(&mut self, layout: &Layout)
-        ensures names { xcomp_bv self.new ≡ compacted (class_features layout.now Small) }
-        ensures stands { StandsFor layout.now self.new (initial_file layout.now) }
-        ensures loadable { (id : ℕ) → (id ≡ 0 → ⊥) → IsLoadable layout.now Small id self.new }
-        ensures places { HasPlaces layout.now self.new (xcomp_bv self.new) }
+        ensures { IsInitialArea layout.now self.new }
     {
         // The rows pass every test of a table.
         let _ = layout.len();

@@ -3,25 +3,26 @@
 #![tactic(auto)]
 
 mod bank;
+mod bank_of;
 #[cfg(test)]
 mod bank_tests;
 mod checks;
+mod choice;
 mod cpu;
 #[cfg(test)]
 mod fixtures;
 mod initial_area;
 mod instruction;
+mod laws;
 mod loading;
 #[cfg(test)]
 mod log;
 #[cfg(test)]
 mod optimisation_tests;
-mod plain;
 #[cfg(test)]
 mod random;
 mod registers;
 mod saving;
-mod track;
 mod tracking;
 mod trail;
 #[cfg(test)]
@@ -32,8 +33,8 @@ mod turn_tests;
 mod turns;
 
 pub use bank::Bank;
+pub use bank_of::{BankOf, PlainBank, TrackBank};
 pub use cpu::Cpu;
 pub use initial_area::InitialArea;
 pub use instruction::{Execs, Trap};
-pub use plain::PlainBank;
-pub use track::TrackBank;
+pub use laws::an_area_of_the_registers_is_ready;

@@ -1,84 +1,24 @@
 //! Loads: what any bank takes of an area.
 
-ghost use Rattle.std.specs.Prelude.{◌≡◌, ℕ, ◌+◌, ◌≤◌, true, false, length, slice_get, Some, None, IfOk, IfErr, MatchResult};
+ghost use Rattle.std.specs.Prelude.{◌≡◌, ℕ, ◌+◌, ◌≤◌, true, length, slice_get, Some};
 ghost use Rattle.xs_base.specs.declared.component.Row.{Row};
-ghost use Rattle.xs_base.specs.Compact.{place, is_compacted};
-ghost use Rattle.xs_base.specs.Area.{HasPlaces};
+ghost use Rattle.xs_base.specs.Compact.{place};
 ghost use Rattle.xs_bank.specs.Bank.{disarmed_file};
 ghost use Rattle.xs_base.specs.Header as header;
 ghost use Rattle.xs_base.specs.Layout.{IsSound, has_row};
 ghost use Rattle.xs_bank.specs.Load as load;
-ghost use Rattle.xs_bank.specs.Load.{IsLoaded, IsWholeLoad};
-ghost use Rattle.xs_base.specs.KernelArea.{IsLoadable};
-ghost use Rattle.xs_base.specs.declared.class.Class.{Class};
+ghost use Rattle.xs_bank.specs.Load.{IsLoaded};
 ghost use Rattle.xs_base.specs.Sets.{has};
 ghost use Rattle.xs_bank.specs.Rows.{IsRowLoaded};
 
-use crate::checks::{compacted_trap, standard_trap};
-use crate::instruction::Trap;
-use xs_area::{Cursor, mxcsr, xcomp_bv, xstate_bv};
+use xs_area::{mxcsr, xcomp_bv, xstate_bv};
 use xs_base::{Comp, Features, INITIAL_MXCSR, Row};
+use xs_layout::Cursor;
 use xs_regs::File;
-
-/// Loads the components of the mask from an area in the standard format, where these components are armed, or answers the
-/// first reason against it (SDM volume 1, 13.8). The area has the standard place of each component of the mask that its
-/// XSTATE_BV names.
-pub fn load_standard(
-    file: &mut File,
-    armed: Features,
-    mask: Features,
-    area: &[u8],
-) -> Result<(), Trap>
-    requires header { 576 ≤ length area.now }
-    requires places { (i : ℕ) (r : Row) → slice_get file.old.rows i ≡ Some r → has mask.0 r.comp.0 ≡ true → has (header.xstate_bv area.now) r.comp.0 ≡ true → r.offset + r.size ≤ length area.now }
-    ensures trap { MatchResult result (λ _. load.standard_trap file.old.rows armed.0 mask.0 area.now ≡ None) (λ t. load.standard_trap file.old.rows armed.0 mask.0 area.now ≡ Some t) }
-    ensures loaded { IfOk result (λ _. IsLoaded mask.0 area.now (load.standard_control mask.0 area.now file.old.mxcsr) file.old file.new) }
-    ensures whole { IfOk result (λ _. IsWholeLoad mask.0 area.now file.old.rows file.new) }
-    ensures accepted { IfErr result (λ t. (class : Class) (id : ℕ) → IsLoadable file.old.rows class id area.now → header.xcomp_bv area.now ≡ 0 → load.IsStopped armed.0 mask.0 area.now t) }
-    ensures kept { IfErr result (λ _. file.new ≡ file.old) }
-{
-    let trap = standard_trap(file.layout(), armed, mask, area);
-    if let Some(trap) = trap {
-        return Err(trap);
-    }
-    let control = standard_control(mask, area, file.mxcsr());
-    load(file, mask, area, control);
-    // The file is one of its machine.
-    let _ = file.layout();
-    Ok(())
-}
-
-/// Loads the components of the mask from an area in the compacted format, where these components are armed, or answers
-/// the first reason against it (SDM volume 1, 13.12). The area has, where it is compacted,
-/// the bytes of each component of the machine that its XCOMP_BV names.
-pub fn load_compacted(
-    file: &mut File,
-    armed: Features,
-    mask: Features,
-    area: &[u8],
-) -> Result<(), Trap>
-    requires header { 576 ≤ length area.now }
-    requires places { is_compacted (header.xcomp_bv area.now) ≡ true → HasPlaces file.old.rows area.now (header.xcomp_bv area.now) }
-    ensures trap { MatchResult result (λ _. load.compacted_trap file.old.rows armed.0 mask.0 area.now ≡ None) (λ t. load.compacted_trap file.old.rows armed.0 mask.0 area.now ≡ Some t) }
-    ensures loaded { IfOk result (λ _. IsLoaded mask.0 area.now (load.compacted_control mask.0 area.now file.old.mxcsr) file.old file.new) }
-    ensures whole { IfOk result (λ _. IsWholeLoad mask.0 area.now file.old.rows file.new) }
-    ensures accepted { IfErr result (λ t. (class : Class) (id : ℕ) → IsLoadable file.old.rows class id area.now → is_compacted (header.xcomp_bv area.now) ≡ true → load.IsStopped armed.0 mask.0 area.now t) }
-    ensures kept { IfErr result (λ _. file.new ≡ file.old) }
-{
-    let trap = compacted_trap(file.layout(), armed, mask, area);
-    if let Some(trap) = trap {
-        return Err(trap);
-    }
-    let control = compacted_control(mask, area, file.mxcsr());
-    load(file, mask, area, control);
-    // The file is one of its machine.
-    let _ = file.layout();
-    Ok(())
-}
 
 /// Loads the components of the mask from an area in either format, and MXCSR as it is given. The area has the place of
 /// each component of the mask that its XSTATE_BV names.
-fn load(file: &mut File, mask: Features, area: &[u8], control: u32)
+pub fn load(file: &mut File, mask: Features, area: &[u8], control: u32)
     requires header { 576 ≤ length area.now }
     requires places { (i : ℕ) (r : Row) → slice_get file.old.rows i ≡ Some r → has mask.0 r.comp.0 ≡ true → has (header.xstate_bv area.now) r.comp.0 ≡ true → place file.old.rows (header.xcomp_bv area.now) r + r.size ≤ length area.now }
     ensures { IsLoaded mask.0 area.now control file.old file.new }
@@ -96,8 +36,7 @@ fn load_components(file: &mut File, mask: Features, area: &[u8])
     let bits = Features(xstate_bv(area));
     let mut cursor = Cursor::new(Features(xcomp_bv(area)));
     'each: for i in 0..file.layout().len() {
-        let row = file.layout().row_at(i);
-        let at = cursor.pass(row);
+        let (row, at) = cursor.pass(file.layout(), i);
         if mask.has(row.comp) {
             load_row(file, bits, row, area, at);
         }
@@ -120,7 +59,7 @@ fn load_row(file: &mut File, bits: Features, row: Row, area: &[u8], at: usize)
 }
 
 /// MXCSR after a load from the standard format (SDM volume 1, 13.8).
-fn standard_control(mask: Features, area: &[u8], old: u32) -> u32
+pub fn standard_control(mask: Features, area: &[u8], old: u32) -> u32
     requires { 576 ≤ length area.now }
     ensures { result ≡ load.standard_control mask.0 area.now old }
 {
@@ -128,14 +67,14 @@ fn standard_control(mask: Features, area: &[u8], old: u32) -> u32
 }
 
 /// MXCSR after a load from the compacted format (SDM volume 1, 13.12).
-fn compacted_control(mask: Features, area: &[u8], old: u32) -> u32
+pub fn compacted_control(mask: Features, area: &[u8], old: u32) -> u32
     requires { 576 ≤ length area.now }
     ensures { result ≡ load.compacted_control mask.0 area.now old }
 {
-    if !mask.has(Comp(1)) {
+    if !mask.has(Comp::SSE) {
         return old;
     }
-    if Features(xstate_bv(area)).has(Comp(1)) {
+    if Features(xstate_bv(area)).has(Comp::SSE) {
         mxcsr(area)
     } else {
         INITIAL_MXCSR
@@ -146,7 +85,7 @@ fn compacted_control(mask: Features, area: &[u8], old: u32) -> u32
 pub fn disarm(file: &mut File, armed: Features)
     ensures { file.new ≡ disarmed_file file.old armed.0 }
 {
-    if armed.has(Comp(18)) {
-        file.reset(Comp(18));
+    if armed.has(Comp::TILEDATA) {
+        file.reset(Comp::TILEDATA);
     }
 }

@@ -2,26 +2,24 @@
 
 ghost use Rattle.std.specs.Prelude.{◌≡◌, ℕ, ◌+◌, ◌^◌, ◌<◌, ◌≤◌, ◌⊎◌, true, List, length, take, slice_index, slice_get, Some, None, IfOk, IfErr, MatchResult, if◌then◌else◌};
 ghost use Rattle.std.specs.Int.{from_le_bytes, w32};
-ghost use Rattle.xs_base.specs.declared.class.Class.{Class};
 ghost use Rattle.xs_base.specs.declared.component.Row.{Row};
 ghost use Rattle.xs_base.specs.Area.{HasPlaces};
 ghost use Rattle.xs_base.specs.Compact.{is_compacted};
 ghost use Rattle.xs_base.specs.Component.{initial_part};
-ghost use Rattle.xs_base.specs.File.{initial_file, part, with_part, with_pkru, read_place, write_place, is_mxcsr};
+ghost use Rattle.xs_base.specs.File.{IsFile, initial_file, part, with_part, with_pkru, read_place, write_place, is_mxcsr};
 ghost use Rattle.xs_base.specs.Header as header;
-ghost use Rattle.xs_base.specs.KernelArea.{IsLoadable};
 ghost use Rattle.xs_base.specs.Layout.{avx_rows, has_row};
 ghost use Rattle.xs_base.specs.Register.{IsRegister};
 ghost use Rattle.xs_base.specs.Sets.{has};
 ghost use Rattle.xs_bank.specs.Bank as banks;
 ghost use Rattle.xs_bank.specs.Load as load;
-ghost use Rattle.xs_bank.specs.Load.{IsLoaded, IsWholeLoad};
+ghost use Rattle.xs_bank.specs.Load.{IsLoaded};
 ghost use Rattle.xs_bank.specs.Registers.{AreRegisters};
 ghost use Rattle.xs_bank.specs.Tracking.{shown};
 
-use crate::checks::{read_trap, write_trap};
+use crate::checks::{compacted_trap, read_trap, standard_trap, write_trap};
 use crate::instruction::Trap;
-use crate::loading::{disarm, load_compacted, load_standard};
+use crate::loading::{compacted_control, disarm, load, standard_control};
 use crate::tracking::{LoadedArea, only, touch, track};
 use std::alloc::{AllocError, Global};
 use std::marker::Model;
@@ -85,7 +83,7 @@ impl Registers {
         ensures { self.new ≡ record { file = initial_file layout.now; armed = if has_row layout.now 18 then load.tiles else 0; tracked = None } }
     {
         self.file.set_up(layout);
-        self.armed = if layout.has_row(Comp(18)) {
+        self.armed = if layout.has_row(Comp::TILEDATA) {
             Features::TILEDATA
         } else {
             Features(0)
@@ -129,8 +127,8 @@ impl Registers {
         ensures released { self.new ≡ record self.old { file = with_part (with_part self.old.file 17 (initial_part 17)) 18 (initial_part 18); tracked = banks.touch 0x60000 self.old.tracked } }
         ensures ready { (id m : ℕ) (area : List ℕ) → banks.StandsUnmodified self.old.file self.old.tracked id m area → banks.StandsUnmodified self.new.file self.new.tracked id m area }
     {
-        self.file.reset(Comp(17));
-        self.file.reset(Comp(18));
+        self.file.reset(Comp::TILECFG);
+        self.file.reset(Comp::TILEDATA);
         self.tracked = touch(self.tracked, TILE_COMPONENTS);
     }
 
@@ -143,12 +141,14 @@ impl Registers {
         ensures loaded { IfOk result (λ _. IsLoaded mask.0 area.now (load.standard_control mask.0 area.now self.old.file.mxcsr) self.old.file self.new.file) }
         ensures armed { self.new.armed ≡ self.old.armed }
         ensures tracked { IfOk result (λ _. self.new.tracked ≡ Some (banks.loaded_from self.old.file.rows id mask.0 area.now)) }
-        ensures ready { IfOk result (λ _. (m : ℕ) → banks.StandsUnmodified self.new.file self.new.tracked id m area.now) }
-        ensures whole { IfOk result (λ _. IsWholeLoad mask.0 area.now self.old.file.rows self.new.file) }
-        ensures accepted { IfErr result (λ t. (class : Class) (id : ℕ) → IsLoadable self.old.file.rows class id area.now → header.xcomp_bv area.now ≡ 0 → load.IsStopped self.old.armed mask.0 area.now t) }
+        ensures file { IfOk result (λ _. IsFile self.new.file) }
         ensures kept { IfErr result (λ _. self.new ≡ self.old) }
     {
-        load_standard(&mut self.file, self.armed, mask, area)?;
+        if let Some(trap) = standard_trap(self.file.layout(), self.armed, mask, area) {
+            return Err(trap);
+        }
+        let control = standard_control(mask, area, self.file.mxcsr());
+        load(&mut self.file, mask, area, control);
         self.tracked = track(self.file.layout(), id, mask, area);
         Ok(())
     }
@@ -162,12 +162,14 @@ impl Registers {
         ensures loaded { IfOk result (λ _. IsLoaded mask.0 area.now (load.compacted_control mask.0 area.now self.old.file.mxcsr) self.old.file self.new.file) }
         ensures armed { self.new.armed ≡ self.old.armed }
         ensures tracked { IfOk result (λ _. self.new.tracked ≡ Some (banks.loaded_from self.old.file.rows id mask.0 area.now)) }
-        ensures ready { IfOk result (λ _. (m : ℕ) → banks.StandsUnmodified self.new.file self.new.tracked id m area.now) }
-        ensures whole { IfOk result (λ _. IsWholeLoad mask.0 area.now self.old.file.rows self.new.file) }
-        ensures accepted { IfErr result (λ t. (class : Class) (id : ℕ) → IsLoadable self.old.file.rows class id area.now → is_compacted (header.xcomp_bv area.now) ≡ true → load.IsStopped self.old.armed mask.0 area.now t) }
+        ensures file { IfOk result (λ _. IsFile self.new.file) }
         ensures kept { IfErr result (λ _. self.new ≡ self.old) }
     {
-        load_compacted(&mut self.file, self.armed, mask, area)?;
+        if let Some(trap) = compacted_trap(self.file.layout(), self.armed, mask, area) {
+            return Err(trap);
+        }
+        let control = compacted_control(mask, area, self.file.mxcsr());
+        load(&mut self.file, mask, area, control);
         self.tracked = track(self.file.layout(), id, mask, area);
         Ok(())
     }

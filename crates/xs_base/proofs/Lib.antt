@@ -10,7 +10,11 @@ pub mod CompactLemmas
 pub mod PlaceLemmas
 pub mod StandardLemmas
 pub mod FileLemmas
+pub mod TaskLemmas
 pub mod Registers
 pub mod WorkedValues
 pub mod AreaLemmas
 pub mod ZeroLemmas
+pub mod HeaderLemmas
+pub mod CompactedLemmas
+pub mod ClassLemmas

@@ -4,11 +4,11 @@
 use Rattle.std.specs.Prelude.{ℕ, ◌+◌, ◌*◌, ◌/◌, ◌^◌, Bool, not, ◌&&◌, ◌||◌, ◌==◌, nat_le, List, [], ◌∷◌, if◌then◌else◌, bit_or}
 use Rattle.xs_base.specs.declared.component.Row.{Row}
 use Rattle.xs_base.specs.Sets.{has}
-use Rattle.xs_base.specs.Layout.{has_row}
+use Rattle.xs_base.specs.Layout.{has_row, is_aligned}
 
 -- where the row's component begins, where the components before it end at n
 abbrev pub aligned : Row → ℕ → ℕ
-aligned r n = if has r.flags 1 then (n + 63) / 64 * 64 else n
+aligned r n = if is_aligned r then (n + 63) / 64 * 64 else n
 
 -- the row has a place after the header
 abbrev pub is_extended : ℕ → Row → Bool
@@ -36,18 +36,25 @@ compact_offset rows mask c = compact_from mask c 576 rows
 
 -- ---- both formats, by XCOMP_BV: bit 63 is that of the compacted format (SDM volume 1, 13.4.2)
 
+abbrev pub compacted_bit : ℕ
+compacted_bit = 63
+
 abbrev pub is_compacted : ℕ → Bool
-is_compacted xcomp = has xcomp 63
+is_compacted xcomp = has xcomp compacted_bit
 
 -- XCOMP_BV of a compacted area with a place for each of these components
 abbrev pub compacted : ℕ → ℕ
-compacted mask = bit_or (2 ^ 63) mask
+compacted mask = bit_or (2 ^ compacted_bit) mask
 
 -- where the row's component stands
 abbrev pub place : List Row → ℕ → Row → ℕ
 place rows xcomp r = if is_compacted xcomp && nat_le 2 r.comp.0 then compact_offset rows xcomp r.comp.0 else r.offset
 
--- Component c has a place: the compacted format has one for each component that XCOMP_BV names, the standard format
--- one for each of the machine.
+-- XCOMP_BV leaves a place for component c: the compacted format has one for each component that it names, the standard
+-- format one for each.
+abbrev pub leaves_place : ℕ → ℕ → Bool
+leaves_place xcomp c = not (is_compacted xcomp) || has xcomp c
+
+-- Component c has a place: the machine has it, and XCOMP_BV leaves a place for it.
 abbrev pub has_place : List Row → ℕ → ℕ → Bool
-has_place rows xcomp c = has_row rows c && (not (is_compacted xcomp) || has xcomp c)
+has_place rows xcomp c = has_row rows c && leaves_place xcomp c

@@ -5,6 +5,25 @@
 use Rattle.std.specs.Prelude.{ℕ, List, [], ◌∷◌, slice_index, if◌then◌else◌, ◌==◌}
 use Rattle.xs_base.specs.Bytes.{zeros}
 
+-- The number of a component that a definition speaks of.
+abbrev pub x87_number : ℕ
+x87_number = 0
+
+abbrev pub sse_number : ℕ
+sse_number = 1
+
+abbrev pub avx_number : ℕ
+avx_number = 2
+
+abbrev pub pkru_number : ℕ
+pkru_number = 9
+
+abbrev pub tilecfg_number : ℕ
+tilecfg_number = 17
+
+abbrev pub tiledata_number : ℕ
+tiledata_number = 18
+
 -- x87, SSE, AVX, opmask, ZMM_Hi256, Hi16_ZMM, PKRU, TILECFG, TILEDATA
 abbrev pub component_numbers : List ℕ
 component_numbers = 0 ∷ 1 ∷ 2 ∷ 5 ∷ 6 ∷ 7 ∷ 9 ∷ 17 ∷ 18 ∷ []
@@ -23,7 +42,7 @@ component_size c = slice_index sizes c
 
 -- FCW is 037FH, and every other byte is zero.
 unfoldable pub initial_part : ℕ → List ℕ
-initial_part c = if c == 0 then 0x7f ∷ 0x03 ∷ zeros 158 else zeros (component_size c)
+initial_part c = if c == x87_number then 0x7f ∷ 0x03 ∷ zeros 158 else zeros (component_size c)
 
 -- MXCSR after initialisation (SDM volume 1, 10.2.3)
 abbrev pub initial_mxcsr : ℕ

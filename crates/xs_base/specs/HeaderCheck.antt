@@ -13,7 +13,7 @@ use Rattle.xs_base.specs.declared.header.Origin.TheVariants.{Frame, Regset}
 use Rattle.xs_base.specs.declared.header.Parts.{Parts}
 use Rattle.xs_base.specs.First.{first_of}
 use Rattle.xs_base.specs.Sets.{has}
-use Rattle.xs_base.specs.Component.{initial_mxcsr}
+use Rattle.xs_base.specs.Component.{initial_mxcsr, x87_number, sse_number, avx_number, pkru_number}
 use Rattle.xs_base.specs.Layout.{row_of}
 use Rattle.xs_base.specs.Standard.{has_control}
 use Rattle.xs_base.specs.Header.{xstate_bv, xcomp_bv, mxcsr}
@@ -32,8 +32,8 @@ is_wrong_mxcsr value = nat_lt 0xFFFF value
 
 -- MXCSR is looked at: a frame's where SSE is wanted of it, a register set's where it has x87, SSE or AVX.
 abbrev pub checks_mxcsr : Origin → ℕ → Bool
-checks_mxcsr (Frame wanted) bits = has wanted.0 1
-checks_mxcsr Regset bits = has bits 0 || has bits 1 || has bits 2
+checks_mxcsr (Frame wanted) bits = has wanted.0 sse_number
+checks_mxcsr Regset bits = has bits x87_number || has bits sse_number || has bits avx_number
 
 -- the first test that the image fails, where these components are allowed
 unfoldable pub header_error : Origin → ℕ → List ℕ → Option HeaderError
@@ -50,7 +50,7 @@ bits_in (Frame wanted) bytes = bit_and wanted.0 (xstate_bv bytes)
 bits_in Regset bytes = xstate_bv bytes
 
 abbrev pub takes_mxcsr : Origin → ℕ → Bool
-takes_mxcsr (Frame wanted) bits = has wanted.0 1
+takes_mxcsr (Frame wanted) bits = has wanted.0 sse_number
 takes_mxcsr Regset bits = has_control bits
 
 abbrev pub mxcsr_in : Origin → List ℕ → ℕ
@@ -63,7 +63,7 @@ pkru_at (Some r) bytes = from_le_bytes w32 (slice_range bytes r.offset (r.offset
 
 -- the image's PKRU
 abbrev pub pkru_in : List Row → ℕ → List ℕ → ℕ
-pkru_in rows bits bytes = if has bits 9 then pkru_at (row_of rows 9) bytes else 0
+pkru_in rows bits bytes = if has bits pkru_number then pkru_at (row_of rows pkru_number) bytes else 0
 
 -- what an image has
 abbrev pub parts_in : List Row → Origin → List ℕ → Parts

@@ -7,7 +7,7 @@ use Rattle.xs_base.specs.declared.class.Class.{Class}
 use Rattle.xs_base.specs.declared.class.Class.TheVariants.{Small, Large}
 use Rattle.xs_base.specs.declared.component.Row.{Row}
 use Rattle.xs_base.specs.Sets.{has}
-use Rattle.xs_base.specs.Component.{component_numbers}
+use Rattle.xs_base.specs.Component.{component_numbers, pkru_number, tiledata_number}
 use Rattle.xs_base.specs.Layout.{has_row, set_of}
 use Rattle.xs_base.specs.Compact.{compacted, compact_size}
 use Rattle.xs_base.specs.File.{File, IsFile}
@@ -17,8 +17,8 @@ use Rattle.xs_base.specs.Area.{StandsFor}
 
 -- Component c has a place in the areas of the class, where the machine has it: TILEDATA only in Large ones.
 abbrev pub is_of_class : Class → ℕ → Bool
-is_of_class Small c = not (c == 9) && not (c == 18)
-is_of_class Large c = not (c == 9)
+is_of_class Small c = not (c == pkru_number) && not (c == tiledata_number)
+is_of_class Large c = not (c == pkru_number)
 
 -- the components that the areas of the class have a place for
 abbrev pub class_features : List Row → Class → ℕ

@@ -4,6 +4,7 @@
 use Rattle.std.specs.Prelude.{◌≡◌, ℕ, ◌+◌, ◌*◌, ◌<◌, true, List, [], ◌∷◌, ◌++◌, codes, decimal, Any}
 use Rattle.xs_base.specs.declared.component.Row.{Row}
 use Rattle.xs_base.specs.declared.component.Place.{Place}
+use Rattle.xs_base.specs.Component.{tiledata_number}
 use Rattle.xs_base.specs.Layout.{has_row}
 
 abbrev pub place_at : ℕ → ℕ → ℕ → Place
@@ -57,7 +58,7 @@ pub record IsTileRow (name : List ℕ) (place : Place) : Type 0 where
   pub tiles : tile < 8
   pub rows : row < 16
   pub spelled : name ≡ codes "tmm" ++ (decimal tile ++ codes "." ++ decimal row)
-  pub placed : place ≡ place_at 18 (1024 * tile + 64 * row) 64
+  pub placed : place ≡ place_at tiledata_number (1024 * tile + 64 * row) 64
 
 -- The name names a register, which stands at this place.
 pub data IsNamed (name : List ℕ) (place : Place) : Type 0 where

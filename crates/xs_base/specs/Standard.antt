@@ -6,7 +6,7 @@ use Rattle.xs_base.specs.declared.component.Row.{Row}
 use Rattle.xs_base.specs.Sets.{has}
 use Rattle.xs_base.specs.File.{File, part, is_own}
 use Rattle.xs_base.specs.Bytes.{is_within}
-use Rattle.xs_base.specs.Component.{component_size}
+use Rattle.xs_base.specs.Component.{component_size, sse_number, avx_number}
 
 -- Byte i is one of the row's component, which begins at `at`. Bytes 24 to 31 are no component's: MXCSR and its mask
 -- stand there.
@@ -30,7 +30,7 @@ control_bytes mxcsr = to_le_bytes w32 mxcsr ++ to_le_bytes w32 0xFFFF
 
 -- MXCSR is saved with SSE and with AVX (SDM volume 1, 13.7).
 abbrev pub has_control : ℕ → Bool
-has_control mask = has mask 1 || has mask 2
+has_control mask = has mask sse_number || has mask avx_number
 
 abbrev pub standard_byte : File → ℕ → List ℕ → ℕ → ℕ
 standard_byte file mask base i =

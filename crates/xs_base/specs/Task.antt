@@ -1,12 +1,13 @@
 -- The private task: what one user task owns, as if it had a processor to itself. It has a whole register file, and
 -- nothing of a save area but whether that has room for tiles. The place is how many lines of its body it has run.
-use Rattle.std.specs.Prelude.{ℕ, Bool, false, ◌&&◌, List, if◌then◌else◌}
+use Rattle.std.specs.Prelude.{◌≡◌, ℕ, ◌^◌, ◌<◌, Bool, false, not, ◌&&◌, ◌==◌, List, length, slice_index, slice_range, if◌then◌else◌}
+use Rattle.std.specs.Int.{from_le_bytes, w32}
 use Rattle.xs_base.specs.declared.component.Row.{Row}
 use Rattle.xs_base.specs.Bytes.{zeros}
-use Rattle.xs_base.specs.Component.{component_numbers}
+use Rattle.xs_base.specs.Component.{component_numbers, initial_part}
 use Rattle.xs_base.specs.Sets.{has}
 use Rattle.xs_base.specs.Layout.{features, default_features, full_size, default_size, set_of}
-use Rattle.xs_base.specs.File.{File, initial_file, with_pkru, is_saved}
+use Rattle.xs_base.specs.File.{File, IsFile, part, initial_file, with_pkru, is_saved}
 
 pub record PrivateTask : Type 0 where
   pub file : File
@@ -33,9 +34,18 @@ user_features task = if task.large then features task.file.rows else default_fea
 abbrev pub user_size : PrivateTask → ℕ
 user_size task = if task.large then full_size task.file.rows else default_size task.file.rows
 
--- the marks after a turn: the saved components within the user features
+-- the PKRU of a file
+abbrev pub pkru_of : File → ℕ
+pkru_of file = from_le_bytes w32 (slice_range (part file 9) 0 4)
+
+-- Bit c of the marks after a turn: a saved component within the user features. The bit of PKRU goes by its value alone,
+-- on a machine without component 9 too, where nothing shows it.
+abbrev pub is_marked : PrivateTask → ℕ → Bool
+is_marked task c = if c == 9 then not (pkru_of task.file == 0) else is_saved task.file c && has (user_features task) c
+
+-- the marks after a turn
 unfoldable pub marks_after : PrivateTask → ℕ
-marks_after task = set_of (λ c. is_saved task.file c && has (user_features task) c) component_numbers
+marks_after task = set_of (is_marked task) component_numbers
 
 -- a task whose turn has ended
 abbrev pub parked : PrivateTask → PrivateTask
@@ -58,3 +68,21 @@ root_task rows = parked (record {
   place = 0;
   back = 0;
 })
+
+-- A file that a task of the machine with these rows may have: of bytes, and without bits 16 to 31 of MXCSR, which are
+-- reserved (SDM volume 1, 10.2.3).
+pub record IsFileOf (rows : List Row) (file : File) : Type 0 where
+  pub is_file : IsFile file
+  pub rows_are : file.rows ≡ rows
+  pub bytes : (c k : ℕ) → slice_index (part file c) k < 256
+  pub control : file.mxcsr < 2 ^ 16
+
+-- A valid private task: its file is one of the machine, and without room for TILEDATA that is initial; both memories have
+-- their lengths and are of bytes.
+pub record IsPrivateTask (rows : List Row) (task : PrivateTask) : Type 0 where
+  pub file : IsFileOf rows task.file
+  pub tiles_are : task.large ≡ false → part task.file 18 ≡ initial_part 18
+  pub frame_size : length task.frame ≡ 16388
+  pub frame_bytes : (k : ℕ) → slice_index task.frame k < 256
+  pub buffer_size : length task.buffer ≡ 16384
+  pub buffer_bytes : (k : ℕ) → slice_index task.buffer k < 256

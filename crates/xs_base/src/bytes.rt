@@ -1,9 +1,10 @@
 //! Writing over a part of some bytes: plain bytes, zeros, and components of the register state.
 
-ghost use Rattle.std.specs.Prelude.{◌≡◌, ◌+◌, ◌≤◌, ◌<◌, ◌^◌, length, slice_index, if◌then◌else◌};
+ghost use Rattle.std.specs.Prelude.{◌≡◌, ℕ, ◌+◌, ◌≤◌, ◌<◌, ◌^◌, List, ◌++◌, length, slice_index, MatchOption, if◌then◌else◌};
 ghost use Rattle.std.specs.Int.{to_le_bytes, w64};
 ghost use Rattle.xs_base.specs.Bytes.{splice, zeros};
 ghost use Rattle.xs_base.specs.Component.{component_size, initial_part};
+ghost use Rattle.xs_base.specs.File as file;
 ghost use Rattle.xs_base.specs.File.{is_own};
 ghost use Rattle.xs_base.specs.Standard.{IsWritten, IsCleaned, control_bytes};
 
@@ -39,15 +40,31 @@ pub fn clear(out: &mut [u8], at: usize, len: usize)
     out[at..at + len].fill(0);
 }
 
+/// The bytes after the prefix, if they begin with it.
+pub fn after<'a>(prefix: &[u8], bytes: &'a [u8]) -> Option<&'a [u8]>
+    ensures { MatchOption result ((rest : List ℕ) → bytes.now ≡ prefix.now ++ rest → ⊥) (λ x. bytes.now ≡ prefix.now ++ x.now) }
+{
+    bytes.strip_prefix(prefix)
+}
+
+/// The bytes of the component PKRU.
+#[tactic(auto, unfolding(crate::specs::Bytes::zeros))]
+pub fn pkru_bytes(value: u32) -> [u8; 8]
+    ensures { result ≡ file.pkru_bytes value }
+{
+    let [a, b, c, d] = value.to_le_bytes();
+    [a, b, c, d, 0, 0, 0, 0]
+}
+
 /// Makes zero what belongs to no register of the component that stands from byte `at` on: byte 5, bytes 24 to 31 and the
 /// upper six bytes of each ST slot of component 0, and the upper four bytes of component 9 (SDM volume 1, 13.5).
 pub fn clean(out: &mut [u8], at: usize, comp: Comp)
     requires { at + component_size comp.0 ≤ length out.old }
     ensures { IsCleaned at comp.0 out.old out.new }
 {
-    if comp.0 == 0 {
+    if comp == Comp::X87 {
         clean_x87(out, at);
-    } else if comp.0 == 9 {
+    } else if comp == Comp::PKRU {
         clear(out, at + 4, 4);
     }
 }
@@ -87,7 +104,7 @@ pub fn put_initial(out: &mut [u8], at: usize, comp: Comp, size: usize)
     ensures written { out.new ≡ splice at (initial_part comp.0) out.old }
     ensures len { length out.new ≡ length out.old }
 {
-    if comp.0 == 0 {
+    if comp == Comp::X87 {
         put(out, at, &[0x7f, 0x03]);
         clear(out, at + 2, size - 2);
     } else {

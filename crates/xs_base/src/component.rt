@@ -1,7 +1,10 @@
 //! Components, sets of components, and the rows and places that name them.
 
-ghost use Rattle.std.specs.Prelude.{⊤, ◌≡◌, ℕ, ◌<◌, ◌==◌, [], ◌∷◌, codes, if◌then◌else◌};
+ghost use Rattle.std.specs.Prelude.{⊤, ◌≡◌, ℕ, ◌+◌, ◌<◌, ◌≤◌, ◌==◌, [], ◌∷◌, codes, if◌then◌else◌};
+ghost use Rattle.xs_base.specs.Compact as compact;
 ghost use Rattle.xs_base.specs.File as file;
+ghost use Rattle.xs_base.specs.HeaderCheck as check;
+ghost use Rattle.xs_base.specs.Layout as table;
 ghost use Rattle.xs_base.specs.Sets.{has};
 ghost use Rattle.xs_base.specs.Standard as standard;
 
@@ -11,6 +14,30 @@ use bitflags::{Flag, Flags, bitflag_items};
 /// component `i` (SDM volume 1, 13.1).
 #[derive(Clone, Copy, PartialEq, Eq, Debug, Default)]
 pub struct Comp(pub u8);
+
+impl Comp {
+    /// The registers of x87.
+    pub const X87: Comp = Comp(0);
+    /// The XMM registers, with which MXCSR goes.
+    pub const SSE: Comp = Comp(1);
+    /// The upper halves of the YMM registers.
+    pub const AVX: Comp = Comp(2);
+    /// The mask registers k0 to k7.
+    pub const OPMASK: Comp = Comp(5);
+    /// The upper halves of ZMM 0 to 15.
+    pub const ZMM_HI256: Comp = Comp(6);
+    /// ZMM 16 to 31.
+    pub const HI16_ZMM: Comp = Comp(7);
+    /// The rights of the protection keys.
+    pub const PKRU: Comp = Comp(9);
+    /// The shapes of the tiles.
+    pub const TILECFG: Comp = Comp(17);
+    /// The tiles.
+    pub const TILEDATA: Comp = Comp(18);
+}
+
+/// The bit of XCOMP_BV that tells the compacted format (SDM volume 1, 13.4.2).
+const COMPACTED_BIT: u8 = 63;
 
 /// A set of components, one bit each, as XCR0 and XSTATE_BV have them (SDM volume 1, 13.1 and 13.4.2).
 /// Any bits may be kept, also those of components that no machine here has.
@@ -78,7 +105,28 @@ impl Features {
     pub fn has_control(&self) -> bool
         ensures { result ≡ standard.has_control self.now.0 }
     {
-        self.has(Comp(1)) || self.has(Comp(2))
+        self.has(Comp::SSE) || self.has(Comp::AVX)
+    }
+
+    /// Whether the set has a component that isn't in the other.
+    pub fn has_outside(self, allowed: Features) -> bool
+        ensures { result ≡ check.has_outside self.0 allowed.0 }
+    {
+        self.0 & allowed.0 != self.0
+    }
+
+    /// Whether an area with this XCOMP_BV is in the compacted format.
+    pub fn is_compacted(&self) -> bool
+        ensures { result ≡ compact.is_compacted self.now.0 }
+    {
+        self.has(Comp(COMPACTED_BIT))
+    }
+
+    /// Whether an area with this XCOMP_BV has a place for the component, where the machine has the component.
+    pub fn leaves_place(&self, c: Comp) -> bool
+        ensures { result ≡ compact.leaves_place self.now.0 c.0 }
+    {
+        !self.is_compacted() || self.has(c)
     }
 
     /// The set with the component where `there`, and without it where not. The number is below 64. No other component
@@ -96,8 +144,7 @@ impl Features {
 }
 
 /// A row of a machine's table of components: what CPUID leaf 0DH tells of one (SDM volume 1, 13.2), rows 0 and 1
-/// included. The size and the offset in the standard format are in bytes. Flag bit 0 is a supervisor component, bit 1
-/// alignment to 64 bytes in the compacted format, bit 2 support of XFD.
+/// included. The size and the offset in the standard format are in bytes.
 #[derive(Clone, Copy, PartialEq, Eq, Debug, Default)]
 pub struct Row {
     /// The component's number.
@@ -108,6 +155,42 @@ pub struct Row {
     pub offset: u32,
     /// The bits of ECX.
     pub flags: u32,
+}
+
+impl Row {
+    const SUPERVISOR: u8 = 0;
+
+    const ALIGNED: u8 = 1;
+
+    const XFD: u8 = 2;
+
+    /// Whether the component is a supervisor's.
+    pub fn is_supervisor(&self) -> bool
+        ensures { result ≡ table.is_supervisor self.now }
+    {
+        self.has_flag(Row::SUPERVISOR)
+    }
+
+    /// Whether the component begins at a multiple of 64 in the compacted format.
+    pub fn is_aligned(&self) -> bool
+        ensures { result ≡ table.is_aligned self.now }
+    {
+        self.has_flag(Row::ALIGNED)
+    }
+
+    /// Whether XFD supports the component (SDM volume 1, 13.14).
+    pub fn has_xfd(&self) -> bool
+        ensures { result ≡ table.has_xfd self.now }
+    {
+        self.has_flag(Row::XFD)
+    }
+
+    /// Whether the flags have the bit.
+    fn has_flag(&self, bit: u8) -> bool
+        ensures { result ≡ has self.now.flags bit }
+    {
+        Features(u64::from(self.flags)).has(Comp(bit))
+    }
 }
 
 /// Where a register stands: `len` bytes of a component, from `offset` on.
@@ -127,6 +210,6 @@ impl Place {
     pub fn is_mxcsr(&self) -> bool
         ensures { result ≡ file.is_mxcsr self.now }
     {
-        self.comp.0 == 1 && self.offset == 256
+        self.comp == Comp::SSE && self.offset == 256
     }
 }

@@ -1,8 +1,28 @@
-//! The small enums that scripts, events and answers share.
+//! The small types that scripts, events and answers share.
 
-/// A signal's number, 1 to 31.
+ghost use Rattle.std.specs.Prelude.{◌≡◌, ◌≤◌, IfSome, IfNone};
+
+/// A signal by its number, 1 to 31.
 #[derive(Clone, Copy, PartialEq, Eq, Debug)]
-pub struct Signo(pub u8);
+pub struct Signo {
+    /// The number.
+    pub number: u8,
+    pub ghost in_range: { (1 ≤ number) × (number ≤ 31) },
+}
+
+impl Signo {
+    /// The signal of this number, if there is one.
+    pub fn new(number: u8) -> Option<Signo>
+        ensures number { IfSome result (λ signo. signo.number ≡ number) }
+        ensures none { IfNone result ((1 ≤ number) × (number ≤ 31) → ⊥) }
+    {
+        if number >= 1 && number <= 31 {
+            Some(Signo { number })
+        } else {
+            None
+        }
+    }
+}
 
 /// An error's number in Linux (`errno-base.h`, `errno.h`): ESRCH, EFAULT, EINVAL, EOPNOTSUPP.
 #[derive(Clone, Copy, PartialEq, Eq, Debug)]

@@ -1,7 +1,7 @@
 -- What clauses read of a source and a sink over std. This project's own.
-use Rattle.std.specs.Prelude.{ℕ, List}
-use Rattle.std.specs.Io.Buffered.{writer_buffer}
-use Rattle.std.specs.declared.io.BufWriter.{BufWriter}
+use Rattle.std.specs.Prelude.{ℕ, Bool, List}
+use Rattle.std.specs.Io.Buffered.{writer_buffer, writer_inner}
+use Rattle.xs_io.specs.declared.fail_stop.FailStop.{FailStop}
 use Rattle.xs_io.specs.declared.standard.StdSink.{StdSink}
 use Rattle.xs_io.specs.declared.standard.StdSource.{StdSource}
 
@@ -14,11 +14,15 @@ source_faults source = source.faults
 
 -- The writer of a sink, and how many faults it had.
 abbrev pub sink_writer : {W : Type 0} → StdSink W → W
-sink_writer sink = sink.writer
+sink_writer sink = (writer_inner sink.writer).writer
 
 abbrev pub sink_faults : {W : Type 0} → StdSink W → ℕ
 sink_faults sink = sink.faults
 
--- The bytes that were written to a sink and that its writer has not handed on.
-abbrev pub held_back : {W A : Type 0} → StdSink (BufWriter W A) → List ℕ
-held_back sink = writer_buffer (sink_writer sink)
+-- The bytes that were written to a sink and that it has not handed on.
+abbrev pub held_back : {W : Type 0} → StdSink W → List ℕ
+held_back sink = writer_buffer sink.writer
+
+-- The writer has failed.
+abbrev pub has_failed : {W : Type 0} → FailStop W → Bool
+has_failed writer = writer.failed

@@ -2,9 +2,11 @@
 //! stands on std alone. The contract of every implementation is that of the traits `Source` and `Sink`: which bytes
 //! were taken, and that a call fails only where the count of faults rises, so a program that compares two counts
 //! knows whether a fault came between them. `MemSource` and `MemSink` stand in memory and fail where they are told
-//! to; `StdSource` and `StdSink` stand over the readers and writers of std.
+//! to; `StdSource` and `StdSink` stand over the readers and writers of std. After its first fault a `StdSink` hands
+//! nothing more on.
 #![tactic(auto)]
 
+mod fail_stop;
 mod failed;
 mod memory;
 mod sink;

@@ -3,7 +3,7 @@
 ghost use Rattle.std.specs.Prelude.{◌≡◌, ◌↔◌, ◌+◌, ◌-◌, ◌<◌, ◌≤◌, ◌++◌, [], Some, length, min, vec_len, vec_capacity, take, drop, IfOk, OnErr, IsOk, IsErr, IsTrue};
 ghost use Rattle.std.specs.Io.{ReadsAtMost, WritesAtMost};
 ghost use Rattle.std.specs.Io.KnownBytes.{ReadConsumes, WriteAppends};
-ghost use Rattle.xs_io.specs.Causes.{HasCause, counted};
+ghost use Rattle.xs_io.specs.Causes.{HasCause, one_more};
 ghost use Rattle.xs_io.specs.Memory.{Supply, Store, is_failing, is_read_failing, is_write_failing};
 
 use crate::failed::fault;
@@ -14,7 +14,7 @@ use std::marker::Model;
 /// Counts a call, and says whether it is one of those that fail.
 fn begin(calls: &mut u64, fail: &[u64]) -> bool
     ensures fails { result ≡ is_failing fail.now calls.new }
-    ensures count { calls.new ≡ counted calls.old }
+    ensures count { calls.new ≡ one_more calls.old }
 {
     *calls = calls.saturating_add(1);
     fail.contains(calls)
@@ -93,8 +93,8 @@ impl Source for MemSource {
         ensures cause { HasCause self.old.faults self.new.faults result }
         ensures fails { IsErr result ↔ IsTrue (is_read_failing self.old) }
         ensures full { IfOk result (λ count. count ≡ min (length self.old.left) (length into.old)) }
-        ensures fault { OnErr result (self.new.faults ≡ counted self.old.faults) }
-        ensures calls { self.new.calls ≡ counted self.old.calls }
+        ensures fault { OnErr result (self.new.faults ≡ one_more self.old.faults) }
+        ensures calls { self.new.calls ≡ one_more self.old.calls }
         ensures same { self.new.fail ≡ self.old.fail }
     {
         if begin(&mut self.calls, self.fail.as_slice()) {
@@ -174,8 +174,8 @@ impl Sink for MemSink {
         ensures fails { IsErr result ↔ IsTrue (is_write_failing self.old bytes.now) }
         ensures full { IfOk result (λ count.
             count ≡ min (length bytes.now) (self.old.room - length self.old.written)) }
-        ensures fault { OnErr result (self.new.faults ≡ counted self.old.faults) }
-        ensures calls { self.new.calls ≡ counted self.old.calls }
+        ensures fault { OnErr result (self.new.faults ≡ one_more self.old.faults) }
+        ensures calls { self.new.calls ≡ one_more self.old.calls }
         ensures same { (self.new.room ≡ self.old.room) × (self.new.fail ≡ self.old.fail) }
     {
         let fails = begin(&mut self.calls, self.fail.as_slice());

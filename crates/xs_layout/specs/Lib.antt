@@ -1,2 +1,3 @@
 -- What the fields of a layout keep.
 pub mod Rows
+pub mod Cursor

@@ -120,6 +120,7 @@ impl Layout {
         requires { i < length self.now }
         ensures at { result ≡ slice_index_or self.now i result }
         ensures sound { IsSound result }
+        ensures layout { IsLayout self.now }
     {
         let rows = &self.rows;
         rows[i]

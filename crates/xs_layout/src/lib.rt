@@ -3,11 +3,13 @@
 #![tactic(auto)]
 
 mod checks;
+mod cursor;
 mod layout;
 mod places;
 #[cfg(test)]
 mod tests;
 
 pub use checks::{component_size, row_error, table_error};
+pub use cursor::Cursor;
 pub use layout::{Layout, MOST_ROWS};
 pub use xs_base::{LayoutError, LayoutFault, Row};

@@ -75,7 +75,7 @@ impl Layout {
     pub fn place(&self, xcomp: Features, row: Row) -> u32
         ensures { result ≡ compact.place self.now xcomp.0 row }
     {
-        if xcomp.has(Comp(63)) && row.comp.0 >= 2 {
+        if xcomp.is_compacted() && row.comp.0 >= 2 {
             self.compacted_place(xcomp, row.comp)
         } else {
             row.offset
@@ -86,7 +86,7 @@ impl Layout {
     pub fn has_place(&self, xcomp: Features, c: Comp) -> bool
         ensures { result ≡ compact.has_place self.now xcomp.0 c.0 }
     {
-        self.has_row(c) && (!xcomp.has(Comp(63)) || xcomp.has(c))
+        self.has_row(c) && xcomp.leaves_place(c)
     }
 
     /// Where the first row of component `c` begins behind those of the mask, or their end where there is no such row.
@@ -107,11 +107,11 @@ impl Layout {
 }
 
 /// Where the row's component begins in the compacted format behind byte `end`.
-fn aligned(row: Row, end: u32) -> u32
+pub(crate) fn aligned(row: Row, end: u32) -> u32
     requires { end + 63 < 2 ^ 32 }
     ensures { result ≡ compact.aligned row end }
 {
-    if Features(row.flags as u64).has(Comp(1)) {
+    if row.is_aligned() {
         (end + 63) / 64 * 64
     } else {
         end
@@ -119,7 +119,7 @@ fn aligned(row: Row, end: u32) -> u32
 }
 
 /// Where the components end in the compacted format with the row's, which has a place where the mask names it.
-fn compact_after(mask: Features, end: u32, row: Row) -> u32
+pub(crate) fn compact_after(mask: Features, end: u32, row: Row) -> u32
     requires { end + 63 + row.size < 2 ^ 32 }
     ensures { result ≡ compact.compact_after mask.0 end row }
 {

@@ -1,21 +1,18 @@
 -- One component of a file that takes bytes, or becomes initial.
-use Rattle.std.proofs.Common.{◌≡◌, ◌⊎◌, inl, inr, ℕ, ◌+◌, ◌-◌, ◌<◌, ◌≤◌, Bool, true, false, not, ◌&&◌, List, [], map, length, get_or, set, Vec, Global, ◌++◌, if◌then◌else◌, refl, sym, ap, ◌∙◌, arith, rules, length-append}
+use Rattle.std.proofs.Common.{◌≡◌, ◌⊎◌, inl, inr, ℕ, ◌+◌, ◌-◌, ◌<◌, ◌≤◌, Bool, true, false, not, ◌&&◌, List, [], map, length, get_or, set, Vec, Global, if◌then◌else◌, refl, sym, ap, ◌∙◌, arith}
 use Rattle.std.proofs.lemmas.Bool.{cases_lt, cases_eq, false≢true}
-use Rattle.std.proofs.lemmas.Bool.Decides.{nat_tests}
-use Rattle.std.proofs.lemmas.List.{get_or_past, length-map, length-set, places, ext_get_or}
+use Rattle.std.proofs.lemmas.List.{get_or_past, length-map, length-set, ext_get_or}
 use Rattle.std.proofs.lemmas.List.FromFn.{get_or-map-range_with_len, length-map-range_with_len}
 use Rattle.std.specs.List.{range_with_len}
 use Rattle.std.specs.Vec.{with_items}
-use Rattle.std.specs.Int.{to_le_bytes, w32}
 use Rattle.xs_base.specs.declared.component.Row.{Row}
-use Rattle.xs_base.specs.Bytes.{zeros, is_within}
+use Rattle.xs_base.specs.Bytes.{is_within}
 use Rattle.xs_base.specs.Component.{component_count, component_size, initial_part}
 use Rattle.xs_base.specs.File.{File, part, with_part, is_own, IsFile}
-use Rattle.xs_base.specs.Layout.{has_row}
 use Rattle.xs_base.specs.Standard.{IsCleaned}
 use Rattle.xs_base.proofs.ByteLemmas.{within_in}
-use Rattle.xs_base.proofs.ComponentLemmas.{length_initial, length_zeros, zero_at, pkru_size}
-use Rattle.xs_base.proofs.FileLemmas.{part_here, part_other, initial_clean}
+use Rattle.xs_base.proofs.ComponentLemmas.{length_initial}
+use Rattle.xs_base.proofs.FileLemmas.{part_here, part_other, initial_clean, other_is_file}
 use Rattle.xs_regs.proofs.Parts.{shown, shown_at, shown_file, shown_written}
 use Rattle.xs_regs.specs.Loads.{IsCleanCopy, IsPartLoaded}
 
@@ -49,45 +46,8 @@ clean_copy c bytes copied out is len h = record {
 
 -- ---- files with another part
 
--- A file stays one with another part of its size, clean, which is initial where the machine lacks it and it isn't PKRU.
-pub other_is_file : (file : File) (c : ℕ) (bytes : List ℕ) → c < component_count → length bytes ≡ component_size c → ((k : ℕ) → is_own c k ≡ false → get_or bytes k 0 ≡ 0) → (has_row file.rows c ≡ false → (c ≡ 9 → ⊥) → bytes ≡ initial_part c) → IsFile file → IsFile (with_part file c bytes)
-other_is_file file c bytes lt len clean lack h =
-    let count = h.count in
-    let here : part (with_part file c bytes) c ≡ bytes = part_here file c bytes (omega arith) in
-    record {
-      layout = h.layout;
-      count = length-set file.parts c bytes ∙ h.count;
-      sizes = λ d less. elim (cases_eq d c) [
-        | inl same ↦ rw (same, here) len
-        | inr apart ↦ rw (part_other file c d bytes apart) (h.sizes d less)
-      ];
-      clean = λ d k loose. elim (cases_eq d c) [
-        | inl same ↦ rw (same, here) (clean k (rw same at loose))
-        | inr apart ↦ rw (part_other file c d bytes apart) (h.clean d k loose)
-      ];
-      absent = λ d less lacks away. elim (cases_eq d c) [
-        | inl same ↦ rw (same, here) (lack (rw same at lacks) (λ nine. away (same ∙ nine)))
-        | inr apart ↦ rw (part_other file c d bytes apart) (h.absent d less lacks away)
-      ];
-      control = h.control;
-    }
-
 pub reset_is_file : (file : File) (c : ℕ) → c < component_count → IsFile file → IsFile (with_part file c (initial_part c))
 reset_is_file file c small h = other_is_file file c (initial_part c) small (length_initial c) (initial_clean c) (λ gone other. refl) h
-
--- the bytes of PKRU
-pkru_clean : (value k : ℕ) → is_own 9 k ≡ false → get_or (to_le_bytes w32 value ++ zeros 4) k 0 ≡ 0
-pkru_clean value k loose =
-    let high : 4 ≤ k = grind (arith, nat_tests, loose) in
-    let rest : get_or (to_le_bytes w32 value ++ zeros 4) k 0 ≡ get_or (zeros 4) (k - 4) 0 = search (rules, places) in
-    rest ∙ zero_at 4 (k - 4)
-
-pub pkru_length : (value : ℕ) → length (to_le_bytes w32 value ++ zeros 4) ≡ component_size 9
-pkru_length value = rw pkru_size (simp length-append (omega (arith, length_zeros 4)))
-
-pub pkru_is_file : (file : File) (value : ℕ) → IsFile file → IsFile (with_part file 9 (to_le_bytes w32 value ++ zeros 4))
-pkru_is_file file value h =
-    other_is_file file 9 (to_le_bytes w32 value ++ zeros 4) (omega arith) (pkru_length value) (pkru_clean value) (λ gone other. absurd (other refl)) h
 
 -- ---- by the vectors
 

@@ -179,7 +179,7 @@ fn is_initial(bytes: &[u8], c: Comp) -> bool
     requires { length bytes.now ≡ component_size c.0 }
     ensures { result ≡ bytes_eq bytes.now (initial_part c.0) }
 {
-    if c.0 == 0 {
+    if c == Comp::X87 {
         let (control, others) = bytes.split_at(2);
         control == [0x7f, 0x03].as_slice() && are_zero(others)
     } else {

@@ -11,7 +11,7 @@ ghost use Rattle.xs_regs.specs.Names.{IsAlone, IsNumbered, single_of, family_of}
 
 use crate::number::{read_digit, read_index};
 use crate::tables::{FAMILIES, Family, SINGLES, Single};
-use xs_base::{Comp, Place};
+use xs_base::{Comp, Place, after};
 use xs_layout::Layout;
 
 /// The place of the register with this name; None exactly where the machine has no such register.
@@ -41,13 +41,6 @@ pub fn place_of_bytes(name: &[u8], layout: &Layout) -> Option<Place>
 pub fn one_place()
     ensures { (name : List ℕ) (rows others : List Row) (p q : Place) → IsRegister rows name p → IsRegister others name q → p ≡ q }
 {}
-
-/// The bytes after the prefix, if they begin with it.
-fn after<'a>(prefix: &[u8], bytes: &'a [u8]) -> Option<&'a [u8]>
-    ensures { MatchOption result ((rest : List ℕ) → bytes.now ≡ prefix.now ++ rest → ⊥) (λ x. bytes.now ≡ prefix.now ++ x.now) }
-{
-    bytes.strip_prefix(prefix)
-}
 
 /// The place of the register that has this name of its own.
 fn find_alone(entries: &[Single], name: &[u8]) -> Option<Place>
@@ -112,7 +105,7 @@ fn tile_row(tile: u8, row: &[u8]) -> Option<Place>
     let row = read_index(row)?;
     if tile < 8 && row < 16 {
         Some(Place {
-            comp: Comp(18),
+            comp: Comp::TILEDATA,
             offset: 1024 * tile + 64 * row,
             len: 64,
         })

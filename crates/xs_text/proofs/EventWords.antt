@@ -1,10 +1,11 @@
 -- The words of events' lines: their bytes are above the space, and what they spell is one value.
-use Rattle.std.proofs.Common.{◌≡◌, ℕ, zero, suc, ◌<◌, ◌^◌, true, List, [], ◌∷◌, length, refl, sym, ap, subst, ◌∙◌, arith}
+use Rattle.std.proofs.Common.{◌≡◌, ℕ, zero, suc, ◌<◌, ◌≤◌, ◌^◌, true, List, [], ◌∷◌, length, refl, sym, ap, subst, ◌∙◌, arith}
 use Rattle.std.specs.Prelude.{◌&&◌, ◌/◌, ◌%◌, map, codes, decimal, nat_le, slice_index, slice_index_or, Option, Some, None}
 use Rattle.std.specs.List.{AllByRecursion, list_all}
 use Rattle.std.proofs.lemmas.Bool.{and_parts}
 use Rattle.std.proofs.lemmas.Bool.Decides.{nat_tests}
 use Rattle.std.proofs.lemmas.Fmt.{decimal_injective}
+use Rattle.std.proofs.Props.{props}
 use Rattle.hex.specs.Hex.{IsBytes, encode_lower, encode_with, lower_digits}
 use Rattle.hex.proofs.HexLemmas.{decode_of-encode_lower, decode_of-same}
 use Rattle.xs_base.specs.declared.words.How.{How}
@@ -16,7 +17,7 @@ use Rattle.xs_model.specs.declared.event.Reply.TheVariants as replies
 use Rattle.xs_model.specs.declared.event.Why.{Why}
 use Rattle.xs_model.specs.declared.event.Why.TheVariants as causes
 use Rattle.xs_model.specs.Script.{AreDistinct, is_name, is_letter, is_letter_or_digit}
-use Rattle.xs_text.specs.Text.{how_word, signal_word, reply_word, cause_word, IsSignal, IsReply}
+use Rattle.xs_text.specs.Text.{how_word, signal_word, reply_word, cause_word, IsReply}
 use Rattle.xs_text.proofs.SpacedWords.{AllAbove, above_less, above_literal, above_decimal}
 
 -- the first byte, or 0 where there is none
@@ -111,25 +112,43 @@ same_how a b e =
     let letters : how_letter a ≡ how_letter b = sym (how_letter_is a) ∙ ap first_byte e ∙ how_letter_is b in
     absurd (omega arith)
 
+-- a signal's number has 64 bits
+pub below_2_64 : (signo : Signo) → signo.number < 2 ^ 64
+below_2_64 signo = omega (arith, signo.in_range.1)
+
 -- the bytes of a signal's word
-pub above_signal : (signal : Option Signo) → IsSignal signal → AllAbove 32 (signal_word signal)
-above_signal None h = above_literal 32 (codes "-") refl
-above_signal (Some signo) h = above_number signo.0 (omega arith)
+pub above_signal : (signal : Option Signo) → AllAbove 32 (signal_word signal)
+above_signal None = above_literal 32 (codes "-") refl
+above_signal (Some signo) = above_number signo.number (below_2_64 signo)
 
 -- no number is spelled as a dash
-not_dash : (n : ℕ) → n < 256 → codes "-" ≡ decimal n → ⊥
+not_dash : (n : ℕ) → n < 2 ^ 64 → codes "-" ≡ decimal n → ⊥
 not_dash n h e =
-    let dash : AllAbove 47 (codes "-") = subst (AllAbove 47) (sym e) (above_decimal n (omega arith)) in
+    let dash : AllAbove 47 (codes "-") = subst (AllAbove 47) (sym e) (above_decimal n h) in
     omega (arith, dash.0)
 
+-- the range of signals' numbers, which has one proof
+abbrev IsInRange : ℕ → Type 0
+IsInRange n = (1 ≤ n) × (n ≤ 31)
+
+one_proof : (n : ℕ) → IsProp (IsInRange n)
+one_proof n = Prim.hlevel props
+
+-- the signal of a number in the range
+abbrev signo_of : (n : ℕ) → IsInRange n → Signo
+signo_of n h = record { number = n; in_range = h }
+
+-- Signals of one number are the same.
+pub same_signo : (a b : Signo) → a.number ≡ b.number → a ≡ b
+same_signo a b e =
+    subst (λ m. (k : IsInRange m) → a ≡ signo_of m k) e (λ k. ap (signo_of a.number) (one_proof a.number a.in_range k)) b.in_range
+
 -- Signals with one word are the same.
-pub same_signal : (a b : Option Signo) → IsSignal a → IsSignal b → signal_word a ≡ signal_word b → a ≡ b
-same_signal None None h k e = refl
-same_signal None (Some s) h k e = absurd (not_dash s.0 k e)
-same_signal (Some s) None h k e = absurd (not_dash s.0 h (sym e))
-same_signal (Some s) (Some r) h k e =
-    let signal_of : ℕ → Option Signo = λ n. Some (record { 0 = n }) in
-    ap signal_of (decimal_injective s.0 r.0 (omega arith) (omega arith) e)
+pub same_signal : (a b : Option Signo) → signal_word a ≡ signal_word b → a ≡ b
+same_signal None None e = refl
+same_signal None (Some s) e = absurd (not_dash s.number (below_2_64 s) e)
+same_signal (Some s) None e = absurd (not_dash s.number (below_2_64 s) (sym e))
+same_signal (Some s) (Some r) e = ap Some (same_signo s r (decimal_injective s.number r.number (below_2_64 s) (below_2_64 r) e))
 
 -- the bytes of a cause's word
 pub above_cause : (why : Why) → AllAbove 32 (cause_word why)

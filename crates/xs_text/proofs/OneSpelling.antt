@@ -3,14 +3,13 @@ use Rattle.std.proofs.Common.{◌≡◌, ℕ, ◌<◌, List, [], ◌∷◌, ◌+
 use Rattle.std.specs.Prelude.{codes, decimal}
 use Rattle.std.proofs.lemmas.List.{append_assoc}
 use Rattle.std.proofs.lemmas.Fmt.{decimal_injective}
-use Rattle.xs_base.specs.declared.words.Signo.{Signo}
 use Rattle.xs_model.specs.declared.script.Script.{Script}
 use Rattle.xs_model.specs.declared.event.Event.{Event}
 use Rattle.xs_model.specs.declared.event.Event.TheVariants as events
 use Rattle.xs_model.specs.Script.{IsValid}
 use Rattle.xs_text.specs.Text.{words, how_word, signal_word, reply_word, cause_word, name_of, event_line, history_text, IsEvent, AreEvents}
 use Rattle.xs_text.proofs.SpacedWords.{AllAbove, AreWords, cut_same, no_cut, words_same, above_words, above_literal}
-use Rattle.xs_text.proofs.EventWords.{first_byte, above_name_at, same_block, above_number, above_how, same_how, above_signal, same_signal, above_cause, same_cause, above_reply, same_reply}
+use Rattle.xs_text.proofs.EventWords.{first_byte, above_name_at, same_block, above_number, above_how, same_how, above_signal, same_signal, same_signo, below_2_64, above_cause, same_cause, above_reply, same_reply}
 
 -- the first word of a line
 abbrev kind_word : Event → List ℕ
@@ -55,7 +54,7 @@ more_words script (events.Start task cpu how signal) = name_of script task ∷ d
 more_words script (events.Local task line reply) = name_of script task ∷ decimal line ∷ reply_word reply ∷ []
 more_words script (events.Outer task line reply) = name_of script task ∷ decimal line ∷ reply_word reply ∷ []
 more_words script (events.Grow task) = name_of script task ∷ []
-more_words script (events.Kill task signo why) = name_of script task ∷ decimal signo.0 ∷ cause_word why ∷ []
+more_words script (events.Kill task signo why) = name_of script task ∷ decimal signo.number ∷ cause_word why ∷ []
 more_words script (events.End task) = name_of script task ∷ []
 
 -- a line by its first word and the others
@@ -78,11 +77,11 @@ module _ (script : Script) (valid : IsValid script) where
 
   -- the bytes of the words after the first
   above_more : (event : Event) → IsEvent script event → AreWords (more_words script event)
-  above_more (events.Start task cpu how signal) h = (above_task task h.0, (above_number cpu (omega arith), (above_how how, (above_signal signal h.2, tt))))
+  above_more (events.Start task cpu how signal) h = (above_task task h.0, (above_number cpu (omega arith), (above_how how, (above_signal signal, tt))))
   above_more (events.Local task line reply) h = (above_task task h.0, (above_number line (omega arith), (above_reply reply h.2, tt)))
   above_more (events.Outer task line reply) h = (above_task task h.0, (above_number line (omega arith), (above_reply reply h.2, tt)))
   above_more (events.Grow task) h = (above_task task h, tt)
-  above_more (events.Kill task signo why) h = (above_task task h.0, (above_number signo.0 (omega arith), (above_cause why, tt)))
+  above_more (events.Kill task signo why) h = (above_task task h, (above_number signo.number (below_2_64 signo), (above_cause why, tt)))
   above_more (events.End task) h = (above_task task h, tt)
 
   -- A line has no line feed.
@@ -98,7 +97,7 @@ module _ (script : Script) (valid : IsValid script) where
       let tasks = same_task t u h.0 k.0 cc in
       let numbers = decimal_injective c d (omega arith) (omega arith) cc in
       let restores = same_how how other cc in
-      let signals = same_signal s r h.2 k.2 cc in
+      let signals = same_signal s r cc in
       cc (tasks, numbers, restores, signals)
   same_words (events.Local t m a) (events.Local u n b) h k first e =
       let tasks = same_task t u h.0 k.0 cc in
@@ -112,9 +111,8 @@ module _ (script : Script) (valid : IsValid script) where
       cc (tasks, numbers, replies_same)
   same_words (events.Grow t) (events.Grow u) h k first e = ap events.Grow (same_task t u h k cc)
   same_words (events.Kill t s why) (events.Kill u r other) h k first e =
-      let tasks = same_task t u h.0 k.0 cc in
-      let signo_of : ℕ → Signo = λ n. record { 0 = n } in
-      let signals : s ≡ r = ap signo_of (decimal_injective s.0 r.0 (omega arith) (omega arith) cc) in
+      let tasks = same_task t u h k cc in
+      let signals : s ≡ r = same_signo s r (decimal_injective s.number r.number (below_2_64 s) (below_2_64 r) cc) in
       let causes_same = same_cause why other cc in
       cc (tasks, signals, causes_same)
   same_words (events.End t) (events.End u) h k first e = ap events.End (same_task t u h k cc)

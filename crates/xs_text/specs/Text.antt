@@ -21,7 +21,7 @@ how_word hows.Kern = codes "kern"
 
 abbrev pub signal_word : Option Signo → List ℕ
 signal_word None = codes "-"
-signal_word (Some signo) = decimal signo.0
+signal_word (Some signo) = decimal signo.number
 
 abbrev pub reply_word : Reply → List ℕ
 reply_word replies.Done = codes "-"
@@ -70,17 +70,12 @@ event_line script (events.Start task cpu how signal) = words (codes "start") (na
 event_line script (events.Local task line reply) = words (codes "local") (name_of script task ∷ decimal line ∷ reply_word reply ∷ [])
 event_line script (events.Outer task line reply) = words (codes "outer") (name_of script task ∷ decimal line ∷ reply_word reply ∷ [])
 event_line script (events.Grow task) = words (codes "grow") (name_of script task ∷ [])
-event_line script (events.Kill task signo why) = words (codes "kill") (name_of script task ∷ decimal signo.0 ∷ cause_word why ∷ [])
+event_line script (events.Kill task signo why) = words (codes "kill") (name_of script task ∷ decimal signo.number ∷ cause_word why ∷ [])
 event_line script (events.End task) = words (codes "end") (name_of script task ∷ [])
 
 -- the line of each event, in order, each ended by one line feed
 abbrev pub history_text : Script → List Event → List ℕ
 history_text script history = flat_map (λ event. event_line script event ++ 10 ∷ []) history
-
--- A signal has a spelling: its number is that of a byte.
-abbrev pub IsSignal : Option Signo → Type 0
-IsSignal None = Unit {0}
-IsSignal (Some signo) = signo.0 < 256
 
 -- A reply has a spelling: its number has 32 bits, and its bytes are 1 to 64.
 abbrev pub IsReply : Reply → Type 0
@@ -95,13 +90,13 @@ IsReply replies.Held = Unit {0}
 IsReply replies.Full = Unit {0}
 IsReply replies.Legacy = Unit {0}
 
--- An event has a spelling: its task is a block of the script, and its numbers and its reply have one.
+-- An event has a spelling: its task is a block of the script, and its numbers and its reply have one. Any signal has.
 abbrev pub IsEvent : Script → Event → Type 0
-IsEvent script (events.Start task cpu how signal) = (task < length script.blocks) × (cpu < 2 ^ 32) × IsSignal signal
+IsEvent script (events.Start task cpu how signal) = (task < length script.blocks) × (cpu < 2 ^ 32)
 IsEvent script (events.Local task line reply) = (task < length script.blocks) × (line < 2 ^ 32) × IsReply reply
 IsEvent script (events.Outer task line reply) = (task < length script.blocks) × (line < 2 ^ 32) × IsReply reply
 IsEvent script (events.Grow task) = task < length script.blocks
-IsEvent script (events.Kill task signo why) = (task < length script.blocks) × (signo.0 < 256)
+IsEvent script (events.Kill task signo why) = task < length script.blocks
 IsEvent script (events.End task) = task < length script.blocks
 
 abbrev pub AreEvents : Script → List Event → Type 0

@@ -6,17 +6,18 @@ use Rattle.std.proofs.lemmas.List.{get_or_append_left}
 use Rattle.std.proofs.lemmas.Option.{slice_get_within, slice_get_read, get_or_from_slice_get}
 use Rattle.std.specs.Prelude.{slice_get, Some}
 use Rattle.xs_bank.specs.declared.cpu.Cpu.{Cpu}
-use Rattle.xs_bank.specs.declared.track.TrackBank.{TrackBank}
+use Rattle.xs_bank.specs.declared.bank_of.BankOf.{BankOf}
+use Rattle.xs_bank.specs.declared.choice.Changes.{Changes}
 
 -- A processor of this number whose bank has counted nothing.
-pub record IsNew (number : ℕ) (cpu : Cpu TrackBank) : Type 0 where
+pub record IsNew (number : ℕ) (cpu : Cpu (BankOf Changes)) : Type 0 where
   pub number_is : cpu.number ≡ number
   pub execs : cpu.bank.execs ≡ record { count = 0; trail = 0 }
   pub loads : cpu.bank.loads ≡ 0
   pub saves : cpu.bank.saves ≡ 0
 
 -- one more at the end
-pub more_new : (cpus : List (Cpu TrackBank)) (cpu : Cpu TrackBank) → ((i : ℕ) (c : Cpu TrackBank) → slice_get cpus i ≡ Some c → IsNew i c) → IsNew (length cpus) cpu → (i : ℕ) (c : Cpu TrackBank) → slice_get (cpus ++ cpu ∷ []) i ≡ Some c → IsNew i c
+pub more_new : (cpus : List (Cpu (BankOf Changes))) (cpu : Cpu (BankOf Changes)) → ((i : ℕ) (c : Cpu (BankOf Changes)) → slice_get cpus i ≡ Some c → IsNew i c) → IsNew (length cpus) cpu → (i : ℕ) (c : Cpu (BankOf Changes)) → slice_get (cpus ++ cpu ∷ []) i ≡ Some c → IsNew i c
 more_new cpus cpu before last i c at = elim (cases_eq i (length cpus)) [
   | inl same ↦
       let is : cpu ≡ c = sym (get_or-append_seam cpus cpu [] c) ∙ ap (λ n. get_or (cpus ++ cpu ∷ []) n c) (sym same) ∙ get_or_from_slice_get (cpus ++ cpu ∷ []) i c c at in

@@ -15,14 +15,15 @@ mod writing;
 
 ghost use Rattle.std.specs.Prelude.{◌≡◌, ℕ, length, slice_get, Some, IfOk};
 ghost use Rattle.xs_bank.specs.declared.cpu.Cpu.{Cpu};
-ghost use Rattle.xs_bank.specs.declared.track.TrackBank.{TrackBank};
+ghost use Rattle.xs_bank.specs.declared.bank_of.BankOf.{BankOf};
+ghost use Rattle.xs_bank.specs.declared.choice.Changes.{Changes};
 ghost use Rattle.xs_bank.specs.Bank.{HasCountedNothing};
 
 use crate::status::Status;
 use crate::top::top;
 use std::alloc::{AllocError, Global};
 use std::env;
-use std::io::{self, BufWriter, ErrorKind};
+use std::io::{self, ErrorKind};
 use std::process::ExitCode;
 use xs_bank::{Bank, Cpu, TrackBank};
 use xs_io::{StdSink, StdSource};
@@ -30,9 +31,9 @@ use xs_io::{StdSink, StdSource};
 /// The most processors that a script may name.
 const PROCESSORS: u32 = 16;
 
-/// Takes the command line, standard input and a buffer over standard output, and ends with the status of the top call.
-/// The last flush is made here, since a buffer that is dropped loses its error: where it fails the output was not all
-/// taken, and the status is that of a failed write.
+/// Takes the command line, standard input and standard output, and ends with the status of the top call. The last flush is
+/// made here, since a sink that is dropped loses its error: where it fails the output was not all taken, and the status is
+/// that of a failed write. After a failed write nothing more is handed on.
 fn main(rt: HostRuntime) -> ExitCode {
     ExitCode::from(answer(&rt).code())
 }
@@ -43,14 +44,13 @@ fn answer(rt: &HostRuntime) -> Status {
     let Ok(words) = command_line(rt) else {
         return Status::NoMemory;
     };
-    let Ok(writer) = BufWriter::new(alloc, io::writer(rt)) else {
+    let Ok(mut sink) = StdSink::open(alloc, io::writer(rt)) else {
         return Status::NoMemory;
     };
     let Ok(mut cpus) = processors(alloc) else {
         return Status::NoMemory;
     };
     let mut source = StdSource::new(rt.reader());
-    let mut sink = StdSink::new(writer);
     let status = top(alloc, &words, &mut source, &mut sink, &mut cpus);
     match sink.flush() {
         Ok(()) => status,
@@ -61,8 +61,8 @@ fn answer(rt: &HostRuntime) -> Status {
 /// The processors, numbered from 0 in order, whose banks save only what may have changed.
 fn processors(alloc: Global) -> Result<Vec<Cpu<TrackBank>>, AllocError>
     ensures many { IfOk result (λ cpus. length cpus.items ≡ 16) }
-    ensures numbers { IfOk result (λ cpus. (i : ℕ) (cpu : Cpu TrackBank) → slice_get cpus.items i ≡ Some cpu → cpu.number ≡ i) }
-    ensures counts { IfOk result (λ cpus. (i : ℕ) (cpu : Cpu TrackBank) → slice_get cpus.items i ≡ Some cpu → HasCountedNothing (⟦<TrackBank as Bank>⟧.state cpu.bank)) }
+    ensures numbers { IfOk result (λ cpus. (i : ℕ) (cpu : Cpu (BankOf Changes)) → slice_get cpus.items i ≡ Some cpu → cpu.number ≡ i) }
+    ensures counts { IfOk result (λ cpus. (i : ℕ) (cpu : Cpu (BankOf Changes)) → slice_get cpus.items i ≡ Some cpu → HasCountedNothing (⟦<TrackBank as Bank>⟧.state cpu.bank)) }
 {
     let mut cpus = Vec::new(alloc);
     'each: for number in 0..PROCESSORS {

@@ -11,7 +11,7 @@ ghost use Rattle.xs_regs.specs.Loads.{IsPartLoaded, IsCleanCopy};
 ghost use Rattle.std.specs.Str.{bytes_eq};
 
 use super::{COMPONENTS, File, is_initial, put_register};
-use xs_base::{Comp, Features, INITIAL_MXCSR, clean, put_initial};
+use xs_base::{Comp, Features, INITIAL_MXCSR, clean, pkru_bytes, put_initial};
 use xs_layout::{Layout, component_size};
 
 impl File {
@@ -34,7 +34,7 @@ impl File {
         ensures file { IsFile self.new }
     {
         // Where it isn't in use it is initial already. PKRU may have state on a machine that lacks it.
-        if !self.used.has(c) && c.0 != 9 {
+        if !self.used.has(c) && c != Comp::PKRU {
             return;
         }
         put_initial_part(&mut self.parts[c.0 as usize], c);
@@ -60,7 +60,7 @@ impl File {
     pub fn pkru(&self) -> u32
         ensures { result ≡ from_le_bytes w32 (take 4 (part self.now 9)) }
     {
-        let bytes = self.part(Comp(9));
+        let bytes = self.part(Comp::PKRU);
         u32::from_le_bytes([bytes[0], bytes[1], bytes[2], bytes[3]])
     }
 
@@ -68,8 +68,13 @@ impl File {
     pub fn set_pkru(&mut self, value: u32)
         ensures { self.new ≡ with_pkru self.old value }
     {
-        let used = put_register(&mut self.parts[9], Comp(9), 0, &pkru_bytes(value));
-        self.used = with_row(self.used, &self.layout, Comp(9), used);
+        let used = put_register(
+            &mut self.parts[Comp::PKRU.0 as usize],
+            Comp::PKRU,
+            0,
+            &pkru_bytes(value),
+        );
+        self.used = with_row(self.used, &self.layout, Comp::PKRU, used);
     }
 
     /// Writes MXCSR. Nothing else changes.
@@ -120,13 +125,4 @@ fn with_row(set: Features, layout: &Layout, c: Comp, wanted: bool) -> Features
     ensures { (d : ℕ) → has result.0 d ≡ (if d == c.0 then has_row layout.now c.0 && wanted else has set.0 d) }
 {
     set.with(c, layout.has_row(c) && wanted)
-}
-
-/// The bytes of component 9.
-#[tactic(auto, unfolding(xs_base::specs::Bytes::zeros))]
-fn pkru_bytes(value: u32) -> [u8; 8]
-    ensures { result ≡ to_le_bytes w32 value ++ zeros 4 }
-{
-    let [a, b, c, d] = value.to_le_bytes();
-    [a, b, c, d, 0, 0, 0, 0]
 }

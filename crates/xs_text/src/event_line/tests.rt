@@ -57,7 +57,7 @@ fn kill(why: Why) -> Event
 {
     Event::Kill {
         task: 0,
-        signo: Signo(11),
+        signo: Signo { number: 11 },
         why,
     }
 }
@@ -86,7 +86,7 @@ fn lines_of_turns(rt: HostRuntime) -> Result<(), Fail> {
     let script = four_blocks(rt.alloc())?;
     let s = &script;
     expect(&rt, s, &start(0, 0, How::Load, None), "start a 0 load -\n");
-    let signal = Some(Signo(10));
+    let signal = Some(Signo { number: 10 });
     expect(
         &rt,
         s,

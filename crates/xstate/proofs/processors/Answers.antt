@@ -1,7 +1,8 @@
 -- One processor more.
 use Rattle.std.proofs.Common.{length, refl, sym, ap, ◌∙◌, arith, length-append}
 use Rattle.xs_bank.specs.Bank as banks
-use Rattle.xs_bank.specs.declared.track.TrackBank.{TrackBank}
+use Rattle.xs_bank.specs.declared.bank_of.BankOf.{BankOf}
+use Rattle.xs_bank.specs.declared.choice.Changes.{Changes}
 use Rattle.xstate.proofs.NewProcessors.{IsNew, more_new}
 use Rattle.xstate.proofs.processors.Goals as goal
 
@@ -14,9 +15,9 @@ each-preserved c =
     let bank = c.in_ok-new.ensures in
     let new : IsNew (length c.each.cpus.items) c.in_ok-new-2.field-0 = record {
       number_is = made.number ∙ sym c.each.invariant.many;
-      execs = ap (λ (b : TrackBank). b.execs) made.bank ∙ ap (λ (b : banks.Bank). b.execs) bank;
-      loads = ap (λ (b : TrackBank). b.loads) made.bank ∙ ap (λ (b : banks.Bank). b.loads) bank;
-      saves = ap (λ (b : TrackBank). b.saves) made.bank ∙ ap (λ (b : banks.Bank). b.saves) bank;
+      execs = ap (λ (b : BankOf Changes). b.execs) made.bank ∙ ap (λ (b : banks.Bank). b.execs) bank;
+      loads = ap (λ (b : BankOf Changes). b.loads) made.bank ∙ ap (λ (b : banks.Bank). b.loads) bank;
+      saves = ap (λ (b : BankOf Changes). b.saves) made.bank ∙ ap (λ (b : banks.Bank). b.saves) bank;
     } in
     rw c.in_ok-push.ensures.items (record {
       many = simp length-append (omega (arith, c.each.invariant.many));

@@ -18,4 +18,4 @@ returns-then-row-eq9 c =
 
 pub returns-then-has : goal.returns-then-has
 returns-then-has c =
-    put_present c.args.area.now c.args.bits.0 c.args.pkru c.args.at c.args.row (slice_range c.args.area.now c.args.at (c.args.at + c.args.row.size)) c.args.out.now c.put_component-then-has.new.out c.if-row-eq9.false (sym c.if-has.ensures) (c.requires.held (sym c.if-has.ensures)) refl c.put_component-then-has.ensures
+    put_present c.args.area.now c.args.bits.0 c.args.pkru c.args.at c.args.row (slice_range c.args.area.now c.args.at (c.args.at + c.args.row.size)) c.args.out.now c.put_component-then-has.new.out c.if-row-eq9.false (sym c.if-has.ensures) (c.requires.inside (sym c.if-has.ensures)) refl c.put_component-then-has.ensures

@@ -1,5 +1,5 @@
 -- No component is written.
-use Rattle.std.proofs.Common.{◌≡◌, false, sym, ap, ◌∙◌}
+use Rattle.std.proofs.Common.{sym, ap, ◌∙◌}
 use Rattle.std.proofs.lemmas.Bool.{false≢true}
 use Rattle.xs_base.specs.Compact.{place}
 use Rattle.xs_base.specs.Sets.{has}

@@ -11,7 +11,7 @@ xrstors-requires-clause-header g c = long_area c.args.layout.now c.args.lease.no
 pub unreachable-requires : goal.unreachable-requires
 unreachable-requires g c =
     let accepted = rw (c.requires.machine.rows_are) at c.in-Err.ensures.accepted in
-    let stopped = accepted Small c.requires.area.loadable (compact_area c.args.layout.now c.args.lease.now c.requires.area) in
+    let stopped = accepted Small _ c.requires.area.loadable (compact_area c.args.layout.now c.args.lease.now c.requires.area) in
     let free = no_tiles c.args.layout.now c.args.lease.now (g.B.Bank.state c.args.bank.now).armed c.class_features-mask.result.0 (table_of c.args.layout.now c.args.lease.now c.requires.area) c.requires.area in
     absurd (true≢false (sym stopped.0 ∙ free))
 
@@ -26,5 +26,5 @@ returns-clause-holds g c = λ task small good stands.
     let rows = c.args.layout.now in
     let old = g.B.Bank.state c.args.bank.now in
     let whole = rw (c.requires.machine.rows_are) at c.in-Ok.ensures.whole in
-    let file = whole task.file good.is_file stands (covers rows c.class_features-mask.result.0 (table_of rows c.args.lease.now c.requires.area) c.class_features-mask.ensures.bits) in
+    let file = (whole task.file good.is_file stands).all (covers rows c.class_features-mask.result.0 (table_of rows c.args.lease.now c.requires.area) c.class_features-mask.ensures.bits) in
     holds_task rows (g.B.Bank.state c.xrstors.new.self) task (returns-clause-machine g c) small good file

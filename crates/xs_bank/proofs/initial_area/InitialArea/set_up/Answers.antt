@@ -9,8 +9,14 @@ use Rattle.xs_bank.proofs.initial_area.InitialArea.set_up.Goals as goal
 written_whole : (n : ℕ) (new old : List ℕ) → n ≡ length new → take n (new ++ drop (length new) old) ≡ new
 written_whole n new old whole = ap (λ k. take k (new ++ drop (length new) old)) whole ∙ take-append_seam new (drop (length new) old)
 
-pub returns-clause-places : goal.returns-clause-places
-returns-clause-places c =
+pub returns : goal.returns
+returns c =
     let most = compact_size_most c.args.layout.now c.len.ensures.layout (class_features c.args.layout.now Small) in
     let places = c.make_initial.ensures.places (omega arith) in
-    rw (written_whole c.self.inside.area.bytes.len c.make_initial.new.area c.self.inside.area.bytes.items (omega arith)) places
+    let made = c.make_initial.ensures in
+    rw (written_whole c.self.inside.area.bytes.len c.make_initial.new.area c.self.inside.area.bytes.items (omega arith)) (record {
+      names = made.names;
+      stands = made.stands;
+      loadable = made.loadable;
+      places = places;
+    })

@@ -1,5 +1,6 @@
 -- The component is initial, and the file stays a file.
-use Rattle.std.proofs.Common.{List, ℕ, false, length, refl, sym, ap, ◌∙◌}
+use Rattle.std.proofs.Common.{◌≡◌, List, ℕ, Bool, true, false, not, ◌==◌, length, refl, sym, ap, ◌∙◌}
+use Rattle.std.proofs.lemmas.Bool.{eqb-false}
 use Rattle.xs_base.specs.Component.{initial_part}
 use Rattle.xs_base.specs.Layout.{has_row}
 use Rattle.xs_base.proofs.ComponentLemmas.{length_initial}
@@ -32,7 +33,12 @@ returns-clause-file c =
     let len = vector_len c.self.inside.layout c.self.inside.parts.items c.self.inside.mxcsr c.args.c.0 c.index_mut.result.now c.requires c.self.invariant.0 c.index_mut.ensures.value c.deref_mut.result.now c.put_initial_part.new.out c.deref_mut.ensures.value c.deref_mut.ensures.len (ap length is ∙ length_initial c.args.c.0) in
     rw (vector_written c.self.inside.layout c.self.inside.parts.items c.self.inside.mxcsr c.args.c.0 c.index_mut.result.now c.requires c.self.invariant.0 c.index_mut.ensures.value c.put_initial_part.new.out len, is) (reset_is_file (shown_file c.self.inside.layout c.self.inside.parts.items c.self.inside.mxcsr) c.args.c.0 c.requires c.self.invariant.0)
 
-pub returns-then-c-ne9-clause-written : goal.returns-then-c-ne9-clause-written
-returns-then-c-ne9-clause-written c =
+off : (b : Bool) → not b ≡ true → b ≡ false
+off true h = sym h
+off false h = refl
+
+pub returns-then-ne-clause-written : goal.returns-then-ne-clause-written
+returns-then-ne-clause-written c =
     let file = shown_file c.self.inside.layout c.self.inside.parts.items c.self.inside.mxcsr in
-    rw (← c.self.view_is) (reset_unused file c.args.c.0 c.has.result c.self.invariant.0 c.requires (c.has.ensures ∙ c.self.invariant.1.each c.args.c.0) c.if-not-has.true c.if-c-ne9.true)
+    let other = eqb-false c.args.c.0 9 (off (c.args.c.0 == 9) (sym c.ne.ensures ∙ c.if-ne.true)) in
+    rw (← c.self.view_is) (reset_unused file c.args.c.0 c.has.result c.self.invariant.0 c.requires (c.has.ensures ∙ c.self.invariant.1.each c.args.c.0) c.if-not-has.true other)
