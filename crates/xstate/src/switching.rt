@@ -40,7 +40,7 @@ pub fn save<B: Bank>(bank: &mut B, layout: &Layout, lease: &mut Lease)
     requires machine { IsSetUp layout.now (B.state bank.old) }
     requires area { IsTaskArea layout.now lease.old }
     requires ready { IsReady (B.state bank.old) lease.old.area.id (kernel.class_features layout.now classes.Small) lease.old.area.bytes.items }
-    requires held { (file : File) × IsTaskFile layout.now file × AreSameButPkru file (B.state bank.old).file }
+    requires file { (file : File) × IsTaskFile layout.now file × AreSameButPkru file (B.state bank.old).file }
     ensures area { IsTaskArea layout.now lease.new }
     ensures stands { (file : File) → IsTaskFile layout.now file → AreSameButPkru file (B.state bank.old).file → StandsFor layout.now lease.new.area.bytes.items file }
     ensures bank { B.state bank.new ≡ record (B.state bank.old) { saves = counted (B.state bank.old).saves } }
