@@ -46,14 +46,14 @@ fn repeat_on_bank<B: Bank>(
 
 /// Makes a call without a bank so many times.
 fn repeat_layer_call(inputs: &mut Inputs, call: LayerCall, turns: u64) -> Option<u64> {
-    let layout = inputs.layout;
+    let layout = &inputs.layout;
     let (image, out) = (inputs.image.as_mut_slice(), inputs.out.as_mut_slice());
     let (area, other) = (&mut inputs.area, &mut inputs.other);
     match call {
         LayerCall::StandardInto => repeat_standard_into(&mut inputs.file, out, turns),
-        LayerCall::StandardOf => repeat_standard_of(&layout, area, out, turns),
-        LayerCall::CompactOf => repeat_compact_of(&layout, image, area, turns),
-        LayerCall::CopyArea => repeat_copy_area(&layout, area, other, turns),
+        LayerCall::StandardOf => repeat_standard_of(layout, area, out, turns),
+        LayerCall::CompactOf => repeat_compact_of(layout, image, area, turns),
+        LayerCall::CopyArea => repeat_copy_area(layout, area, other, turns),
         LayerCall::Copy => repeat_copy(image, out, turns),
         LayerCall::CopyCompacted => repeat_copy(&mut area.bytes, &mut other.bytes, turns),
         LayerCall::CopyOne => repeat_copy_part(image, out, 320, turns),

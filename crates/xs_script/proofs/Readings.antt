@@ -1,5 +1,5 @@
 -- Readers of one line, part by part.
-use Rattle.std.proofs.Common.{◌≡◌, ℕ, ◌<◌, ◌≤◌, ◌*◌, ◌/◌, Bool, true, false, List, [], ◌∷◌, ◌++◌, length, Option, Some, None, MatchOption, refl, sym, ◌∙◌, ap, arith, decimal}
+use Rattle.std.proofs.Common.{◌≡◌, ℕ, ◌<◌, ◌≤◌, ◌*◌, Bool, true, false, List, [], ◌∷◌, ◌++◌, length, Some, refl, sym, ◌∙◌, ap, arith, decimal}
 use Rattle.std.specs.Prelude.{nat_eq}
 use Rattle.std.specs.Cmp.Lexicographic.{pointwise}
 use Rattle.std.proofs.lemmas.Bool.Decides.{Decides-eqb}
@@ -13,7 +13,7 @@ use Rattle.xs_script.specs.declared.line.Line.TheVariants as lines
 use Rattle.xs_script.specs.ScriptLine.{line_text, IsLine, IsNumber, row_text, kept_bytes, is_register_word}
 use Rattle.xs_script.specs.Reads.{ReadsAs, Lacks}
 use Rattle.xs_script.specs.Refusal.{NoLine}
-use Rattle.xs_script.specs.Parts.{IsValue, IsLane, is_hex_text}
+use Rattle.xs_script.specs.Parts.{IsValue, IsSpelledBy, is_hex_text}
 use Rattle.xs_script.proofs.Cuts.{one_cut, no_cut, Lacks-register}
 use Rattle.xs_script.proofs.HexText.{hex_text, hex_text_bytes}
 use Rattle.xs_script.proofs.Kept.{kept_same_bytes, kept_long}
@@ -33,15 +33,10 @@ no_bytes text none x fits e =
     omega arith
 
 -- what is decoded of hex text is what the text spells
-pub reads_short : (text : List ℕ) (r : Option (List ℕ)) → 0 < length text → length text ≤ 128 → is_hex_text text ≡ true → MatchOption r ((x : List ℕ) → IsLane (length text / 2) x → text ≡ encode_lower x → ⊥) (λ lane. IsLane (length text / 2) lane × ((x : List ℕ) → IsLane (length text / 2) x → text ≡ encode_lower x → lane ≡ x)) → ReadsAs encode_lower IsValue kept_bytes r text
-reads_short text None some short hex h = λ x fits e.
-    let long = length_hex x text e in
-    h x (omega arith, fits.1) e
-reads_short text (Some y) some short hex h =
-    let bytes = hex_text_bytes text hex in
-    let long = length_hex bytes.0 text bytes.2 in
-    let same = h.1 bytes.0 (omega arith, bytes.1) bytes.2 in
-    (bytes.0, (omega arith, bytes.1), bytes.2, same ∙ sym (kept_same_bytes bytes.0 (omega arith)))
+pub reads_short : (text bytes : List ℕ) → 0 < length text → length text ≤ 128 → IsSpelledBy bytes text → ReadsAs encode_lower IsValue kept_bytes (Some bytes) text
+reads_short text bytes some short h =
+    let long = length_hex bytes text h.spelled in
+    (bytes, (omega arith, h.fits), h.spelled, sym (kept_same_bytes bytes (omega arith)))
 
 -- of a longer text nothing is kept
 pub reads_long : (text : List ℕ) → 128 < length text → is_hex_text text ≡ true → ReadsAs encode_lower IsValue kept_bytes (Some []) text

@@ -13,7 +13,7 @@ returns-then-is_empty c = elim c.then-is_empty.branch [
 pub returns-then-text-le128 : goal.returns-then-text-le128
 returns-then-text-le128 c =
     let some = eqb-false (length c.args.text.now) 0 (sym c.is_empty.ensures ∙ c.if-is_empty.false) in
-    reads_short c.args.text.now c.decode_lane.result (omega arith) (omega arith) (sym c.is_hex_text.ensures ∙ c.if-not-is_hex_text.false) c.decode_lane.ensures
+    reads_short c.args.text.now c.decode.result (omega arith) (omega arith) c.decode.ensures
 
 pub returns-else-text-le128 : goal.returns-else-text-le128
 returns-else-text-le128 c = rw c.from_slice.ensures (reads_long c.args.text.now c.if-text-le128.false (sym c.is_hex_text.ensures ∙ c.if-not-is_hex_text.false))
