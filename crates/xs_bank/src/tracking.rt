@@ -1,6 +1,6 @@
 //! The area that was loaded last, and what was changed since.
 
-ghost use Rattle.std.specs.Prelude.{◌≡◌, ℕ, ◌≤◌, ◌<◌, ◌^◌, ◌&&◌, ◌==◌, true, false, not, length, Some, []};
+ghost use Rattle.std.specs.Prelude.{◌≡◌, ℕ, ◌≤◌, ◌<◌, ◌^◌, ◌&&◌, not, length, Some, []};
 ghost use Rattle.xs_bank.specs.Bank as banks;
 ghost use Rattle.xs_base.specs.Sets.{has};
 ghost use Rattle.xs_bank.specs.Tracking.{shown};
