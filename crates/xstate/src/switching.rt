@@ -13,9 +13,6 @@ ghost use Rattle.xs_bank.specs.Holds.{Holds};
 ghost use Rattle.xs_base.specs.Trail.{counted};
 ghost use Rattle.xstate.specs.Engine.{IsSetUp, IsTaskArea, IsTaskFile};
 
-#[cfg(test)]
-mod tests;
-
 use xs_area::{Class, Lease, class_features};
 use xs_bank::Bank;
 use xs_base::Features;
