@@ -9,7 +9,7 @@ use Rattle.xs_base.specs.Compact.{place}
 use Rattle.xs_base.specs.Header.{xcomp_bv}
 use Rattle.xs_base.specs.Sets.{has}
 use Rattle.xs_area.specs.Copy.{is_copied}
-use Rattle.xs_area.proofs.TakeLemmas.{row_index}
+use Rattle.xs_base.proofs.RowLemmas.{row_index}
 
 -- With PKRU again, what is copied is all that is wanted: there is room for it.
 pub room_for : (rows : List Row) (area : List ℕ) (wanted copied back c : ℕ) → ((d : ℕ) → has copied d ≡ is_copied rows area wanted d) → ((d : ℕ) → has back d ≡ (if d == 9 then true else has copied d)) → (back == wanted) ≡ true → (c ≡ 9 → ⊥) → has wanted c ≡ true → has_room rows area c ≡ true

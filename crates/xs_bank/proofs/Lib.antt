@@ -7,5 +7,4 @@ pub mod TrapLemmas
 pub mod ReadyLemmas
 pub mod ChangeLemmas
 pub mod WholeLemmas
-pub mod TurnLemmas
 pub mod RegisterLemmas

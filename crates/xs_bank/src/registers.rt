@@ -83,7 +83,7 @@ impl Registers {
         ensures { self.new ≡ record { file = initial_file layout.now; armed = if has_row layout.now 18 then load.tiles else 0; tracked = None } }
     {
         self.file.set_up(layout);
-        self.armed = if layout.has_row(Comp(18)) {
+        self.armed = if layout.has_row(Comp::TILEDATA) {
             Features::TILEDATA
         } else {
             Features(0)
@@ -127,8 +127,8 @@ impl Registers {
         ensures released { self.new ≡ record self.old { file = with_part (with_part self.old.file 17 (initial_part 17)) 18 (initial_part 18); tracked = banks.touch 0x60000 self.old.tracked } }
         ensures ready { (id m : ℕ) (area : List ℕ) → banks.StandsUnmodified self.old.file self.old.tracked id m area → banks.StandsUnmodified self.new.file self.new.tracked id m area }
     {
-        self.file.reset(Comp(17));
-        self.file.reset(Comp(18));
+        self.file.reset(Comp::TILECFG);
+        self.file.reset(Comp::TILEDATA);
         self.tracked = touch(self.tracked, TILE_COMPONENTS);
     }
 

@@ -69,14 +69,18 @@ root_task rows = parked (record {
   back = 0;
 })
 
--- A valid private task of the machine with these rows: its file is one of the machine, of bytes, and without bits 16 to
--- 31 of MXCSR, which are reserved (SDM volume 1, 10.2.3); without room for TILEDATA that is initial; and both memories
--- have their lengths and are of bytes.
+-- A file that a task of the machine with these rows may have: of bytes, and without bits 16 to 31 of MXCSR, which are
+-- reserved (SDM volume 1, 10.2.3).
+pub record IsFileOf (rows : List Row) (file : File) : Type 0 where
+  pub is_file : IsFile file
+  pub rows_are : file.rows ≡ rows
+  pub bytes : (c k : ℕ) → slice_index (part file c) k < 256
+  pub control : file.mxcsr < 2 ^ 16
+
+-- A valid private task: its file is one of the machine, and without room for TILEDATA that is initial; both memories have
+-- their lengths and are of bytes.
 pub record IsPrivateTask (rows : List Row) (task : PrivateTask) : Type 0 where
-  pub is_file : IsFile task.file
-  pub rows_are : task.file.rows ≡ rows
-  pub bytes : (c k : ℕ) → slice_index (part task.file c) k < 256
-  pub control : task.file.mxcsr < 2 ^ 16
+  pub file : IsFileOf rows task.file
   pub tiles_are : task.large ≡ false → part task.file 18 ≡ initial_part 18
   pub frame_size : length task.frame ≡ 16388
   pub frame_bytes : (k : ℕ) → slice_index task.frame k < 256

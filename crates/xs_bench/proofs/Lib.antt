@@ -1,3 +1,3 @@
 pub mod BankTurns
 pub mod Changes
-pub mod CommandWords
+pub mod Numbers

@@ -1,4 +1,4 @@
--- The words of the command line, and the lines of a table: this project's own.
+-- The words of the command line, and what the commands print: this project's own.
 use Rattle.std.specs.Fmt.{digits}
 use Rattle.std.specs.List.{flat_map}
 use Rattle.std.specs.Prelude.{◌≡◌, ℕ, List, [], ◌∷◌, ◌++◌, codes, decimal, false, if◌then◌else◌}
@@ -10,7 +10,9 @@ use Rattle.xs_bench.specs.declared.command.Machine.TheVariants.{Amx, Avx}
 use Rattle.xs_bench.specs.declared.command.Command.{Command}
 use Rattle.xs_bench.specs.declared.command.Command.TheVariants.{Layout, Places, Repeat}
 use Rattle.xs_bench.specs.declared.command.Call.{Call}
-use Rattle.xs_bench.specs.declared.command.Call.TheVariants.{StandardInto, StandardOf, CompactOf, CopyArea, Copy, CopyCompacted, CopyOne, CopyHeader, Bank, Nothing}
+use Rattle.xs_bench.specs.declared.command.Call.TheVariants.{Layer, Bank}
+use Rattle.xs_bench.specs.declared.command.LayerCall.{LayerCall}
+use Rattle.xs_bench.specs.declared.command.LayerCall.TheVariants.{StandardInto, StandardOf, CompactOf, CopyArea, Copy, CopyCompacted, CopyOne, CopyHeader, Nothing}
 use Rattle.xs_bench.specs.declared.command.BankKind.{BankKind}
 use Rattle.xs_bench.specs.declared.command.BankKind.TheVariants.{Plain, Track}
 use Rattle.xs_bench.specs.declared.command.BankCall.{BankCall}
@@ -20,9 +22,9 @@ abbrev pub machine_word : Machine → List ℕ
 machine_word Amx = codes "amx"
 machine_word Avx = codes "avx"
 
-abbrev pub machine_rows : Machine → List Row
-machine_rows Amx = amx_rows
-machine_rows Avx = avx_rows
+abbrev pub rows_of_machine : Machine → List Row
+rows_of_machine Amx = amx_rows
+rows_of_machine Avx = avx_rows
 
 abbrev pub kind_word : BankKind → List ℕ
 kind_word Plain = codes "plain"
@@ -37,42 +39,48 @@ bank_call_word LoadFull = codes "xrstors-full"
 bank_call_word LoadOne = codes "xrstors-one"
 bank_call_word LoadInitial = codes "xrstors-initial"
 
--- the bank, and the instruction with what it has to move
-abbrev pub bank_word : BankKind → BankCall → List ℕ
-bank_word kind call = kind_word kind ++ (codes "-" ++ bank_call_word call)
+abbrev pub layer_call_word : LayerCall → List ℕ
+layer_call_word StandardInto = codes "standard-into"
+layer_call_word StandardOf = codes "standard-of"
+layer_call_word CompactOf = codes "compact-of"
+layer_call_word CopyArea = codes "copy-area"
+layer_call_word Copy = codes "copy"
+layer_call_word CopyCompacted = codes "copy-compacted"
+layer_call_word CopyOne = codes "copy-one"
+layer_call_word CopyHeader = codes "copy-header"
+layer_call_word Nothing = codes "nothing"
 
+-- a call on a bank: the bank, a dash, and the instruction with what it has to move
 abbrev pub call_word : Call → List ℕ
-call_word StandardInto = codes "standard-into"
-call_word StandardOf = codes "standard-of"
-call_word CompactOf = codes "compact-of"
-call_word CopyArea = codes "copy-area"
-call_word Copy = codes "copy"
-call_word CopyCompacted = codes "copy-compacted"
-call_word CopyOne = codes "copy-one"
-call_word CopyHeader = codes "copy-header"
-call_word (Bank kind call) = bank_word kind call
-call_word Nothing = codes "nothing"
+call_word (Layer call) = layer_call_word call
+call_word (Bank kind call) = kind_word kind ++ (codes "-" ++ bank_call_word call)
 
 -- the words of a command; the last of places is the mask, and the last of a call its number of turns
-abbrev pub Spells : List (List ℕ) → Command → Type 0
-Spells words (Layout machine) = words ≡ codes "layout" ∷ machine_word machine ∷ []
-Spells words (Places machine mask) = words ≡ codes "places" ∷ machine_word machine ∷ decimal mask.0 ∷ []
-Spells words (Repeat call turns) = (number : List ℕ) × (words ≡ codes "repeat" ∷ call_word call ∷ number ∷ [])
+abbrev pub SpellsCommand : List (List ℕ) → Command → Type 0
+SpellsCommand words (Layout machine) = words ≡ codes "layout" ∷ machine_word machine ∷ []
+SpellsCommand words (Places machine mask) = words ≡ codes "places" ∷ machine_word machine ∷ decimal mask.0 ∷ []
+SpellsCommand words (Repeat call turns) = words ≡ codes "repeat" ∷ call_word call ∷ decimal turns ∷ []
 
 -- a row's line: number, size, offset and flags
 abbrev pub row_line : Row → List ℕ
 row_line r =
-    decimal r.comp.0 ++ (codes " " ++ (decimal r.size ++ (codes " " ++ (decimal r.offset ++ (codes " " ++ decimal r.flags)))))
+    decimal r.comp.0 ++ (codes " " ++ (decimal r.size ++ (codes " " ++ (decimal r.offset ++ (codes " " ++ (decimal r.flags ++ codes "\n"))))))
+
+-- the table of a machine
+abbrev pub table_text : List Row → List ℕ
+table_text rows = flat_map row_line rows
 
 -- the row's component and its place in the compacted format, where it has one behind the header
 abbrev pub place_text : List Row → ℕ → Row → List ℕ
 place_text rows mask r = if is_extended mask r then codes " " ++ (decimal r.comp.0 ++ (codes ":" ++ decimal (compact_offset rows mask r.comp.0))) else []
 
-abbrev pub places_text : List Row → ℕ → List ℕ
-places_text rows mask = flat_map (place_text rows mask) rows
+-- the machine, the mask in hexadecimal, and the bytes of the standard and of the compacted format
+abbrev pub sizes_text : Machine → List Row → ℕ → List ℕ
+sizes_text machine rows mask =
+    machine_word machine ++ (codes " " ++ (digits 16 false mask ++ (codes " " ++ (decimal (standard_size rows mask) ++ (codes " " ++ decimal (compact_size rows mask))))))
 
--- the line of places: machine, mask in hexadecimal, bytes of the standard and of the compacted format, and each place
+-- the line of places: the sizes and each place
 abbrev pub places_line : Machine → ℕ → List ℕ
 places_line machine mask =
-    let rows = machine_rows machine in
-    machine_word machine ++ (codes " " ++ (digits 16 false mask ++ (codes " " ++ (decimal (standard_size rows mask) ++ (codes " " ++ (decimal (compact_size rows mask) ++ places_text rows mask))))))
+    let rows = rows_of_machine machine in
+    sizes_text machine rows mask ++ (flat_map (place_text rows mask) rows ++ codes "\n")

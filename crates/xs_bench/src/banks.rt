@@ -2,15 +2,15 @@
 //! changes eight bytes of the area and its XSTATE_BV, and takes PKRU into the sum, which at the end takes a byte of two
 //! registers. So no compiler leaves a call out.
 
-ghost use Rattle.std.specs.Prelude.{◌≡◌, ℕ, List, IfSome};
+ghost use Rattle.std.specs.Prelude.{◌≡◌, ◌≤◌, ℕ, List, length, IfSome};
+ghost use Rattle.xs_base.specs.Header as header;
 ghost use Rattle.xs_bank.specs.Bank.{IsReady};
 
-use crate::command::{BankCall, BankKind};
-use crate::inputs::{full_area, zero_area};
+use crate::command::BankCall;
+use crate::inputs::Inputs;
 use crate::repeats::{change, put_state, sum_with};
-use std::alloc::{AllocError, Global};
 use xs_area::{Area, Class, class_features, has_named_places};
-use xs_bank::{Bank, PlainBank, TrackBank};
+use xs_bank::Bank;
 use xs_base::{Features, Lane};
 use xs_layout::Layout;
 use xs_regs::place_of;
@@ -18,40 +18,59 @@ use xs_regs::place_of;
 /// Every component.
 const ALL: Features = Features(u64::MAX);
 
-/// Makes an instruction so many times over the machine `amx`, and answers the sum; None where its inputs don't meet its
-/// conditions.
-pub fn repeat_on_bank(
-    alloc: Global,
-    kind: BankKind,
+/// Makes an instruction of this bank so many times, and answers the sum; None where its inputs don't meet its conditions.
+pub fn repeat_bank_call<B: Bank>(
+    bank: &mut B,
+    inputs: &mut Inputs,
     call: BankCall,
     turns: u64,
-) -> Result<Option<u64>, AllocError> {
-    match kind {
-        BankKind::Plain => repeat_call(alloc, &mut PlainBank::new(alloc)?, call, turns),
-        BankKind::Track => repeat_call(alloc, &mut TrackBank::new(alloc)?, call, turns),
+) -> Option<u64>
+    requires { inputs.old.area.id ≡ inputs.old.other.id → ⊥ }
+{
+    let layout = &inputs.layout;
+    let (area, other) = (&mut inputs.area, &mut inputs.other);
+    start(bank, layout);
+    match call {
+        BankCall::LoadFull | BankCall::LoadOne | BankCall::LoadInitial => {
+            repeat_loads(bank, layout, area, set_of(call), turns)
+        }
+        BankCall::SaveFull => {
+            load(bank, layout, area)?;
+            other.bytes.fill(0);
+            repeat_saves(bank, layout, other, turns)
+        }
+        _ => {
+            prepare(bank, layout, area, call)?;
+            repeat_saves(bank, layout, area, turns)
+        }
     }
 }
 
-/// Makes an instruction of this bank so many times.
-fn repeat_call<B: Bank>(
-    alloc: Global,
-    bank: &mut B,
-    call: BankCall,
-    turns: u64,
-) -> Result<Option<u64>, AllocError> {
-    let layout = Layout::amx();
-    let mut area = full_area(alloc, 1, &layout)?;
-    let mut other = zero_area(alloc, 2, area.bytes.len())?;
-    start(bank, &layout);
-    Ok(match call {
-        BankCall::SaveFull => save_other(bank, &layout, &area, &mut other, turns),
-        BankCall::SaveOne => save_one(bank, &layout, &mut area, turns),
-        BankCall::SaveUnmodified => save_unmodified(bank, &layout, &mut area, turns),
-        BankCall::SaveInitial => repeat_saves(bank, &layout, &mut area, turns),
-        BankCall::LoadFull => repeat_loads(bank, &layout, &mut area, ALL, turns),
-        BankCall::LoadOne => repeat_loads(bank, &layout, &mut area, Features::SSE, turns),
-        BankCall::LoadInitial => repeat_loads(bank, &layout, &mut area, Features(0), turns),
-    })
+/// Brings a bank to where a save into the area that was loaded begins.
+fn prepare<B: Bank>(bank: &mut B, layout: &Layout, area: &Area, call: BankCall) -> Option<()>
+    requires rows { (B.state bank.old).file.rows ≡ layout.now }
+    requires ready { (m : ℕ) → IsReady (B.state bank.old) area.now.id m area.now.bytes.items }
+    ensures rows { IfSome result (λ _. (B.state bank.new).file.rows ≡ layout.now) }
+    ensures ready { IfSome result (λ _. (m : ℕ) → IsReady (B.state bank.new) area.now.id m area.now.bytes.items) }
+{
+    match call {
+        BankCall::SaveOne => {
+            load(bank, layout, area)?;
+            write_sse(bank, layout)?;
+            Some(())
+        }
+        BankCall::SaveUnmodified => load(bank, layout, area),
+        _ => Some(()),
+    }
+}
+
+/// The components that the area has state of in the odd turns of a load.
+fn set_of(call: BankCall) -> Features {
+    match call {
+        BankCall::LoadOne => Features::SSE,
+        BankCall::LoadInitial => Features(0),
+        _ => ALL,
+    }
 }
 
 /// Sets a bank up with nothing armed: it tracks no area.
@@ -79,45 +98,6 @@ fn load<B: Bank>(bank: &mut B, layout: &Layout, area: &Area) -> Option<()>
     }
 }
 
-/// Saves into another area than the one that was loaded.
-fn save_other<B: Bank>(
-    bank: &mut B,
-    layout: &Layout,
-    loaded: &Area,
-    area: &mut Area,
-    turns: u64,
-) -> Option<u64>
-    requires { (B.state bank.old).file.rows ≡ layout.now }
-{
-    if loaded.id == area.id {
-        return None;
-    }
-    load(bank, layout, loaded)?;
-    repeat_saves(bank, layout, area, turns)
-}
-
-/// Saves into the area that was loaded, where XMM0 was written since.
-fn save_one<B: Bank>(bank: &mut B, layout: &Layout, area: &mut Area, turns: u64) -> Option<u64>
-    requires { (B.state bank.old).file.rows ≡ layout.now }
-{
-    load(bank, layout, area)?;
-    write_sse(bank, layout)?;
-    repeat_saves(bank, layout, area, turns)
-}
-
-/// Saves into the area that was loaded.
-fn save_unmodified<B: Bank>(
-    bank: &mut B,
-    layout: &Layout,
-    area: &mut Area,
-    turns: u64,
-) -> Option<u64>
-    requires { (B.state bank.old).file.rows ≡ layout.now }
-{
-    load(bank, layout, area)?;
-    repeat_saves(bank, layout, area, turns)
-}
-
 /// Writes XMM0.
 fn write_sse<B: Bank>(bank: &mut B, layout: &Layout) -> Option<()>
     requires { (B.state bank.old).file.rows ≡ layout.now }
@@ -128,7 +108,10 @@ fn write_sse<B: Bank>(bank: &mut B, layout: &Layout) -> Option<()>
     if place.len != 16 || place.offset != 0 {
         return None;
     }
-    bank.write(place, &Lane::from_slice(&[2; 16])).ok()
+    match bank.write(place, &Lane::from_slice(&[2; 16])) {
+        Ok(()) => Some(()),
+        Err(_) => None,
+    }
 }
 
 /// Saves every component of the machine but PKRU.
@@ -160,23 +143,45 @@ fn repeat_loads<B: Bank>(
 ) -> Option<u64>
     requires { (B.state bank.old).file.rows ≡ layout.now }
 {
-    let mask = class_features(layout, Class::Large);
+    let sum = load_in_turn(bank, layout, area, set, turns)?;
+    let sse = u64::from(first_byte(bank, layout, "xmm0")?);
+    let tile = u64::from(first_byte(bank, layout, "tmm0.0")?);
+    Some(sum.wrapping_add(sse).wrapping_add(tile))
+}
+
+/// The loads of `repeat_loads`.
+fn load_in_turn<B: Bank>(
+    bank: &mut B,
+    layout: &Layout,
+    area: &mut Area,
+    set: Features,
+    turns: u64,
+) -> Option<u64>
+    requires { (B.state bank.old).file.rows ≡ layout.now }
+    ensures { IfSome result (λ _. (B.state bank.new).file.rows ≡ layout.now) }
+{
     if !has_named_places(layout, area) {
         return None;
     }
+    let mask = class_features(layout, Class::Large);
     let mut sum: u64 = 0;
     'turns: for turn in 0..turns {
-        change(&mut area.bytes, turn);
-        put_state(&mut area.bytes, state_of(mask, set, turn));
+        give_state(area, state_of(mask, set, turn), turn);
         bank.xrstors(mask, area).ok()?;
         sum = sum.wrapping_mul(31).wrapping_add(u64::from(bank.rdpkru()));
     }
-    let sse = first_byte(bank, layout, "xmm0")?;
-    let tile = first_byte(bank, layout, "tmm0.0")?;
-    Some(
-        sum.wrapping_add(u64::from(sse))
-            .wrapping_add(u64::from(tile)),
-    )
+    Some(sum)
+}
+
+/// Changes eight bytes of the area, and says that it has state of these components.
+fn give_state(area: &mut Area, bits: Features, turn: u64)
+    requires { 576 ≤ length area.old.bytes.items }
+    ensures len { length area.new.bytes.items ≡ length area.old.bytes.items }
+    ensures names { header.xcomp_bv area.new.bytes.items ≡ header.xcomp_bv area.old.bytes.items }
+{
+    let bytes = area.bytes.as_mut_slice();
+    change(bytes, turn);
+    put_state(bytes, bits);
 }
 
 /// The components that an area has state of in a turn: all of the mask in the even ones, those of the set in the odd ones.

@@ -1,13 +1,13 @@
 //! The words of the command line.
 
-ghost use Rattle.std.specs.Prelude.{◌≡◌, decimal, map, string_bytes, IfSome};
-ghost use Rattle.xs_bench.specs.Words.{bank_call_word, call_word, kind_word, machine_word, machine_rows, Spells};
+ghost use Rattle.std.specs.Prelude.{◌≡◌, [], ◌∷◌, decimal, map, string_bytes, IfSome};
+ghost use Rattle.xs_bench.specs.Words.{bank_call_word, call_word, kind_word, layer_call_word, machine_word, rows_of_machine, SpellsCommand};
 
 use xs_base::Features;
 use xs_layout::Layout;
 
 /// A machine whose table is built in.
-#[derive(Clone, Copy, PartialEq, Eq, Debug)]
+#[derive(Clone, Copy)]
 pub enum Machine {
     /// The components of a processor with AVX-512, protection keys and AMX.
     Amx,
@@ -16,7 +16,7 @@ pub enum Machine {
 }
 
 /// A bank of registers.
-#[derive(Clone, Copy, PartialEq, Eq, Debug)]
+#[derive(Clone, Copy)]
 pub enum BankKind {
     /// `xs_bank::PlainBank`.
     Plain,
@@ -25,7 +25,7 @@ pub enum BankKind {
 }
 
 /// An instruction of a bank, by what it has to move. Its components are those of the machine but PKRU.
-#[derive(Clone, Copy, PartialEq, Eq, Debug)]
+#[derive(Clone, Copy)]
 pub enum BankCall {
     /// `Bank::xsaves` where every component is in use, into another area than the one that was loaded.
     SaveFull,
@@ -43,9 +43,9 @@ pub enum BankCall {
     LoadInitial,
 }
 
-/// A call that is made many times.
-#[derive(Clone, Copy, PartialEq, Eq, Debug)]
-pub enum Call {
+/// A call of the layers that has no bank, or what stands beside it.
+#[derive(Clone, Copy)]
+pub enum LayerCall {
     /// `xs_regs::File::standard_into`.
     StandardInto,
     /// `xs_area::standard_of`.
@@ -62,19 +62,21 @@ pub enum Call {
     CopyOne,
     /// A plain copy of as many bytes as the header has.
     CopyHeader,
-    /// An instruction of a bank.
-    Bank {
-        /// The bank.
-        kind: BankKind,
-        /// The instruction.
-        call: BankCall,
-    },
     /// None: the loop alone.
     Nothing,
 }
 
+/// A call that is made many times.
+#[derive(Clone, Copy)]
+pub enum Call {
+    /// A call without a bank.
+    Layer(LayerCall),
+    /// An instruction of a bank.
+    Bank(BankKind, BankCall),
+}
+
 /// What the words ask for.
-#[derive(Clone, Copy, PartialEq, Eq, Debug)]
+#[derive(Clone, Copy)]
 pub enum Command {
     /// To print a machine's table.
     Layout(Machine),
@@ -87,7 +89,7 @@ pub enum Command {
 impl Machine {
     /// The machine's table.
     pub fn layout(self) -> Layout
-        ensures { result ≡ machine_rows self }
+        ensures { result ≡ rows_of_machine self }
     {
         match self {
             Machine::Amx => Layout::amx(),
@@ -108,21 +110,35 @@ impl Machine {
 
 /// The command that the words spell, if any.
 pub fn parse(words: &[String]) -> Option<Command>
-    ensures { IfSome result (Spells (map string_bytes words.now)) }
+    ensures { IfSome result (SpellsCommand (map string_bytes words.now)) }
 {
     match words {
-        [command, machine] if command.as_str() == "layout" => {
-            Some(Command::Layout(machine_of(machine.as_str())?))
+        [command, machine] => parse_two(command.as_str(), machine.as_str()),
+        [command, subject, number] => {
+            parse_three(command.as_str(), subject.as_str(), number.as_str())
         }
-        [command, call, turns] if command.as_str() == "repeat" => {
-            let call = call_of(call.as_str())?;
-            let turns = turns.as_str().parse::<u64>().ok()?;
-            Some(Command::Repeat(call, turns))
-        }
-        [command, machine, mask] if command.as_str() == "places" => {
-            let machine = machine_of(machine.as_str())?;
-            Some(Command::Places(machine, mask_of(mask.as_str())?))
-        }
+        _ => None,
+    }
+}
+
+/// The command of two words.
+fn parse_two(command: &str, machine: &str) -> Option<Command>
+    ensures { IfSome result (SpellsCommand (command.now ∷ machine.now ∷ [])) }
+{
+    match command {
+        "layout" => Some(Command::Layout(machine_of(machine)?)),
+        _ => None,
+    }
+}
+
+/// The command of three words.
+fn parse_three(command: &str, subject: &str, number: &str) -> Option<Command>
+    ensures { IfSome result (SpellsCommand (command.now ∷ subject.now ∷ number.now ∷ [])) }
+{
+    let value = number_of(number)?;
+    match command {
+        "places" => Some(Command::Places(machine_of(subject)?, Features(value))),
+        "repeat" => Some(Command::Repeat(call_of(subject)?, value)),
         _ => None,
     }
 }
@@ -138,9 +154,9 @@ fn machine_of(word: &str) -> Option<Machine>
     }
 }
 
-/// The set that a number spells in decimal, with no sign and no needless zero in front.
-fn mask_of(word: &str) -> Option<Features>
-    ensures { IfSome result (λ mask. word.now ≡ decimal mask.0) }
+/// The number that a word spells in decimal, with no sign and no needless zero in front.
+fn number_of(word: &str) -> Option<u64>
+    ensures { IfSome result (λ number. word.now ≡ decimal number) }
 {
     let number = word.parse::<u64>().ok()?;
     let first = *word.as_bytes().first()?;
@@ -150,24 +166,34 @@ fn mask_of(word: &str) -> Option<Features>
     if first == b'0' && word.len() != 1 {
         return None;
     }
-    Some(Features(number))
+    Some(number)
 }
 
 /// The call of this name.
 fn call_of(word: &str) -> Option<Call>
     ensures { IfSome result (λ call. word.now ≡ call_word call) }
 {
+    match layer_call_of(word) {
+        Some(call) => Some(Call::Layer(call)),
+        None => bank_call_of(word),
+    }
+}
+
+/// The call without a bank of this name.
+fn layer_call_of(word: &str) -> Option<LayerCall>
+    ensures { IfSome result (λ call. word.now ≡ layer_call_word call) }
+{
     match word {
-        "standard-into" => Some(Call::StandardInto),
-        "standard-of" => Some(Call::StandardOf),
-        "compact-of" => Some(Call::CompactOf),
-        "copy-area" => Some(Call::CopyArea),
-        "copy" => Some(Call::Copy),
-        "copy-compacted" => Some(Call::CopyCompacted),
-        "copy-one" => Some(Call::CopyOne),
-        "copy-header" => Some(Call::CopyHeader),
-        "nothing" => Some(Call::Nothing),
-        _ => bank_call_of(word),
+        "standard-into" => Some(LayerCall::StandardInto),
+        "standard-of" => Some(LayerCall::StandardOf),
+        "compact-of" => Some(LayerCall::CompactOf),
+        "copy-area" => Some(LayerCall::CopyArea),
+        "copy" => Some(LayerCall::Copy),
+        "copy-compacted" => Some(LayerCall::CopyCompacted),
+        "copy-one" => Some(LayerCall::CopyOne),
+        "copy-header" => Some(LayerCall::CopyHeader),
+        "nothing" => Some(LayerCall::Nothing),
+        _ => None,
     }
 }
 
@@ -176,10 +202,7 @@ fn bank_call_of(word: &str) -> Option<Call>
     ensures { IfSome result (λ call. word.now ≡ call_word call) }
 {
     let (bank, instruction) = word.split_once('-')?;
-    Some(Call::Bank {
-        kind: kind_of(bank)?,
-        call: instruction_of(instruction)?,
-    })
+    Some(Call::Bank(kind_of(bank)?, instruction_of(instruction)?))
 }
 
 /// The bank of this name.

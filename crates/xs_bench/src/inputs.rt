@@ -17,20 +17,64 @@ const REGISTERS: [&str; 9] = [
 /// The bytes that are written into each register.
 const ONES: [u8; 64] = [1; 64];
 
-/// The file of a machine with every component in use.
-pub fn full_file(alloc: Global, layout: &Layout) -> Result<File, AllocError> {
-    let mut file = File::initial(alloc, layout)?;
-    for name in REGISTERS {
-        if let Some(place) = place_of(name, file.layout()) {
-            let lane = Lane::from_slice(&ONES[..place.len as usize]);
-            file.write(place, &lane);
-        }
+/// What the calls read and write.
+#[derive(Drop)]
+pub struct Inputs {
+    /// The machine's table.
+    pub layout: Layout,
+    /// A file with every component in use.
+    pub file: File,
+    /// Its image in the standard format.
+    pub image: Vec<u8>,
+    /// As many bytes.
+    pub out: Vec<u8>,
+    /// An area of the compacted format with state of every component but PKRU.
+    pub area: Area,
+    /// Another.
+    pub other: Area,
+}
+
+impl Inputs {
+    /// The inputs of the machine `amx`.
+    pub fn new(alloc: Global) -> Result<Inputs, AllocError>
+        ensures area { IfOk result (λ inputs. inputs.area.id ≡ 1) }
+        ensures other { IfOk result (λ inputs. inputs.other.id ≡ 2) }
+    {
+        let layout = Layout::amx();
+        let file = full_file(alloc, &layout)?;
+        let image = full_image(alloc, &file)?;
+        let out = vec![in alloc; 0u8; layout.full_size() as usize]?;
+        let area = full_area(alloc, 1, &layout)?;
+        let other = full_area(alloc, 2, &layout)?;
+        Ok(Inputs {
+            layout,
+            file,
+            image,
+            out,
+            area,
+            other,
+        })
     }
+}
+
+/// The file of a machine with every component in use.
+fn full_file(alloc: Global, layout: &Layout) -> Result<File, AllocError> {
+    let mut file = File::initial(alloc, layout)?;
+    fill(&mut file);
     Ok(file)
 }
 
+/// Writes a register of each component.
+fn fill(file: &mut File) {
+    for name in REGISTERS {
+        if let Some(place) = place_of(name, file.layout()) {
+            file.write(place, &Lane::from_slice(&ONES[..place.len as usize]));
+        }
+    }
+}
+
 /// The file's image in the standard format: every component of the machine is in its XSTATE_BV.
-pub fn full_image(alloc: Global, file: &File) -> Result<Vec<u8>, AllocError> {
+fn full_image(alloc: Global, file: &File) -> Result<Vec<u8>, AllocError> {
     let layout = file.layout();
     let features = layout.features();
     let mut image = vec![in alloc; 0u8; layout.full_size() as usize]?;
@@ -41,7 +85,7 @@ pub fn full_image(alloc: Global, file: &File) -> Result<Vec<u8>, AllocError> {
 
 /// An area of the compacted format with every component but PKRU, whose registers have the byte 1 throughout. It has state
 /// of each of its components.
-pub fn full_area(alloc: Global, id: u64, layout: &Layout) -> Result<Area, AllocError>
+fn full_area(alloc: Global, id: u64, layout: &Layout) -> Result<Area, AllocError>
     ensures { IfOk result (λ area. area.id ≡ id) }
 {
     let names = class_features(layout, Class::Large);
@@ -50,13 +94,5 @@ pub fn full_area(alloc: Global, id: u64, layout: &Layout) -> Result<Area, AllocE
     clear(&mut bytes, 512, 64);
     put_number(&mut bytes, 512, names.0);
     put_number(&mut bytes, 520, compacted(names).0);
-    Ok(Area { id, bytes })
-}
-
-/// An area of zeros.
-pub fn zero_area(alloc: Global, id: u64, len: usize) -> Result<Area, AllocError>
-    ensures { IfOk result (λ area. area.id ≡ id) }
-{
-    let bytes = vec![in alloc; 0u8; len]?;
     Ok(Area { id, bytes })
 }

@@ -5,18 +5,15 @@
 mod banks;
 mod command;
 mod inputs;
-mod places;
 mod repeats;
-mod table;
-#[cfg(test)]
-mod tests;
+mod text;
 
 use crate::command::{Command, parse};
-use crate::places::places_line;
 use crate::repeats::repeat;
-use crate::table::write_table;
+use crate::text::{push_places, push_table};
 use std::alloc::AllocError;
 use std::env;
+use std::fmt::Write;
 use std::io::{self, ErrorKind};
 use std::process::ExitCode;
 
@@ -31,7 +28,8 @@ MASK: the number of a set of components, in decimal
 N: how many times the call is made
 CALL: standard-into, standard-of, compact-of, copy-area, copy, copy-compacted, copy-one, copy-header, nothing
 BANK: plain, track
-INSTRUCTION: xsaves-full, xsaves-one, xsaves-unmodified, xsaves-initial, xrstors-full, xrstors-one, xrstors-initial";
+INSTRUCTION: xsaves-full, xsaves-one, xsaves-unmodified, xsaves-initial, xrstors-full, xrstors-one, xrstors-initial
+";
 
 /// Does what the command line asks. The status is 0, 64 for words that are no command, 6 where there was no memory, 5
 /// where standard output failed, and 70 where the inputs of a call don't meet its conditions.
@@ -43,44 +41,38 @@ fn main(rt: HostRuntime) -> ExitCode {
     }
 }
 
-/// Answers the command line.
+/// Answers the command line: prints what it asks for at once.
 fn answer(rt: &HostRuntime) -> io::Result<u8> {
-    let words = command_line(rt)?;
-    match parse(&words) {
-        Some(Command::Layout(machine)) => {
-            write_table(rt, &machine.layout())?;
-            Ok(0)
-        }
-        Some(Command::Places(machine, mask)) => {
-            rt.println(places_line(rt.alloc(), machine, mask)?)?;
-            Ok(0)
-        }
-        Some(Command::Repeat(call, turns)) => match repeat(rt.alloc(), call, turns)? {
-            Some(sum) => {
-                println!(rt; "{sum}")?;
-                Ok(0)
-            }
-            None => Ok(70),
+    let command = parse(&command_line(rt)?);
+    let mut text = String::new(rt.alloc());
+    let status = obey(command, &mut text)?;
+    rt.print(text.as_str())?;
+    Ok(status)
+}
+
+/// Does what a command asks, appends what it prints, and gives the status.
+fn obey(command: Option<Command>, text: &mut String) -> Result<u8, AllocError> {
+    match command {
+        Some(Command::Layout(machine)) => push_table(text, &machine.layout())?,
+        Some(Command::Places(machine, mask)) => push_places(text, machine, mask)?,
+        Some(Command::Repeat(call, turns)) => match repeat(*text.allocator(), call, turns)? {
+            Some(sum) => writeln!(text, "{sum}")?,
+            None => return Ok(70),
         },
         None => {
-            rt.println(USAGE)?;
-            Ok(64)
+            text.push_str(USAGE)?;
+            return Ok(64);
         }
     }
+    Ok(0)
 }
 
 /// The words of the command line, without the program's name: none where one of them is no text, so that they are no
 /// command.
 fn command_line(rt: &HostRuntime) -> Result<Vec<String>, AllocError> {
-    let mut words = Vec::new(rt.alloc());
     match env::args(rt) {
-        Ok(all) => {
-            for word in all.skip(1) {
-                words.push(word)?;
-            }
-            Ok(words)
-        }
+        Ok(all) => all.skip(1).collect(rt.alloc()),
         Err(fault) if fault.kind() == ErrorKind::OutOfMemory => Err(AllocError),
-        Err(_) => Ok(words),
+        Err(_) => Ok(Vec::new(rt.alloc())),
     }
 }

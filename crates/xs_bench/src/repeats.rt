@@ -4,11 +4,12 @@
 ghost use Rattle.std.specs.Prelude.{◌≡◌, ◌≤◌, length};
 ghost use Rattle.xs_base.specs.Header as header;
 
-use crate::banks::repeat_on_bank;
-use crate::command::Call;
-use crate::inputs::{full_area, full_file, full_image};
+use crate::banks::repeat_bank_call;
+use crate::command::{BankCall, BankKind, Call, LayerCall};
+use crate::inputs::Inputs;
 use std::alloc::{AllocError, Global};
 use xs_area::{Area, Origin, compact_of, copy_area, read_standard, standard_of, stands, xstate_bv};
+use xs_bank::{Bank, PlainBank, TrackBank};
 use xs_base::{Comp, Features, Lane, put, put_number};
 use xs_layout::Layout;
 use xs_regs::{File, place_of};
@@ -22,24 +23,43 @@ const LOOKED_AT: u64 = 8192;
 /// Makes a call so many times over the machine `amx`, and answers the sum; None where its inputs don't meet its
 /// conditions.
 pub fn repeat(alloc: Global, call: Call, turns: u64) -> Result<Option<u64>, AllocError> {
-    let layout = Layout::amx();
-    let mut file = full_file(alloc, &layout)?;
-    let mut image = full_image(alloc, &file)?;
-    let mut out = vec![in alloc; 0u8; layout.full_size() as usize]?;
-    let mut area = full_area(alloc, 1, &layout)?;
-    let mut other = full_area(alloc, 2, &layout)?;
-    Ok(match call {
-        Call::StandardInto => repeat_standard_into(&mut file, &mut out, turns),
-        Call::StandardOf => repeat_standard_of(&layout, &mut area, &mut out, turns),
-        Call::CompactOf => repeat_compact_of(&layout, &mut image, &mut area, turns),
-        Call::CopyArea => repeat_copy_area(&layout, &mut area, &mut other, turns),
-        Call::Copy => repeat_copy(&mut image, &mut out, turns),
-        Call::CopyCompacted => repeat_copy(&mut area.bytes, &mut other.bytes, turns),
-        Call::CopyOne => repeat_copy_part(&mut image, &mut out, 320, turns),
-        Call::CopyHeader => repeat_copy_part(&mut image, &mut out, 64, turns),
-        Call::Bank { kind, call } => repeat_on_bank(alloc, kind, call, turns)?,
-        Call::Nothing => repeat_nothing(&mut image, &out, turns),
-    })
+    match call {
+        Call::Layer(call) => Ok(repeat_layer_call(&mut Inputs::new(alloc)?, call, turns)),
+        Call::Bank(BankKind::Plain, call) => {
+            repeat_on_bank(alloc, PlainBank::new(alloc)?, call, turns)
+        }
+        Call::Bank(BankKind::Track, call) => {
+            repeat_on_bank(alloc, TrackBank::new(alloc)?, call, turns)
+        }
+    }
+}
+
+/// Makes an instruction of a bank so many times.
+fn repeat_on_bank<B: Bank>(
+    alloc: Global,
+    mut bank: B,
+    call: BankCall,
+    turns: u64,
+) -> Result<Option<u64>, AllocError> {
+    Ok(repeat_bank_call(&mut bank, &mut Inputs::new(alloc)?, call, turns))
+}
+
+/// Makes a call without a bank so many times.
+fn repeat_layer_call(inputs: &mut Inputs, call: LayerCall, turns: u64) -> Option<u64> {
+    let layout = &inputs.layout;
+    let (image, out) = (inputs.image.as_mut_slice(), inputs.out.as_mut_slice());
+    let (area, other) = (&mut inputs.area, &mut inputs.other);
+    match call {
+        LayerCall::StandardInto => repeat_standard_into(&mut inputs.file, out, turns),
+        LayerCall::StandardOf => repeat_standard_of(layout, area, out, turns),
+        LayerCall::CompactOf => repeat_compact_of(layout, image, area, turns),
+        LayerCall::CopyArea => repeat_copy_area(layout, area, other, turns),
+        LayerCall::Copy => repeat_copy(image, out, turns),
+        LayerCall::CopyCompacted => repeat_copy(&mut area.bytes, &mut other.bytes, turns),
+        LayerCall::CopyOne => repeat_copy_part(image, out, 320, turns),
+        LayerCall::CopyHeader => repeat_copy_part(image, out, 64, turns),
+        LayerCall::Nothing => repeat_nothing(image, out, turns),
+    }
 }
 
 /// The sum with a byte of an output.
@@ -78,7 +98,7 @@ fn repeat_standard_of(layout: &Layout, area: &mut Area, out: &mut [u8], turns: u
     }
     let mut sum = 0;
     'turns: for turn in 0..turns {
-        change(&mut area.bytes, turn);
+        change_area(area, turn);
         standard_of(layout, area, 0x5555_5554, mask, out);
         sum = sum_with(sum, out, turn);
     }
@@ -119,7 +139,7 @@ fn repeat_copy_area(layout: &Layout, from: &mut Area, to: &mut Area, turns: u64)
     }
     let mut sum = 0;
     'turns: for turn in 0..turns {
-        change(&mut from.bytes, turn);
+        change_area(from, turn);
         copy_area(layout, from, to);
         sum = sum_with(sum, &to.bytes, turn);
     }
@@ -167,6 +187,16 @@ fn repeat_nothing(from: &mut [u8], to: &[u8], turns: u64) -> Option<u64> {
         sum = sum_with(sum, to, turn);
     }
     Some(sum)
+}
+
+/// Changes eight bytes of an area, of its legacy region.
+fn change_area(area: &mut Area, turn: u64)
+    requires { 576 ≤ length area.old.bytes.items }
+    ensures len { length area.new.bytes.items ≡ length area.old.bytes.items }
+    ensures bits { header.xstate_bv area.new.bytes.items ≡ header.xstate_bv area.old.bytes.items }
+    ensures names { header.xcomp_bv area.new.bytes.items ≡ header.xcomp_bv area.old.bytes.items }
+{
+    change(&mut area.bytes, turn);
 }
 
 /// Changes eight bytes of an image or an area, of its legacy region.

@@ -2,3 +2,4 @@
 pub mod SpacedWords
 pub mod EventWords
 pub mod OneSpelling
+pub mod LegalEvents

@@ -5,8 +5,7 @@ ghost use Rattle.arrayvec.specs.ArrayVec.{array_vec_len};
 ghost use Rattle.hex.specs.Hex.{encode_lower, lower_digits};
 ghost use Rattle.xs_model.specs.declared.script.Script.{Script};
 ghost use Rattle.xs_model.specs.declared.event.Event.{Event};
-ghost use Rattle.xs_model.specs.Script.{IsValid};
-ghost use Rattle.xs_text.specs.Text.{AreEvents, history_text, how_word, signal_word, reply_word, cause_word, name_of, task_of, event_line};
+ghost use Rattle.xs_text.specs.Text.{how_word, signal_word, reply_word, cause_word, name_of, task_of, event_line};
 
 #[cfg(test)]
 mod tests;
@@ -216,8 +215,3 @@ fn hex_digit(n: u8) -> u8
 {
     if n < 10 { n + b'0' } else { n - 10 + b'a' }
 }
-
-/// The text of a history of a script is that of no other history.
-pub fn one_history()
-    ensures { (script : Script) (a b : List Event) → IsValid script → AreEvents script a → AreEvents script b → history_text script a ≡ history_text script b → a ≡ b }
-{}

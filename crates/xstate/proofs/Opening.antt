@@ -13,8 +13,7 @@ use Rattle.xs_base.specs.Bytes.{zeros}
 use Rattle.xs_base.specs.File.{File, initial_file}
 use Rattle.xs_base.specs.Layout.{IsLayout}
 use Rattle.xs_base.specs.Task.{PrivateTask, root_task, start_pkru}
-use Rattle.xs_base.proofs.FileLemmas.{initial_at, initial_is_file, part_other}
-use Rattle.xs_regs.proofs.Loads.{pkru_is_file}
+use Rattle.xs_base.proofs.FileLemmas.{initial_at, initial_is_file, part_other, pkru_is_file}
 use Rattle.xs_model.specs.declared.script.BlockKind.TheVariants as kinds
 use Rattle.xs_model.specs.declared.script.Block.{Block}
 use Rattle.xs_model.specs.declared.script.Script.{Script}

@@ -21,8 +21,9 @@ use Rattle.xs_bank.specs.Save.{IsInitialOutside, IsLoadableSave}
 use Rattle.xs_base.proofs.CompactLemmas.{compact_size_low}
 use Rattle.xs_base.proofs.LayoutLemmas.{has_row_at, row_found, sound_at}
 use Rattle.xs_base.proofs.RowLemmas.{has_sse}
-use Rattle.xs_area.proofs.KernelLemmas.{has_class, compacted_is}
-use Rattle.xs_area.proofs.TakeLemmas.{row_index}
+use Rattle.xs_base.proofs.ClassLemmas.{has_class}
+use Rattle.xs_base.proofs.CompactedLemmas.{compacted_is}
+use Rattle.xs_base.proofs.RowLemmas.{row_index}
 use Rattle.xstate.specs.Engine.{IsSetUp, IsTaskArea, IsTaskFile}
 
 -- an area of the class has a header

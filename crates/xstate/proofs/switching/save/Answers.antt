@@ -3,7 +3,7 @@ use Rattle.std.proofs.Common.{◌≡◌, length, ap, ◌∙◌, arith}
 use Rattle.xs_base.specs.declared.class.Class.TheVariants.{Small}
 use Rattle.xs_base.specs.Compact.{compacted}
 use Rattle.xs_base.specs.KernelArea.{class_features, class_size}
-use Rattle.xs_area.proofs.KernelLemmas.{compacted_holds}
+use Rattle.xs_base.proofs.CompactedLemmas.{compacted_places}
 use Rattle.xstate.proofs.SwitchLemmas.{long_area, loadable_save, initial_outside, table_of, small_sse, stands_same}
 use Rattle.xstate.proofs.switching.save.Goals as goal
 
@@ -22,7 +22,7 @@ returns-clause-area g c =
       loadable = rw (c.requires.machine.rows_are) at c.xsaves.ensures.loadable Small save;
       names = names;
       len = len;
-      places = compacted_holds rows (class_features rows Small) after (table_of rows c.args.lease.now c.requires.area) names (omega (arith, len));
+      places = compacted_places rows (class_features rows Small) after (table_of rows c.args.lease.now c.requires.area) names (omega (arith, len));
     }
 
 pub returns-clause-stands : goal.returns-clause-stands

@@ -1,0 +1,14 @@
+use Rattle.std.proofs.Common.{arith}
+use Rattle.xs_bench.proofs.Changes.{read_on}
+use Rattle.xs_bench.proofs.repeats.repeat_copy_area.Goals as goal
+
+pub turns-init : goal.turns-init
+turns-init c =
+    let area = c.stands.ensures.readable.0 c.if-not-stands.false in
+    (record { header = area.header; places = area.places }, omega arith)
+
+pub turns-preserved : goal.turns-preserved
+turns-preserved c = (
+  read_on c.args.layout.now c.turns.from.bytes.items c.change_area.new.area.bytes.items c.turns.invariant.0 c.change_area.ensures.len c.change_area.ensures.bits c.change_area.ensures.names,
+  omega (arith, c.copy_area.ensures.form.len),
+)
