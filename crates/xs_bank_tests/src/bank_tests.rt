@@ -4,13 +4,13 @@ ghost use Rattle.std.specs.Prelude.{◌≡◌};
 
 use crate::checked::{arms, loads, saves, writes};
 use crate::fixtures::{
-    Refusal, bits_of, load_compacted, of_machine, read, renew, save_compacted, start, write, zeros,
+    Refusal, bits_of, load_compacted, of_machine, plain, read, renew, save_compacted, start, track,
+    write, zeros,
 };
-use std::alloc::{AllocError, Global};
+use std::alloc::Global;
 use std::process::Abort;
-use std::test::Fail;
 use xs_area::Area;
-use xs_bank::{Bank, Cpu, Execs, PlainBank, TrackBank};
+use xs_bank::{Bank, Cpu, Execs};
 use xs_base::{Features, put};
 use xs_layout::Layout;
 
@@ -27,15 +27,16 @@ fn releases<B: Bank>(bank: &mut B) -> [Execs; 3] {
 }
 
 #[test]
-fn releases_leave_their_trail(rt: HostRuntime) -> Result<(), Fail> {
+fn releases_leave_their_trail(rt: HostRuntime) {
     let expected = [(0, 0), (1, 4), (2, 7009800821677620408)].map(|(count, trail)| Execs {
         count,
         trail,
     });
-    let plain = releases(&mut PlainBank::new(rt.alloc())?);
-    let track = releases(&mut TrackBank::new(rt.alloc())?);
-    assert_eq!(rt; [plain, track], [expected; 2]);
-    Ok(())
+    let released = [
+        releases(&mut plain(&rt, rt.alloc())),
+        releases(&mut track(&rt, rt.alloc())),
+    ];
+    assert_eq!(rt; released, [expected; 2]);
 }
 
 /// Saves the initial file but for MXCSR 1FA0H.
@@ -89,14 +90,12 @@ fn saved_and_loaded<B: Bank>(rt: &impl Abort, bank: &mut B, other: &mut B, area:
 }
 
 #[test]
-fn what_one_bank_saves_another_loads(rt: HostRuntime) -> Result<(), Fail> {
-    let alloc = rt.alloc();
-    let mut area = zeros(alloc, 7, 16384)?;
-    let mut bank = PlainBank::new(alloc)?;
-    saved_and_loaded(&rt, &mut bank, &mut PlainBank::new(alloc)?, &mut area);
-    let mut bank = TrackBank::new(alloc)?;
-    saved_and_loaded(&rt, &mut bank, &mut TrackBank::new(alloc)?, &mut area);
-    Ok(())
+fn what_one_bank_saves_another_loads(rt: HostRuntime) {
+    let mut area = zeros(&rt, rt.alloc(), 7, 16384);
+    let mut other = plain(&rt, rt.alloc());
+    saved_and_loaded(&rt, &mut plain(&rt, rt.alloc()), &mut other, &mut area);
+    let mut other = track(&rt, rt.alloc());
+    saved_and_loaded(&rt, &mut track(&rt, rt.alloc()), &mut other, &mut area);
 }
 
 /// Writes a register of every component.
@@ -125,12 +124,12 @@ struct Images {
     initial: Area,
 }
 
-fn images_of(alloc: Global) -> Result<Images, AllocError> {
-    Ok(Images {
-        soiled: zeros(alloc, 0, 16384)?,
-        loaded: zeros(alloc, 0, 16384)?,
-        initial: zeros(alloc, 0, 16384)?,
-    })
+fn images_of(rt: &impl Abort, alloc: Global) -> Images {
+    Images {
+        soiled: zeros(rt, alloc, 0, 16384),
+        loaded: zeros(rt, alloc, 0, 16384),
+        initial: zeros(rt, alloc, 0, 16384),
+    }
 }
 
 /// The processor's number is 3, it has no mark, and its machine has so many rows.
@@ -158,23 +157,14 @@ fn processor<B: Bank>(rt: &impl Abort, cpu: &mut Cpu<B>, fresh: &mut B, images: 
 }
 
 /// The same of a processor of its own.
-fn new_processor<B: Bank>(
-    rt: &impl Abort,
-    alloc: Global,
-    bank: B,
-    fresh: &mut B,
-) -> Result<(), AllocError> {
-    let mut cpu = Cpu::new(alloc, 3, bank)?;
-    processor(rt, &mut cpu, fresh, &mut images_of(alloc)?);
-    Ok(())
+fn new_processor<B: Bank>(rt: &impl Abort, alloc: Global, bank: B, fresh: &mut B) {
+    let mut cpu = Cpu::new(alloc, 3, bank).expect(rt, "memory");
+    processor(rt, &mut cpu, fresh, &mut images_of(rt, alloc));
 }
 
 #[test]
-fn a_processor_loads_its_initial_area(rt: HostRuntime) -> Result<(), Fail> {
+fn a_processor_loads_its_initial_area(rt: HostRuntime) {
     let alloc = rt.alloc();
-    let bank = PlainBank::new(alloc)?;
-    new_processor(&rt, alloc, bank, &mut PlainBank::new(alloc)?)?;
-    let bank = TrackBank::new(alloc)?;
-    new_processor(&rt, alloc, bank, &mut TrackBank::new(alloc)?)?;
-    Ok(())
+    new_processor(&rt, alloc, plain(&rt, alloc), &mut plain(&rt, alloc));
+    new_processor(&rt, alloc, track(&rt, alloc), &mut track(&rt, alloc));
 }

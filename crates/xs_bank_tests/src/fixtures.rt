@@ -8,8 +8,9 @@ ghost use Rattle.xs_bank.specs.Bank.{IsReady};
 ghost use Rattle.xs_bank_tests.specs.Turn.{KeepsReady};
 
 use std::alloc::{AllocError, Global};
+use std::process::Abort;
 use xs_area::{Area, Class, has_named_places, make_initial, xcomp_bv, xstate_bv};
-use xs_bank::{Bank, Trap};
+use xs_bank::{Bank, PlainBank, TrackBank, Trap};
 use xs_base::{Comp, Features, Lane, Place};
 use xs_layout::Layout;
 use xs_regs::place_of;
@@ -24,12 +25,29 @@ pub enum Refusal {
 }
 
 /// An area of zeros.
-pub fn zeros(alloc: Global, id: u64, len: usize) -> Result<Area, AllocError>
-    ensures id { IfOk result (λ area. area.id ≡ id) }
-    ensures len { IfOk result (λ area. length area.bytes.items ≡ len) }
+pub fn zeros(rt: &impl Abort, alloc: Global, id: u64, len: usize) -> Area
+    ensures id { result.id ≡ id }
+    ensures len { length result.bytes.items ≡ len }
 {
-    let bytes = vec![in alloc; 0u8; len]?;
-    Ok(Area { id, bytes })
+    let bytes = zeros_of(alloc, len).expect(rt, "memory");
+    Area { id, bytes }
+}
+
+/// A vector of `len` zeros.
+fn zeros_of(alloc: Global, len: usize) -> Result<Vec<u8>, AllocError>
+    ensures { IfOk result (λ v. length v.items ≡ len) }
+{
+    vec![in alloc; 0u8; len]
+}
+
+/// A bank that writes every component.
+pub fn plain(rt: &impl Abort, alloc: Global) -> PlainBank {
+    PlainBank::new(alloc).expect(rt, "memory")
+}
+
+/// A bank that leaves out what it may.
+pub fn track(rt: &impl Abort, alloc: Global) -> TrackBank {
+    TrackBank::new(alloc).expect(rt, "memory")
 }
 
 /// Makes it a Small area of the machine `amx` without state, where it has a header.

@@ -4,14 +4,13 @@
 ghost use Rattle.std.specs.Prelude.{◌≡◌};
 
 use crate::fixtures::{
-    Refusal, load_compacted, load_standard, of_machine, renew, save_compacted, save_standard,
-    start, write, zeros,
+    Refusal, load_compacted, load_standard, of_machine, plain, renew, save_compacted,
+    save_standard, start, track, write, zeros,
 };
-use std::alloc::{AllocError, Global};
+use std::alloc::Global;
 use std::process::Abort;
-use std::test::Fail;
 use xs_area::Area;
-use xs_bank::{Bank, PlainBank, TrackBank};
+use xs_bank::Bank;
 use xs_base::{Features, put};
 use xs_layout::Layout;
 
@@ -34,14 +33,14 @@ const X87: [Option<u8>; 2] = [Some(0), Some(9)];
 const BOTH: [Option<u8>; 2] = [Some(0), Some(0)];
 
 /// An area with state of x87 and SSE, all zero but XMM0, and with both traces. AVX has its place at 576 in either format.
-fn traced(alloc: Global, id: u64, names: u64) -> Result<Area, AllocError> {
-    let mut area = zeros(alloc, id, 2816)?;
+fn traced(rt: &impl Abort, alloc: Global, id: u64, names: u64) -> Area {
+    let mut area = zeros(rt, alloc, id, 2816);
     put(&mut area.bytes, 5, &[1]);
     put(&mut area.bytes, 160, &[7]);
     put(&mut area.bytes, 512, &3u64.to_le_bytes());
     put(&mut area.bytes, 520, &names.to_le_bytes());
     put(&mut area.bytes, 576, &[9]);
-    Ok(area)
+    area
 }
 
 /// The traces after a load and a save into the same area, and after one more save where ST0 was written between.
@@ -106,21 +105,23 @@ fn leaves_traces<B: Bank>(
     alloc: Global,
     bank: &mut B,
     expected: [[Option<u8>; 2]; 5],
-) -> Result<(), AllocError> {
-    let mut area = traced(alloc, 7, NAMES)?;
-    let mut short = traced(alloc, 7, 0)?;
-    let mut other = traced(alloc, 8, NAMES)?;
+) {
+    let mut area = traced(rt, alloc, 7, NAMES);
+    let mut short = traced(rt, alloc, 7, 0);
+    let mut other = traced(rt, alloc, 8, NAMES);
     assert!(rt; traces(bank, &mut area, &mut short, &mut other) == Ok(expected));
-    Ok(())
 }
 
 #[test]
-fn a_save_leaves_out_what_was_not_changed(rt: HostRuntime) -> Result<(), Fail> {
+fn a_save_leaves_out_what_was_not_changed(rt: HostRuntime) {
     let alloc = rt.alloc();
-    let track = [X87, NEITHER, X87, NEITHER, X87];
-    leaves_traces(&rt, alloc, &mut TrackBank::new(alloc)?, track)?;
-    leaves_traces(&rt, alloc, &mut PlainBank::new(alloc)?, [BOTH; 5])?;
-    Ok(())
+    leaves_traces(
+        &rt,
+        alloc,
+        &mut track(&rt, alloc),
+        [X87, NEITHER, X87, NEITHER, X87],
+    );
+    leaves_traces(&rt, alloc, &mut plain(&rt, alloc), [BOTH; 5]);
 }
 
 /// A turn of a task that writes XMM3 and nothing else, from an area without state.
@@ -140,35 +141,28 @@ const XMM3: [u8; 16] = [
 ];
 
 /// The Small area of the machine `amx` after that turn, with these two bytes at its front.
-fn after_first_turn(alloc: Global, front: [u8; 2]) -> Result<Area, AllocError> {
-    let mut area = zeros(alloc, 7, 2496)?;
+fn after_first_turn(rt: &impl Abort, alloc: Global, front: [u8; 2]) -> Area {
+    let mut area = zeros(rt, alloc, 7, 2496);
     put(&mut area.bytes, 0, &front);
     put(&mut area.bytes, 24, &[0x80, 0x1f, 0, 0, 0xff, 0xff, 0, 0]);
     put(&mut area.bytes, 208, &XMM3);
     put(&mut area.bytes, 512, &[2]);
     put(&mut area.bytes, 520, &[0xe7, 0, 2, 0, 0, 0, 0, 0x80]);
-    Ok(area)
+    area
 }
 
 /// The turn leaves these bytes in the area.
-fn leaves<B: Bank>(
-    rt: &impl Abort,
-    alloc: Global,
-    bank: &mut B,
-    front: [u8; 2],
-) -> Result<(), AllocError> {
-    let mut area = zeros(alloc, 7, 2496)?;
-    let expected = after_first_turn(alloc, front)?;
+fn leaves<B: Bank>(rt: &impl Abort, alloc: Global, bank: &mut B, front: [u8; 2]) {
+    let mut area = zeros(rt, alloc, 7, 2496);
     renew(&mut area);
     let turned = first_turn(bank, &mut area);
+    let expected = after_first_turn(rt, alloc, front);
     assert!(rt; turned.is_ok() && area.bytes == expected.bytes);
-    Ok(())
 }
 
 #[test]
-fn the_area_of_a_first_turn(rt: HostRuntime) -> Result<(), Fail> {
+fn the_area_of_a_first_turn(rt: HostRuntime) {
     let alloc = rt.alloc();
-    leaves(&rt, alloc, &mut TrackBank::new(alloc)?, [0, 0])?;
-    leaves(&rt, alloc, &mut PlainBank::new(alloc)?, [0x7f, 3])?;
-    Ok(())
+    leaves(&rt, alloc, &mut track(&rt, alloc), [0, 0]);
+    leaves(&rt, alloc, &mut plain(&rt, alloc), [0x7f, 3]);
 }

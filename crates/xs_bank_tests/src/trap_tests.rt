@@ -3,12 +3,11 @@
 ghost use Rattle.std.specs.Prelude.{◌≡◌};
 
 use crate::checked::{arms, reads, saves, writes};
-use crate::fixtures::{Refusal, load_compacted, load_standard, zeros};
-use std::alloc::{AllocError, Global};
+use crate::fixtures::{Refusal, load_compacted, load_standard, plain, track, zeros};
+use std::alloc::Global;
 use std::process::Abort;
-use std::test::Fail;
 use xs_area::Area;
-use xs_bank::{Bank, PlainBank, TrackBank, Trap};
+use xs_bank::{Bank, Trap};
 use xs_base::{Features, HeaderError, put};
 use xs_layout::Layout;
 
@@ -182,7 +181,7 @@ fn answers_first<B: Bank>(
     );
 }
 
-/// Every set of reasons against a load.
+/// Every set of reasons against a load. Bits of a set past the last reason name none.
 fn every_set<B: Bank>(rt: &impl Abort, bank: &mut B, format: Format, mask: u64, area: &mut Area) {
     let causes: &[Cause] = match format {
         Format::Standard => &STANDARD_CAUSES,
@@ -203,11 +202,10 @@ fn every_load<B: Bank>(rt: &impl Abort, bank: &mut B, area: &mut Area) {
 }
 
 #[test]
-fn a_load_is_refused_by_its_first_reason(rt: HostRuntime) -> Result<(), Fail> {
-    let mut area = zeros(rt.alloc(), 7, 16384)?;
-    every_load(&rt, &mut PlainBank::new(rt.alloc())?, &mut area);
-    every_load(&rt, &mut TrackBank::new(rt.alloc())?, &mut area);
-    Ok(())
+fn a_load_is_refused_by_its_first_reason(rt: HostRuntime) {
+    let mut area = zeros(&rt, rt.alloc(), 7, 16384);
+    every_load(&rt, &mut plain(&rt, rt.alloc()), &mut area);
+    every_load(&rt, &mut track(&rt, rt.alloc()), &mut area);
 }
 
 /// A load that a cause doesn't stop.
@@ -245,11 +243,10 @@ fn loads_that_are_not_refused<B: Bank>(rt: &impl Abort, bank: &mut B, area: &mut
 }
 
 #[test]
-fn a_load_does_not_look_at_what_it_does_not_take(rt: HostRuntime) -> Result<(), Fail> {
-    let mut area = zeros(rt.alloc(), 7, 16384)?;
-    loads_that_are_not_refused(&rt, &mut PlainBank::new(rt.alloc())?, &mut area);
-    loads_that_are_not_refused(&rt, &mut TrackBank::new(rt.alloc())?, &mut area);
-    Ok(())
+fn a_load_does_not_look_at_what_it_does_not_take(rt: HostRuntime) {
+    let mut area = zeros(&rt, rt.alloc(), 7, 16384);
+    loads_that_are_not_refused(&rt, &mut plain(&rt, rt.alloc()), &mut area);
+    loads_that_are_not_refused(&rt, &mut track(&rt, rt.alloc()), &mut area);
 }
 
 /// Reads and writes of tiles, where they are armed and where they aren't.
@@ -274,10 +271,9 @@ fn tiles_trap<B: Bank>(rt: &impl Abort, bank: &mut B) {
 }
 
 #[test]
-fn armed_tiles_trap(rt: HostRuntime) -> Result<(), Fail> {
-    tiles_trap(&rt, &mut PlainBank::new(rt.alloc())?);
-    tiles_trap(&rt, &mut TrackBank::new(rt.alloc())?);
-    Ok(())
+fn armed_tiles_trap(rt: HostRuntime) {
+    tiles_trap(&rt, &mut plain(&rt, rt.alloc()));
+    tiles_trap(&rt, &mut track(&rt, rt.alloc()));
 }
 
 /// A load that a cause stops.
@@ -296,6 +292,12 @@ fn refuses<B: Bank>(
     assert!(rt; load(bank, layout, format, 0x600e7, area).is_err());
 }
 
+/// The instructions, their trail, the loads and the saves so far.
+fn counts_of<B: Bank>(bank: &B) -> [u64; 4] {
+    let execs = bank.execs();
+    [execs.count, execs.trail, bank.loads(), bank.saves()]
+}
+
 /// Traps of every kind, after which each register is as a save had it before, and so is each count.
 fn traps_change_nothing<B: Bank>(
     rt: &impl Abort,
@@ -311,7 +313,7 @@ fn traps_change_nothing<B: Bank>(
     writes(rt, bank, &amx, "mxcsr", Ok(()));
     writes(rt, bank, &amx, "zmm16", Ok(()));
     saves(rt, bank, &amx, before);
-    let counts = (bank.execs(), bank.loads(), bank.saves());
+    let counts = counts_of(bank);
     refuses(rt, bank, &amx, Format::Compacted, area, Cause::NoPlace);
     refuses(rt, bank, &amx, Format::Standard, area, Cause::SomeName);
     refuses(rt, bank, &amx, Format::Compacted, area, Cause::Byte(528));
@@ -320,23 +322,21 @@ fn traps_change_nothing<B: Bank>(
     reads(rt, bank, &amx, "tmm0.0", Err(trap));
     writes(rt, bank, &amx, "tilecfg", Err(trap));
     writes(rt, bank, &amx, "tmm7.15", Err(trap));
-    let counts_then = (bank.execs(), bank.loads(), bank.saves());
+    let same = counts_of(bank) == counts;
     saves(rt, bank, &amx, after);
-    assert!(rt; counts_then == counts && before.bytes == after.bytes);
+    assert!(rt; same && before.bytes == after.bytes);
 }
 
 /// The same with areas of its own.
-fn traps<B: Bank>(rt: &impl Abort, alloc: Global, bank: &mut B) -> Result<(), AllocError> {
-    let mut area = zeros(alloc, 7, 16384)?;
-    let mut before = zeros(alloc, 0, 11008)?;
-    let mut after = zeros(alloc, 0, 11008)?;
+fn traps<B: Bank>(rt: &impl Abort, alloc: Global, bank: &mut B) {
+    let mut area = zeros(rt, alloc, 7, 16384);
+    let mut before = zeros(rt, alloc, 0, 11008);
+    let mut after = zeros(rt, alloc, 0, 11008);
     traps_change_nothing(rt, bank, &mut area, &mut before, &mut after);
-    Ok(())
 }
 
 #[test]
-fn a_trap_changes_nothing(rt: HostRuntime) -> Result<(), Fail> {
-    traps(&rt, rt.alloc(), &mut PlainBank::new(rt.alloc())?)?;
-    traps(&rt, rt.alloc(), &mut TrackBank::new(rt.alloc())?)?;
-    Ok(())
+fn a_trap_changes_nothing(rt: HostRuntime) {
+    traps(&rt, rt.alloc(), &mut plain(&rt, rt.alloc()));
+    traps(&rt, rt.alloc(), &mut track(&rt, rt.alloc()));
 }

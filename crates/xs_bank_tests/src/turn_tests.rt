@@ -2,15 +2,14 @@
 
 ghost use Rattle.std.specs.Prelude.{◌≡◌};
 
-use crate::fixtures::zeros;
+use crate::fixtures::{plain, track, zeros};
 use crate::log::{Answer, CALLS, Log, MOST, Shown};
 use crate::random::Random;
 use crate::turns::{Tools, begin, renew, spoil, stay, switch};
-use std::alloc::{AllocError, Global};
+use std::alloc::Global;
 use std::process::Abort;
-use std::test::Fail;
 use xs_area::Area;
-use xs_bank::{Bank, PlainBank, TrackBank};
+use xs_bank::Bank;
 use xs_layout::Layout;
 
 /// Areas of distinct numbers: one without room for TILEDATA and one with room for all in the compacted format, and the same in
@@ -23,31 +22,24 @@ struct Areas {
     standard: Area,
 }
 
-/// A bank, its areas, and what a test has beside them.
-#[derive(Drop)]
-struct Side<B: Bank> {
-    bank: B,
-    areas: Areas,
-    tools: Tools,
+/// Areas without state.
+fn areas_of(rt: &impl Abort, alloc: Global) -> Areas {
+    Areas {
+        small: zeros(rt, alloc, 1, 2496),
+        large: zeros(rt, alloc, 2, 16384),
+        short: zeros(rt, alloc, 3, 2816),
+        standard: zeros(rt, alloc, 4, 11008),
+    }
 }
 
-/// A side at its beginning: areas without state, and the first random number.
-fn side_of<B: Bank>(alloc: Global, bank: B) -> Result<Side<B>, AllocError> {
-    Ok(Side {
-        bank,
-        areas: Areas {
-            small: zeros(alloc, 1, 2496)?,
-            large: zeros(alloc, 2, 16384)?,
-            short: zeros(alloc, 3, 2816)?,
-            standard: zeros(alloc, 4, 11008)?,
-        },
-        tools: Tools {
-            random: Random { state: 20240229 },
-            fresh: PlainBank::new(alloc)?,
-            buffer: zeros(alloc, 0, 16384)?,
-            log: Log::new(),
-        },
-    })
+/// The first random number, and no call.
+fn tools_of(rt: &impl Abort, alloc: Global) -> Tools {
+    Tools {
+        random: Random { state: 20240229 },
+        fresh: plain(rt, alloc),
+        buffer: zeros(rt, alloc, 0, 16384),
+        log: Log::new(),
+    }
 }
 
 /// A turn.
@@ -126,24 +118,25 @@ fn are_many(rt: &impl Abort, answered: &[u32; CALLS]) {
     }
 }
 
-#[test]
-fn both_banks_show_the_same(rt: HostRuntime) -> Result<(), Fail> {
-    let mut plain = side_of(rt.alloc(), PlainBank::new(rt.alloc())?)?;
-    let mut track = side_of(rt.alloc(), TrackBank::new(rt.alloc())?)?;
+/// Rounds of both banks.
+fn rounds<A: Bank, B: Bank>(rt: &impl Abort, alloc: Global, plain: &mut A, track: &mut B) {
     let mut answered = [0; CALLS];
     let mut images = 0;
+    let mut areas = areas_of(rt, alloc);
+    let mut others = areas_of(rt, alloc);
+    let mut tools = tools_of(rt, alloc);
+    let mut other_tools = tools_of(rt, alloc);
     for _ in 0..1500 {
-        round(&mut plain.bank, &mut plain.areas, &mut plain.tools);
-        round(&mut track.bank, &mut track.areas, &mut track.tools);
-        compare(
-            &rt,
-            &plain.tools.log,
-            &track.tools.log,
-            &mut answered,
-            &mut images,
-        );
+        round(plain, &mut areas, &mut tools);
+        round(track, &mut others, &mut other_tools);
+        compare(rt, &tools.log, &other_tools.log, &mut answered, &mut images);
     }
-    are_many(&rt, &answered);
+    are_many(rt, &answered);
     assert!(rt; images >= 5000, "{images}");
-    Ok(())
+}
+
+#[test]
+fn both_banks_show_the_same(rt: HostRuntime) {
+    let alloc = rt.alloc();
+    rounds(&rt, alloc, &mut plain(&rt, alloc), &mut track(&rt, alloc));
 }

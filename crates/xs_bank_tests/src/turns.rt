@@ -165,17 +165,33 @@ fn saved_answer(
 fn image_of(layout: &Layout, area: &Area, tools: &mut Tools) -> Option<u64> {
     start(&mut tools.fresh, layout);
     let _ = arm(&mut tools.fresh, layout, false);
+    tools.buffer.bytes.fill(0);
+    let loaded = load_all(&mut tools.fresh, layout, area);
+    let saved = save_buffer(
+        &mut tools.fresh,
+        layout,
+        layout.features(),
+        &mut tools.buffer.bytes,
+    );
+    match (loaded, saved) {
+        (Ok(()), Ok(())) => Some(digest(&tools.buffer.bytes)),
+        _ => None,
+    }
+}
+
+/// Loads every component that the area has room for.
+fn load_all<B: Bank>(bank: &mut B, layout: &Layout, area: &Area) -> Result<(), Refusal>
+    requires { (B.state bank.old).file.rows ≡ layout.now }
+    ensures { (B.state bank.new).file.rows ≡ layout.now }
+{
     let all = layout.features();
     if names_of(area) != 0 {
-        load_compacted(&mut tools.fresh, layout, all, area).ok()?;
-    } else if area.bytes.len() < layout.full_size() as usize {
-        load_standard(&mut tools.fresh, layout, Features(all.0 & 0x202e7), area).ok()?;
-    } else {
-        load_standard(&mut tools.fresh, layout, all, area).ok()?;
+        return load_compacted(bank, layout, all, area);
     }
-    tools.buffer.bytes.fill(0);
-    save_buffer(&mut tools.fresh, layout, all, &mut tools.buffer.bytes).ok()?;
-    Some(digest(&tools.buffer.bytes))
+    if area.bytes.len() < layout.full_size() as usize {
+        return load_standard(bank, layout, Features(all.0 & 0x202e7), area);
+    }
+    load_standard(bank, layout, all, area)
 }
 
 /// A number that takes up bytes, as FNV-1a does.

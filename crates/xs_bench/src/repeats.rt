@@ -7,6 +7,7 @@ ghost use Rattle.xs_base.specs.Header as header;
 use crate::banks::repeat_bank_call;
 use crate::command::{BankCall, BankKind, Call, LayerCall};
 use crate::inputs::Inputs;
+use crate::lines::repeat_line_call;
 use std::alloc::{AllocError, Global};
 use xs_area::{Area, Origin, compact_of, copy_area, read_standard, standard_of, stands, xstate_bv};
 use xs_bank::{Bank, PlainBank, TrackBank};
@@ -24,6 +25,7 @@ const LOOKED_AT: u64 = 8192;
 /// conditions.
 pub fn repeat(alloc: Global, call: Call, turns: u64) -> Result<Option<u64>, AllocError> {
     match call {
+        Call::Line(call) => Ok(Some(repeat_line_call(alloc, call, turns)?)),
         Call::Layer(call) => Ok(repeat_layer_call(&mut Inputs::new(alloc)?, call, turns)),
         Call::Bank(BankKind::Plain, call) => {
             repeat_on_bank(alloc, PlainBank::new(alloc)?, call, turns)
@@ -60,6 +62,15 @@ fn repeat_layer_call(inputs: &mut Inputs, call: LayerCall, turns: u64) -> Option
         LayerCall::CopyHeader => repeat_copy_part(image, out, 64, turns),
         LayerCall::Nothing => repeat_nothing(image, out, turns),
     }
+}
+
+/// The sum with the byte of an output at a place, or 0 past its end.
+pub fn next_sum(sum: u64, out: &[u8], at: usize) -> u64 {
+    let byte = match out.get(at) {
+        Some(byte) => *byte,
+        None => 0,
+    };
+    sum.wrapping_mul(31).wrapping_add(u64::from(byte))
 }
 
 /// The sum with a byte of an output.

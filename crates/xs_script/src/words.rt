@@ -18,8 +18,8 @@ use xs_model::Name;
 pub fn cut_at(byte: u8, bytes: &[u8]) -> Option<(&[u8], &[u8])>
     ensures { MatchOption result (Lacks byte bytes.now) (λ x. Lacks byte x.0.now × (bytes.now ≡ x.0.now ++ byte ∷ x.1.now)) }
 {
-    'bytes: for (i, b) in bytes.iter().enumerate() {
-        if *b == byte {
+    'bytes: for i in 0..bytes.len() {
+        if bytes[i] == byte {
             let (front, rest) = bytes.split_at(i);
             return Some((front, &rest[1..]));
         }
@@ -170,7 +170,11 @@ fn is_lower_digit(byte: u8) -> bool
 fn are_lower_digits(bytes: &[u8]) -> bool
     ensures { result ≡ list_all is_lower_digit bytes.now }
 {
-    bytes.iter().all(|b| is_lower_digit(*b))
+    let mut well = true;
+    'bytes: for byte in bytes {
+        well &= is_lower_digit(*byte);
+    }
+    well
 }
 
 /// The bytes, at most 64, that hex text spells.
