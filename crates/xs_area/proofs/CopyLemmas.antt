@@ -1,6 +1,6 @@
 -- Components copied along the rows.
-use Rattle.std.proofs.Common.{◌≡◌, ◌⊎◌, ℕ, ◌+◌, ◌-◌, ◌<◌, ◌≤◌, ◌==◌, ◌&&◌, ◌%◌, nat_le, Bool, true, false, true≢false, not, List, length, get_or, if◌then◌else◌, refl, sym, ap, subst, ◌∙◌, arith, inl, inr}
-use Rattle.std.proofs.lemmas.Bool.{cases_eq, cases_lt}
+use Rattle.std.proofs.Common.{◌≡◌, ℕ, ◌+◌, ◌-◌, ◌<◌, ◌≤◌, ◌&&◌, true, false, true≢false, not, List, length, get_or, if◌then◌else◌, refl, sym, ap, subst, ◌∙◌, arith, inl, inr}
+use Rattle.std.proofs.lemmas.Bool.{cases_lt}
 use Rattle.std.proofs.lemmas.List.{get_or_default}
 use Rattle.std.proofs.lemmas.List.Edits.{length-between, get_or-between}
 use Rattle.std.specs.Prelude.{slice_range}
@@ -14,46 +14,11 @@ use Rattle.xs_base.specs.Header.{xcomp_bv}
 use Rattle.xs_base.specs.Layout.{IsLayout, IsSound}
 use Rattle.xs_base.specs.Sets.{has}
 use Rattle.xs_base.specs.Standard.{IsWritten}
-use Rattle.xs_base.proofs.ByteLemmas.{within_in, within_below, within_above, within_tells}
+use Rattle.xs_base.proofs.ByteLemmas.{within_in, within_below, within_above}
 use Rattle.xs_base.proofs.LayoutLemmas.{AreApart, sound_at}
-use Rattle.xs_base.proofs.PlaceLemmas.{place_legacy, place_extended, legacy_end, places_apart}
+use Rattle.xs_base.proofs.PlaceLemmas.{places_apart, place_outside, own_outside}
 use Rattle.xs_area.specs.Copy.{AreCopied}
 use Rattle.xs_area.proofs.RoomLemmas.{room_tells}
-
--- ---- a row's place
-
--- a row's place is in the legacy region or behind the header
-pub place_sides : (rows : List Row) (xcomp : ℕ) (r : Row) → IsSound r → (place rows xcomp r + r.size ≤ 416) ⊎ (576 ≤ place rows xcomp r)
-place_sides rows xcomp r sound = elim (cases_lt r.comp.0 2) [
-  | inl low ↦ inl (omega (arith, place_legacy rows xcomp r low, legacy_end r sound low))
-  | inr high ↦ inr (place_extended rows xcomp r sound high)
-]
-
--- so nothing of it is between
-pub place_outside : (rows : List Row) (xcomp : ℕ) (r : Row) (k : ℕ) → IsSound r → is_within 416 160 k ≡ true → is_within (place rows xcomp r) r.size k ≡ false
-place_outside rows xcomp r k sound inside =
-    let tells = within_tells 416 160 k inside in
-    elim (place_sides rows xcomp r sound) [
-      | inl low ↦ within_above (place rows xcomp r) r.size k (omega arith)
-      | inr high ↦ within_below (place rows xcomp r) r.size k (omega arith)
-    ]
-
--- Bytes 24 to 31 belong to no register.
-pub own_outside : (rows : List Row) (xcomp : ℕ) (r : Row) (k : ℕ) → IsSound r → is_own r.comp.0 k ≡ true → is_within 24 8 (place rows xcomp r + k) ≡ false
-own_outside rows xcomp r k sound own = here (cases_eq r.comp.0 0) (cases_eq r.comp.0 1)
-  where
-    middle : (a b c : Bool) → (not a && not b && not c) ≡ true → b ≡ false
-    middle true b c h = absurd (true≢false (sym h))
-    middle false true c h = absurd (true≢false (sym h))
-    middle false false c h = refl
-
-    here : (r.comp.0 ≡ 0) ⊎ (r.comp.0 ≡ 0 → ⊥) → (r.comp.0 ≡ 1) ⊎ (r.comp.0 ≡ 1 → ⊥) → is_within 24 8 (place rows xcomp r + k) ≡ false
-    here (inl x87) b =
-        let at : place rows xcomp r + k ≡ k = omega (arith, place_legacy rows xcomp r (omega arith), (sound.x87 x87).0) in
-        let own0 : is_own 0 k ≡ true = ap (λ c. is_own c k) (sym x87) ∙ own in
-        ap (is_within 24 8) at ∙ middle (k == 5) (is_within 24 8 k) (nat_le 32 k && nat_le 10 (k % 16)) own0
-    here (inr a) (inl sse) = within_above 24 8 (place rows xcomp r + k) (omega (arith, place_legacy rows xcomp r (omega arith), (sound.sse sse).0))
-    here (inr a) (inr b) = within_above 24 8 (place rows xcomp r + k) (omega (arith, place_extended rows xcomp r sound (omega arith)))
 
 -- a component as it was sliced and put
 pub row_put : (from : List ℕ) (at into : ℕ) (r : Row) (old new : List ℕ) → at + r.size ≤ length from → IsWritten into (length (slice_range from at (at + r.size))) (λ k. if is_own r.comp.0 k then get_or (slice_range from at (at + r.size)) k 0 else 0) old new → IsWritten into r.size (λ k. if is_own r.comp.0 k then get_or from (at + k) 0 else 0) old new

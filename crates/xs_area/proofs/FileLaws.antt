@@ -72,22 +72,22 @@ abbrev offset_of : Option Row → ℕ
 offset_of None = 0
 offset_of (Some r) = r.offset
 
-unfoldable image_part : List Row → List ℕ → Parts → ℕ → List ℕ
-image_part rows bytes parts c =
+unfoldable image_part : List Row → List ℕ → Parts → File → ℕ → List ℕ
+image_part rows bytes parts base c =
     if c == 9 then pkru_bytes parts.pkru
-    else if has_row rows c && has parts.bits.0 c then loaded_part bytes (offset_of (row_of rows c)) c else initial_part c
+    else if has_row rows c && has parts.bits.0 c then loaded_part bytes (offset_of (row_of rows c)) c else part base c
 
-image_pkru : (rows : List Row) (bytes : List ℕ) (parts : Parts) → image_part rows bytes parts 9 ≡ pkru_bytes parts.pkru
+image_pkru : (rows : List Row) (bytes : List ℕ) (parts : Parts) (base : File) → image_part rows bytes parts base 9 ≡ pkru_bytes parts.pkru
 unfolding image_part
-image_pkru rows bytes parts = refl
+image_pkru rows bytes parts base = refl
 
-image_loaded : (rows : List Row) (bytes : List ℕ) (parts : Parts) (c : ℕ) → (c ≡ 9 → ⊥) → has_row rows c ≡ true → has parts.bits.0 c ≡ true → image_part rows bytes parts c ≡ loaded_part bytes (offset_of (row_of rows c)) c
+image_loaded : (rows : List Row) (bytes : List ℕ) (parts : Parts) (base : File) (c : ℕ) → (c ≡ 9 → ⊥) → has_row rows c ≡ true → has parts.bits.0 c ≡ true → image_part rows bytes parts base c ≡ loaded_part bytes (offset_of (row_of rows c)) c
 unfolding image_part
-image_loaded rows bytes parts c other there named = rw (ne_eqb c 9 other, there, named) refl
+image_loaded rows bytes parts base c other there named = rw (ne_eqb c 9 other, there, named) refl
 
-image_initial : (rows : List Row) (bytes : List ℕ) (parts : Parts) (c : ℕ) → (c ≡ 9 → ⊥) → (has_row rows c && has parts.bits.0 c) ≡ false → image_part rows bytes parts c ≡ initial_part c
+image_base : (rows : List Row) (bytes : List ℕ) (parts : Parts) (base : File) (c : ℕ) → (c ≡ 9 → ⊥) → (has_row rows c && has parts.bits.0 c) ≡ false → image_part rows bytes parts base c ≡ part base c
 unfolding image_part
-image_initial rows bytes parts c other none = rw (ne_eqb c 9 other, none) refl
+image_base rows bytes parts base c other none = rw (ne_eqb c 9 other, none) refl
 
 -- ---- its parts
 
@@ -110,50 +110,57 @@ pkru_is_part rows pkru = record {
   absent = λ lacks other. absurd (other refl);
 }
 
-image_is_part : (rows : List Row) (bytes : List ℕ) (parts : Parts) (c : ℕ) → IsPart rows c (image_part rows bytes parts c)
-image_is_part rows bytes parts c = elim (cases_eq c 9) [
-  | inl nine ↦ rw (nine, image_pkru rows bytes parts) (pkru_is_part rows parts.pkru)
+-- a component of a file of the machine
+file_is_part : (rows : List Row) (file : File) → IsFile file → file.rows ≡ rows → (c : ℕ) → c < component_count → IsPart rows c (part file c)
+file_is_part rows file h are c lt = record { size = h.sizes c lt; clean = λ k loose. h.clean c k loose; absent = λ lacks other. h.absent c lt (rw are lacks) other }
+
+image_is_part : (rows : List Row) (bytes : List ℕ) (parts : Parts) (base : File) → IsFile base → base.rows ≡ rows → (c : ℕ) → c < component_count → IsPart rows c (image_part rows bytes parts base c)
+image_is_part rows bytes parts base h are c lt = elim (cases_eq c 9) [
+  | inl nine ↦ rw (nine, image_pkru rows bytes parts base) (pkru_is_part rows parts.pkru)
   | inr other ↦ choose other (has_row rows c) (has parts.bits.0 c) refl refl
 ]
   where
     at : ℕ
     at = offset_of (row_of rows c)
 
-    choose : (c ≡ 9 → ⊥) → (there named : Bool) → has_row rows c ≡ there → has parts.bits.0 c ≡ named → IsPart rows c (image_part rows bytes parts c)
-    choose other true true is on = rw (image_loaded rows bytes parts c other is on) (record {
+    choose : (c ≡ 9 → ⊥) → (there named : Bool) → has_row rows c ≡ there → has parts.bits.0 c ≡ named → IsPart rows c (image_part rows bytes parts base c)
+    choose other true true is on = rw (image_loaded rows bytes parts base c other is on) (record {
       size = length_loaded bytes at c;
       clean = λ k loose. loaded_clean bytes at c k loose;
       absent = λ lacks apart. absurd (true≢false (sym is ∙ lacks));
     })
-    choose other true false is on = rw (image_initial rows bytes parts c other (rw (is, on) refl)) (initial_is_part rows c)
-    choose other false named is on = rw (image_initial rows bytes parts c other (rw is refl)) (initial_is_part rows c)
+    choose other true false is on = rw (image_base rows bytes parts base c other (rw (is, on) refl)) (file_is_part rows base h are c lt)
+    choose other false named is on = rw (image_base rows bytes parts base c other (rw is refl)) (file_is_part rows base h are c lt)
 
 -- a file with the PKRU that it has
 with_own_pkru : (file : File) (pkru : ℕ) → part file 9 ≡ pkru_bytes pkru → with_pkru file pkru ≡ file
 unfolding pkru_bytes
 with_own_pkru file pkru own = ap (λ (ps : List (List ℕ)). record file { parts = ps }) (ap (slice_set file.parts 9) (sym own) ∙ set-get_or file.parts 9 [])
 
--- The parts of an image are those of a file.
-pub parts_have_a_file : (rows : List Row) (bytes : List ℕ) (parts : Parts) → IsLayout rows → parts.mxcsr < 2 ^ 32 → (file : File) × IsFile file × IsOfParts rows bytes parts file
-parts_have_a_file rows bytes parts table small = (
+-- The parts of an image are those of a file over any base.
+pub parts_have_a_file : (rows : List Row) (bytes : List ℕ) (parts : Parts) (base : File) → IsFile base → base.rows ≡ rows → parts.mxcsr < 2 ^ 32 → (file : File) × IsFile file × IsOfParts rows bytes parts base file
+parts_have_a_file rows bytes parts base h are small = (
   file,
-  made_is_file rows each parts.mxcsr table (λ c lt. image_is_part rows bytes parts c) small,
+  made_is_file rows each parts.mxcsr table (λ c lt. image_is_part rows bytes parts base h are c lt) small,
   record {
     rows_are = refl;
     present = λ i r row other named k lt own.
         let of_row = row_part rows i r table row in
-        let loaded : part file r.comp.0 ≡ loaded_part bytes r.offset r.comp.0 = made_part rows each parts.mxcsr r.comp.0 of_row.2 ∙ image_loaded rows bytes parts r.comp.0 other of_row.1 named ∙ ap (λ o. loaded_part bytes (offset_of o) r.comp.0) of_row.0 in
+        let loaded : part file r.comp.0 ≡ loaded_part bytes r.offset r.comp.0 = made_part rows each parts.mxcsr r.comp.0 of_row.2 ∙ image_loaded rows bytes parts base r.comp.0 other of_row.1 named ∙ ap (λ o. loaded_part bytes (offset_of o) r.comp.0) of_row.0 in
         sym (ap (λ l. get_or l k 0) loaded ∙ loaded_byte bytes r.offset r.comp.0 k lt ∙ ap (λ t. if t then get_or bytes (r.offset + k) 0 else 0) own);
     absent = λ i r row other none.
         let of_row = row_part rows i r table row in
-        made_part rows each parts.mxcsr r.comp.0 of_row.2 ∙ image_initial rows bytes parts r.comp.0 other (rw (of_row.1, none) refl);
+        made_part rows each parts.mxcsr r.comp.0 of_row.2 ∙ image_base rows bytes parts base r.comp.0 other (rw (of_row.1, none) refl);
     control = refl;
-    pkru = with_own_pkru file parts.pkru (made_part rows each parts.mxcsr 9 (lit< tt) ∙ image_pkru rows bytes parts);
+    pkru = with_own_pkru file parts.pkru (made_part rows each parts.mxcsr 9 (lit< tt) ∙ image_pkru rows bytes parts base);
   },
 )
   where
+    table : IsLayout rows
+    table = rw are at h.layout
+
     each : ℕ → List ℕ
-    each = image_part rows bytes parts
+    each = image_part rows bytes parts base
 
     file : File
     file = made rows each parts.mxcsr
@@ -180,11 +187,7 @@ unfolding cut_part
 cut_is_part rows area file h are c lt = choose ((c == 9) || has_room rows area c)
   where
     choose : (b : Bool) → IsPart rows c (if b then part file c else initial_part c)
-    choose true = record {
-      size = h.sizes c lt;
-      clean = λ k loose. h.clean c k loose;
-      absent = λ lacks other. h.absent c lt (rw are lacks) other;
-    }
+    choose true = file_is_part rows file h are c lt
     choose false = initial_is_part rows c
 
 -- A file can be cut to what an area has room for.

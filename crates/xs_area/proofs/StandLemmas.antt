@@ -7,16 +7,17 @@ use Rattle.xs_base.specs.declared.header.Parts.{Parts}
 use Rattle.xs_base.specs.Area.{StandsAt, StandsFor, IsOfParts, IsCut, has_room, has_control_room, control_in}
 use Rattle.xs_base.specs.Component.{component_size, initial_part, initial_mxcsr}
 use Rattle.xs_base.specs.Compact.{is_compacted, place, has_place}
-use Rattle.xs_base.specs.File.{File, part}
+use Rattle.xs_base.specs.File.{File, part, initial_file}
 use Rattle.xs_base.specs.Header.{xstate_bv, xcomp_bv, mxcsr}
 use Rattle.xs_base.specs.Layout.{IsLayout}
 use Rattle.xs_base.specs.Sets.{has}
 use Rattle.xs_base.proofs.ComponentLemmas.{initial_other, zero_at}
+use Rattle.xs_base.proofs.FileLemmas.{initial_at}
 use Rattle.xs_base.proofs.LayoutLemmas.{has_row_at, sound_at}
 use Rattle.xs_base.proofs.PlaceLemmas.{place_legacy}
 use Rattle.xs_area.specs.Copy.{IsTaken, is_copied}
 use Rattle.xs_area.proofs.RoomLemmas.{room_tells}
-use Rattle.xs_area.proofs.TakeLemmas.{row_index}
+use Rattle.xs_base.proofs.RowLemmas.{row_index}
 
 -- The components of the set stand for the file in these bytes by `names`, and every other one is initial.
 pub record IsSource (rows : List Row) (from : List ℕ) (names set control : ℕ) (file : File) : Type 0 where
@@ -37,8 +38,13 @@ pub record IsTarget (rows : List Row) (area : List ℕ) (file cut : File) : Type
 pub source_area : (rows : List Row) (area : List ℕ) (file : File) → StandsFor rows area file → IsSource rows area (xcomp_bv area) (xstate_bv area) (control_in area) file
 source_area rows area file h = record { rows_are = h.rows_are; present = h.present; absent = h.absent; control_is = h.control }
 
-pub source_parts : (rows : List Row) (bytes : List ℕ) (parts : Parts) (file : File) → IsOfParts rows bytes parts file → IsSource rows bytes 0 parts.bits.0 parts.mxcsr file
-source_parts rows bytes parts file h = record { rows_are = h.rows_are; present = h.present; absent = h.absent; control_is = h.control }
+pub source_parts : (rows : List Row) → IsLayout rows → (bytes : List ℕ) (parts : Parts) (file : File) → IsOfParts rows bytes parts (initial_file rows) file → IsSource rows bytes 0 parts.bits.0 parts.mxcsr file
+source_parts rows table bytes parts file h = record {
+  rows_are = h.rows_are;
+  present = h.present;
+  absent = λ i r row other none. let at = row_index rows i r row in h.absent i r row other none ∙ initial_at rows r.comp.0 (sound_at rows table i r at.0 at.1).number;
+  control_is = h.control;
+}
 
 -- ---- targets
 

@@ -1,7 +1,6 @@
 -- What a copy of components into an area wrote, from its steps.
 use Rattle.std.proofs.Common.{◌≡◌, ◌⊎◌, ℕ, ◌+◌, ◌<◌, ◌≤◌, ◌==◌, ◌&&◌, ◌||◌, Bool, true, false, true≢false, not, List, length, get_or, Some, refl, sym, ap, ◌∙◌, arith, inl, inr}
 use Rattle.std.proofs.lemmas.Bool.{cases_eq, eqb-true}
-use Rattle.std.proofs.lemmas.Option.{slice_get_within, get_or_from_slice_get}
 use Rattle.std.specs.Prelude.{slice_get}
 use Rattle.xs_base.specs.declared.component.Row.{Row}
 use Rattle.xs_base.specs.Area.{KeepsForm, has_room, is_named}
@@ -14,15 +13,11 @@ use Rattle.xs_base.specs.Layout.{IsLayout, IsSound}
 use Rattle.xs_base.specs.Sets.{has}
 use Rattle.xs_base.proofs.ByteLemmas.{range_same, within_in, within_below, within_above}
 use Rattle.xs_base.proofs.LayoutLemmas.{sound_at}
-use Rattle.xs_base.proofs.PlaceLemmas.{place_legacy, place_extended}
+use Rattle.xs_base.proofs.HeaderLemmas.{xcomp_bv_same}
+use Rattle.xs_base.proofs.PlaceLemmas.{place_legacy, place_extended, place_sides, own_outside}
+use Rattle.xs_base.proofs.RowLemmas.{row_index}
 use Rattle.xs_area.specs.Copy.{IsTaken, AreCopied, IsFinished, is_copied, is_alone}
-use Rattle.xs_area.proofs.FinishLemmas.{xcomp_bv_same}
 use Rattle.xs_area.proofs.RoomLemmas.{room_sse}
-use Rattle.xs_area.proofs.CopyLemmas.{place_sides, own_outside}
-
--- a look-up that finds a row, by its index
-pub row_index : (rows : List Row) (i : ℕ) (r : Row) → slice_get rows i ≡ Some r → (i < length rows) × (r ≡ get_or rows i r)
-row_index rows i r row = (slice_get_within rows i r row, sym (get_or_from_slice_get rows i r r row))
 
 module _ (rows : List Row) (table : IsLayout rows) (from : List ℕ) (names set copied control : ℕ) (old mid new : List ℕ) (long : 576 ≤ length old) (bits : (c : ℕ) → has copied c ≡ is_copied rows old set c) (first : AreCopied rows from names copied (length rows) old mid) (last : IsFinished copied control (is_alone mid copied control) mid new) where
   length_is : length new ≡ length old

@@ -6,7 +6,7 @@ ghost use Rattle.xs_base.specs.Area.{StandsFor, HasPlaces, IsOfParts, IsCut, Kee
 ghost use Rattle.xs_base.specs.Bytes.{splice, zeros};
 ghost use Rattle.xs_base.specs.Compact.{is_compacted, place};
 ghost use Rattle.xs_base.specs.Component.{initial_mxcsr};
-ghost use Rattle.xs_base.specs.File.{File, IsFile, is_own};
+ghost use Rattle.xs_base.specs.File.{File, IsFile, initial_file, is_own};
 ghost use Rattle.xs_base.specs.Header as header;
 ghost use Rattle.xs_base.specs.Layout.{IsLayout, IsSound};
 ghost use Rattle.xs_base.specs.Sets.{has};
@@ -22,7 +22,7 @@ use xs_base::{
 };
 use xs_layout::{Cursor, Layout};
 
-/// Makes the area stand for the parts of an image in the standard format, `bytes`: its XSTATE_BV becomes the bits
+/// Makes the area stand for the parts of an image in the standard format, `bytes`, and what they lack is initial: its XSTATE_BV becomes the bits
 /// without PKRU, in a compacted area with bit 1 also where MXCSR isn't initial. The id, the length, XCOMP_BV and bytes
 /// 528 to 575 of the area stay. The area has at least 576 bytes and room for component 1 and for each component of the
 /// bits but PKRU; `bytes` has the standard place of each component of the bits.
@@ -31,7 +31,7 @@ pub fn compact_of(layout: &Layout, bytes: &[u8], parts: &Parts, area: &mut Area)
     requires sse { has_room layout.now area.old.bytes.items 1 ≡ true }
     requires room { (c : ℕ) → (c ≡ 9 → ⊥) → has parts.now.bits.0 c ≡ true → has_room layout.now area.old.bytes.items c ≡ true }
     requires places { (i : ℕ) (r : Row) → slice_get layout.now i ≡ Some r → has parts.now.bits.0 r.comp.0 ≡ true → r.offset + r.size ≤ length bytes.now }
-    ensures stands { (file : File) → IsFile file → IsOfParts layout.now bytes.now parts.now file → StandsFor layout.now area.new.bytes.items file }
+    ensures stands { (file : File) → IsFile file → IsOfParts layout.now bytes.now parts.now (initial_file layout.now) file → StandsFor layout.now area.new.bytes.items file }
     ensures bits { (c : ℕ) → has (header.xstate_bv area.new.bytes.items) c ≡ is_named layout.now area.old.bytes.items parts.now.bits.0 parts.now.mxcsr c }
     ensures form { KeepsForm area.old.bytes.items area.new.bytes.items }
     ensures id { area.new.id ≡ area.old.id }
@@ -106,7 +106,7 @@ pub fn copied_of(layout: &Layout, to: &[u8], set: Features) -> Features
 fn is_copied(set: Features, c: Comp, room: bool) -> bool
     ensures { result ≡ (has set.0 c.0 && not (c.0 == 9) && room) }
 {
-    set.has(c) && c.0 != 9 && room
+    set.has(c) && c != Comp::PKRU && room
 }
 
 /// Copies components to their places.
@@ -145,10 +145,10 @@ fn finish(to: &mut [u8], copied: Features, control: u32)
     ensures { IsFinished copied.0 control (copy.is_alone to.old copied.0 control) to.old to.new }
 {
     let alone = is_alone(to, copied, control);
-    let sse = copied.has(Comp(1)) | alone;
+    let sse = copied.has(Comp::SSE) | alone;
     clear_sse(to, alone);
     put_control(to, control);
-    put_number(to, 512, copied.with(Comp(1), sse).0);
+    put_number(to, 512, copied.with(Comp::SSE, sse).0);
 }
 
 /// Whether the area needs bit 1 of XSTATE_BV for MXCSR alone.
@@ -157,7 +157,10 @@ fn is_alone(to: &[u8], copied: Features, control: u32) -> bool
     ensures { result ≡ copy.is_alone to.now copied.0 control }
 {
     let names = Features(xcomp_bv(to));
-    names.has(Comp(63)) && names.has(Comp(1)) && !copied.has(Comp(1)) && control != INITIAL_MXCSR
+    names.is_compacted()
+        && names.has(Comp::SSE)
+        && !copied.has(Comp::SSE)
+        && control != INITIAL_MXCSR
 }
 
 /// Makes the XMM registers zero, where this is wanted.

@@ -5,12 +5,12 @@ ghost use Rattle.xs_base.specs.declared.component.Row.{Row};
 ghost use Rattle.xs_base.specs.declared.header.Parts.{Parts};
 ghost use Rattle.xs_base.specs.Area.{IsOfParts, IsCut};
 ghost use Rattle.xs_base.specs.File.{File, IsFile};
-ghost use Rattle.xs_base.specs.Layout.{IsLayout};
 
-/// Any parts are those of a file, whatever the bytes of the image are, so `compact_of` always speaks of one. A call does
+/// Any parts are those of a file over any base file, whatever the bytes of the image are, so `compact_of` always speaks
+/// of one. A call does
 /// nothing.
 pub fn parts_have_a_file()
-    ensures { (rows : List Row) (bytes : List ℕ) (parts : Parts) → IsLayout rows → parts.mxcsr < 2 ^ 32 → (file : File) × IsFile file × IsOfParts rows bytes parts file }
+    ensures { (rows : List Row) (bytes : List ℕ) (parts : Parts) (base : File) → IsFile base → base.rows ≡ rows → parts.mxcsr < 2 ^ 32 → (file : File) × IsFile file × IsOfParts rows bytes parts base file }
 {}
 
 /// Any file of a machine can be cut to what an area has room for, so `copy_area` always speaks of such a cut. A call does

@@ -12,7 +12,7 @@ use Rattle.xs_base.specs.Layout.{IsLayout}
 use Rattle.xs_bank.specs.Load.{IsLoaded}
 use Rattle.xs_base.specs.Sets.{has}
 use Rattle.xs_base.proofs.LayoutLemmas.{same_index}
-use Rattle.xs_area.proofs.TakeLemmas.{row_index}
+use Rattle.xs_base.proofs.RowLemmas.{row_index}
 use Rattle.xs_bank.specs.Rows.{IsRowLoaded}
 
 -- The components of the rows before `upto` have been loaded.

@@ -16,11 +16,11 @@ use Rattle.xs_base.proofs.ByteLemmas.{length_splice, splice_byte, within_above, 
 use Rattle.xs_base.proofs.LayoutLemmas.{sound_at}
 use Rattle.xs_base.proofs.SizeLemmas.{end_covers}
 use Rattle.xs_base.proofs.StandardLemmas.{component_none}
-use Rattle.xs_area.proofs.CopyLemmas.{place_outside}
-use Rattle.xs_area.proofs.FinishLemmas.{xstate_bv_splice, xcomp_bv_same}
+use Rattle.xs_base.proofs.PlaceLemmas.{place_outside}
+use Rattle.xs_base.proofs.HeaderLemmas.{xstate_bv_splice, xcomp_bv_same}
 use Rattle.xs_base.proofs.StandardLemmas.{control_eight}
-use Rattle.xs_area.proofs.KernelLemmas.{xcomp_bv_splice}
-use Rattle.xs_area.proofs.TakeLemmas.{row_index}
+use Rattle.xs_base.proofs.HeaderLemmas.{xcomp_bv_splice}
+use Rattle.xs_base.proofs.RowLemmas.{row_index}
 
 -- ---- room
 

@@ -21,11 +21,11 @@ use Rattle.xs_base.proofs.ByteLemmas.{length_splice, splice_inside, within_above
 use Rattle.xs_base.proofs.LayoutLemmas.{sound_at, has_row_at, row_found}
 use Rattle.xs_base.proofs.PlaceLemmas.{places_apart}
 use Rattle.xs_base.proofs.StandardLemmas.{component_none, component_one, component_control}
-use Rattle.xs_area.proofs.CopyLemmas.{place_sides, own_outside}
-use Rattle.xs_area.proofs.FinishLemmas.{mxcsr_splice, mxcsr_same}
+use Rattle.xs_base.proofs.PlaceLemmas.{place_sides, own_outside}
+use Rattle.xs_base.proofs.HeaderLemmas.{mxcsr_splice, mxcsr_same}
 use Rattle.xs_base.proofs.StandardLemmas.{control_eight}
-use Rattle.xs_area.proofs.TakeLemmas.{row_index}
-use Rattle.xs_area.proofs.KernelLemmas.{compacted_is, compacted_placed}
+use Rattle.xs_base.proofs.RowLemmas.{row_index}
+use Rattle.xs_base.proofs.CompactedLemmas.{compacted_is, compacted_placed}
 
 -- ---- the bytes of an area that was written
 

@@ -30,10 +30,11 @@ use Rattle.xs_base.proofs.LayoutLemmas.{sound_at, row_found, has_features}
 use Rattle.xs_base.proofs.RowLemmas.{has_sse}
 use Rattle.xs_base.proofs.SetLemmas.{has_and, set_within}
 use Rattle.xs_base.proofs.StandardLemmas.{component_none}
+use Rattle.xs_base.proofs.PlaceLemmas.{place_outside}
+use Rattle.xs_base.proofs.CompactedLemmas.{has_compacted}
+use Rattle.xs_base.proofs.ClassLemmas.{has_class}
 use Rattle.xs_bank.proofs.ReadyLemmas.{ready_loaded, standard_control_is, compacted_control_is}
 use Rattle.xs_bank.proofs.TrapLemmas.{standard_format, compacted_format}
-use Rattle.xs_area.proofs.CopyLemmas.{place_outside}
-use Rattle.xs_area.proofs.KernelLemmas.{has_compacted, has_class}
 
 -- ---- a load of a whole file
 

@@ -17,7 +17,7 @@ use xs_layout::Layout;
 pub fn read_trap(armed: Features, place: Place) -> Option<Trap>
     ensures { result ≡ banks.read_trap armed.0 place }
 {
-    if armed.has(Comp(18)) && place.comp.0 == 18 {
+    if armed.has(Comp::TILEDATA) && place.comp == Comp::TILEDATA {
         return Some(Trap::Nm(Features::TILEDATA));
     }
     None
@@ -27,7 +27,7 @@ pub fn read_trap(armed: Features, place: Place) -> Option<Trap>
 pub fn write_trap(armed: Features, place: Place) -> Option<Trap>
     ensures { result ≡ banks.write_trap armed.0 place }
 {
-    if armed.has(Comp(18)) && (place.comp.0 == 17 || place.comp.0 == 18) {
+    if armed.has(Comp::TILEDATA) && (place.comp == Comp::TILECFG || place.comp == Comp::TILEDATA) {
         return Some(Trap::Nm(Features::TILEDATA));
     }
     None
@@ -39,8 +39,8 @@ pub fn standard_trap(layout: &Layout, armed: Features, mask: Features, area: &[u
     requires { 576 ≤ length area.now }
     ensures { result ≡ load.standard_trap layout.now armed.0 mask.0 area.now }
 {
-    let bits = xstate_bv(area);
-    if has_outside(bits, layout.features().0) {
+    let bits = Features(xstate_bv(area));
+    if bits.has_outside(layout.features()) {
         return Some(Trap::Gp(HeaderError::Features));
     }
     if xcomp_bv(area) != 0 {
@@ -52,7 +52,7 @@ pub fn standard_trap(layout: &Layout, armed: Features, mask: Features, area: &[u
     if mask.has_control() && mxcsr(area) > MOST_MXCSR {
         return Some(Trap::Gp(HeaderError::Mxcsr));
     }
-    tiles_trap(armed, mask, Features(bits))
+    tiles_trap(armed, mask, bits)
 }
 
 /// The first reason that XRSTORS of the components of the mask is refused for (SDM volume 1, 13.12).
@@ -61,37 +61,30 @@ pub fn compacted_trap(layout: &Layout, armed: Features, mask: Features, area: &[
     requires { 576 ≤ length area.now }
     ensures { result ≡ load.compacted_trap layout.now armed.0 mask.0 area.now }
 {
-    let bits = xstate_bv(area);
-    let names = xcomp_bv(area);
-    if has_unknown(bits, names, layout.features().0) {
+    let bits = Features(xstate_bv(area));
+    let names = Features(xcomp_bv(area));
+    if has_unknown(bits, names, layout.features()) {
         return Some(Trap::Gp(HeaderError::Features));
     }
-    if !Features(names).has(Comp(63)) {
+    if !names.is_compacted() {
         return Some(Trap::Gp(HeaderError::Compacted));
     }
     if has_byte(&area[528..576]) {
         return Some(Trap::Gp(HeaderError::Reserved));
     }
-    if takes_control(mask, Features(bits)) && mxcsr(area) > MOST_MXCSR {
+    if takes_control(mask, bits) && mxcsr(area) > MOST_MXCSR {
         return Some(Trap::Gp(HeaderError::Mxcsr));
     }
-    tiles_trap(armed, mask, Features(bits))
+    tiles_trap(armed, mask, bits)
 }
 
 /// Whether XSTATE_BV or XCOMP_BV names what the machine lacks, or XSTATE_BV what XCOMP_BV doesn't name.
-fn has_unknown(bits: u64, names: u64, features: u64) -> bool
-    ensures { result ≡ (check.has_outside bits features || check.has_outside (bit_and names (2 ^ 63 - 1)) features || check.has_outside bits names) }
+fn has_unknown(bits: Features, names: Features, features: Features) -> bool
+    ensures { result ≡ (check.has_outside bits.0 features.0 || check.has_outside (bit_and names.0 (2 ^ 63 - 1)) features.0 || check.has_outside bits.0 names.0) }
 {
-    has_outside(bits, features)
-        || has_outside(names & 0x7fff_ffff_ffff_ffff, features)
-        || has_outside(bits, names)
-}
-
-/// Whether the set has a component that isn't in the other.
-fn has_outside(set: u64, allowed: u64) -> bool
-    ensures { result ≡ check.has_outside set allowed }
-{
-    set & allowed != set
+    bits.has_outside(features)
+        || Features(names.0 & 0x7fff_ffff_ffff_ffff).has_outside(features)
+        || bits.has_outside(names)
 }
 
 /// Whether a byte isn't zero.
@@ -105,14 +98,14 @@ fn has_byte(bytes: &[u8]) -> bool
 fn takes_control(mask: Features, bits: Features) -> bool
     ensures { result ≡ (has mask.0 1 && has bits.0 1) }
 {
-    mask.has(Comp(1)) && bits.has(Comp(1))
+    mask.has(Comp::SSE) && bits.has(Comp::SSE)
 }
 
 /// #NM where TILEDATA is armed and would be loaded (SDM volume 1, 13.14).
 fn tiles_trap(armed: Features, mask: Features, bits: Features) -> Option<Trap>
     ensures { result ≡ (if has armed.0 18 && has mask.0 18 && has bits.0 18 then Some (Nm (record { 0 = load.tiles })) else None) }
 {
-    if armed.has(Comp(18)) && mask.has(Comp(18)) && bits.has(Comp(18)) {
+    if armed.has(Comp::TILEDATA) && mask.has(Comp::TILEDATA) && bits.has(Comp::TILEDATA) {
         return Some(Trap::Nm(Features::TILEDATA));
     }
     None

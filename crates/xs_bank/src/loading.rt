@@ -71,10 +71,10 @@ pub fn compacted_control(mask: Features, area: &[u8], old: u32) -> u32
     requires { 576 ≤ length area.now }
     ensures { result ≡ load.compacted_control mask.0 area.now old }
 {
-    if !mask.has(Comp(1)) {
+    if !mask.has(Comp::SSE) {
         return old;
     }
-    if Features(xstate_bv(area)).has(Comp(1)) {
+    if Features(xstate_bv(area)).has(Comp::SSE) {
         mxcsr(area)
     } else {
         INITIAL_MXCSR
@@ -85,7 +85,7 @@ pub fn compacted_control(mask: Features, area: &[u8], old: u32) -> u32
 pub fn disarm(file: &mut File, armed: Features)
     ensures { file.new ≡ disarmed_file file.old armed.0 }
 {
-    if armed.has(Comp(18)) {
-        file.reset(Comp(18));
+    if armed.has(Comp::TILEDATA) {
+        file.reset(Comp::TILEDATA);
     }
 }

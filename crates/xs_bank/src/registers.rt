@@ -1,12 +1,11 @@
 //! The registers of any bank, what XFD is armed for, and the area that was loaded last.
 
 ghost use Rattle.std.specs.Prelude.{◌≡◌, ℕ, ◌+◌, ◌^◌, ◌<◌, ◌≤◌, ◌⊎◌, true, List, length, take, slice_index, slice_get, Some, None, IfOk, IfErr, MatchResult, if◌then◌else◌};
-ghost use Rattle.std.specs.Int.{from_le_bytes, w32};
 ghost use Rattle.xs_base.specs.declared.component.Row.{Row};
 ghost use Rattle.xs_base.specs.Area.{HasPlaces};
 ghost use Rattle.xs_base.specs.Compact.{is_compacted};
 ghost use Rattle.xs_base.specs.Component.{initial_part};
-ghost use Rattle.xs_base.specs.File.{IsFile, initial_file, part, with_part, with_pkru, read_place, write_place, is_mxcsr};
+ghost use Rattle.xs_base.specs.File.{IsFile, initial_file, pkru_of, with_part, with_pkru, read_place, write_place, is_mxcsr};
 ghost use Rattle.xs_base.specs.Header as header;
 ghost use Rattle.xs_base.specs.Layout.{avx_rows, has_row};
 ghost use Rattle.xs_base.specs.Register.{IsRegister};
@@ -83,7 +82,7 @@ impl Registers {
         ensures { self.new ≡ record { file = initial_file layout.now; armed = if has_row layout.now 18 then load.tiles else 0; tracked = None } }
     {
         self.file.set_up(layout);
-        self.armed = if layout.has_row(Comp(18)) {
+        self.armed = if layout.has_row(Comp::TILEDATA) {
             Features::TILEDATA
         } else {
             Features(0)
@@ -127,8 +126,8 @@ impl Registers {
         ensures released { self.new ≡ record self.old { file = with_part (with_part self.old.file 17 (initial_part 17)) 18 (initial_part 18); tracked = banks.touch 0x60000 self.old.tracked } }
         ensures ready { (id m : ℕ) (area : List ℕ) → banks.StandsUnmodified self.old.file self.old.tracked id m area → banks.StandsUnmodified self.new.file self.new.tracked id m area }
     {
-        self.file.reset(Comp(17));
-        self.file.reset(Comp(18));
+        self.file.reset(Comp::TILECFG);
+        self.file.reset(Comp::TILEDATA);
         self.tracked = touch(self.tracked, TILE_COMPONENTS);
     }
 
@@ -174,10 +173,14 @@ impl Registers {
         Ok(())
     }
 
-    /// PKRU.
+    /// PKRU. A file with its own PKRU is that file.
     pub fn pkru(&self) -> u32
-        ensures { result ≡ from_le_bytes w32 (take 4 (part self.now.file 9)) }
+        ensures pkru { result ≡ pkru_of self.now.file }
+        ensures kept { with_pkru self.now.file result ≡ self.now.file }
     {
+        // The file is one of its machine.
+        let _ = self.file.layout();
+        are_bytes(self.file.part(Comp::PKRU));
         self.file.pkru()
     }
 

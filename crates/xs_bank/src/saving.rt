@@ -49,7 +49,7 @@ pub fn save_compacted(file: &File, mask: Features, written: Features, into: &mut
     // The rows pass every test of a table.
     let _ = file.layout();
     let names = compacted(mask);
-    put_area(file, names, written.has(Comp(1)), written, into);
+    put_area(file, names, written.has(Comp::SSE), written, into);
     put_number(into, 520, names.0);
     put_number(into, 512, saved_bits(file, mask).0);
 }
@@ -60,8 +60,8 @@ pub fn saved_bits(file: &File, mask: Features) -> Features
     ensures { (c : ℕ) → has result.0 c ≡ (has mask.0 c && is_saved file.now c) }
 {
     let used = file.in_use_of(mask);
-    let control = mask.has(Comp(1)) && file.mxcsr() != INITIAL_MXCSR;
-    used.with(Comp(1), used.has(Comp(1)) | control)
+    let control = mask.has(Comp::SSE) && file.mxcsr() != INITIAL_MXCSR;
+    used.with(Comp::SSE, used.has(Comp::SSE) | control)
 }
 
 /// The components of the mask by the one set, the others by the other.

@@ -1,5 +1,5 @@
 -- Places in the compacted format.
-use Rattle.std.proofs.Common.{◌≡◌, ◌≢◌, ◌⊎◌, inl, inr, ℕ, zero, suc, ◌+◌, ◌*◌, ◌/◌, ◌^◌, ◌<◌, ◌≤◌, Bool, true, false, ◌&&◌, ◌||◌, ◌==◌, nat_le, List, [], ◌∷◌, length, get_or, drop, Option, Some, None, if◌then◌else◌, refl, sym, ap, subst, ◌∙◌, arith}
+use Rattle.std.proofs.Common.{◌≡◌, ◌≢◌, ◌⊎◌, inl, inr, ℕ, zero, suc, ◌+◌, ◌*◌, ◌/◌, ◌<◌, ◌≤◌, Bool, true, false, ◌&&◌, ◌||◌, ◌==◌, nat_le, List, [], ◌∷◌, length, get_or, drop, if◌then◌else◌, refl, sym, ap, subst, ◌∙◌, arith}
 use Rattle.std.proofs.lemmas.Bool.{cases_order, eq-eqb, ne_eqb, eqb-true}
 use Rattle.std.proofs.lemmas.Bool.Decides.{nat_tests}
 use Rattle.std.specs.List.{list_any}
@@ -7,9 +7,9 @@ use Rattle.std.proofs.lemmas.List.{at_drop_more, at_drop_all}
 use Rattle.xs_base.specs.declared.component.Row.{Row}
 use Rattle.xs_base.specs.Sets.{has}
 use Rattle.xs_base.specs.Component.{component_numbers, component_size, sizes}
-use Rattle.xs_base.specs.Layout.{IsLayout, IsSound, most_rows, first_row_fault, row_error}
+use Rattle.xs_base.specs.Layout.{IsLayout, IsSound}
 use Rattle.xs_base.specs.Compact.{aligned, is_extended, compact_after, compact_end, compact_from, compact_size, compact_offset}
-use Rattle.xs_base.proofs.LayoutLemmas.{AreApart, rise_from, row_fault_none, layout_parts, passes, passes_sound, number_after}
+use Rattle.xs_base.proofs.LayoutLemmas.{AreApart, AreRising, rising, rising_rest, sound_at}
 
 -- ---- one row on, from row i
 
@@ -106,9 +106,9 @@ pub after_extended : (mask n : ℕ) (r : Row) → is_extended mask r ≡ true �
 after_extended mask n r on = ap (λ b. if b then aligned r n + r.size else n) on
 
 -- a component of the mask ends by the end of them all
-pub compact_fits : (mask n : ℕ) (before : Option Row) (at : ℕ) (rows : List Row) → first_row_fault before at rows ≡ None → (i : ℕ) (r : Row) → i < length rows → r ≡ get_or rows i r → is_extended mask r ≡ true → compact_from mask r.comp.0 n rows + r.size ≤ compact_end mask n rows
-compact_fits mask n before at [] h i r lt is on = absurd (omega arith)
-compact_fits mask n before at (r0 ∷ rows) h zero r lt is on =
+pub compact_fits : (mask n : ℕ) (rows : List Row) → AreRising rows → (i : ℕ) (r : Row) → i < length rows → r ≡ get_or rows i r → is_extended mask r ≡ true → compact_from mask r.comp.0 n rows + r.size ≤ compact_end mask n rows
+compact_fits mask n [] h i r lt is on = absurd (omega arith)
+compact_fits mask n (r0 ∷ rows) h zero r lt is on =
     let P : Row → Type 0 = λ x. is_extended mask x ≡ true → compact_from mask x.comp.0 n (r0 ∷ rows) + x.size ≤ compact_end mask n (r0 ∷ rows) in
     subst P (sym is) (λ here.
     let here_is = first_here mask n r0 rows in
@@ -116,21 +116,19 @@ compact_fits mask n before at (r0 ∷ rows) h zero r lt is on =
     let after = after_extended mask n r0 here in
     let low = compact_end_low mask (compact_after mask n r0) rows in
     omega arith) on
-compact_fits mask n before at (r0 ∷ rows) h (suc i) r lt is on =
-    let f = row_fault_none before at r0 rows h in
-    let rise = rise_from r0 (at + 1) rows f.1 i r (omega arith) is in
+compact_fits mask n (r0 ∷ rows) h (suc i) r lt is on =
+    let rise = h.each 0 (suc i) r0 r (omega arith) lt refl is in
     let skip = first_other mask r.comp.0 n r0 rows rise in
     let step = end_step mask n r0 rows in
-    let rest = compact_fits mask (compact_after mask n r0) (Some r0) (at + 1) rows f.1 i r (omega arith) is on in
+    let rest = compact_fits mask (compact_after mask n r0) rows (rising_rest r0 rows h) i r (omega arith) is on in
     omega arith
 
 -- a component of the mask ends by the place of each later one
-pub compact_order : (mask n : ℕ) (before : Option Row) (at : ℕ) (rows : List Row) → first_row_fault before at rows ≡ None → (i j : ℕ) (r s : Row) → i < j → j < length rows → r ≡ get_or rows i r → s ≡ get_or rows j s → is_extended mask r ≡ true → compact_from mask r.comp.0 n rows + r.size ≤ compact_from mask s.comp.0 n rows
-compact_order mask n before at [] h i j r s lt within is it on = absurd (omega arith)
-compact_order mask n before at (r0 ∷ rows) h i zero r s lt within is it on = absurd (omega arith)
-compact_order mask n before at (r0 ∷ rows) h zero (suc j) r s lt within is it on =
-    let f = row_fault_none before at r0 rows h in
-    let rise = rise_from r0 (at + 1) rows f.1 j s (omega arith) it in
+pub compact_order : (mask n : ℕ) (rows : List Row) → AreRising rows → (i j : ℕ) (r s : Row) → i < j → j < length rows → r ≡ get_or rows i r → s ≡ get_or rows j s → is_extended mask r ≡ true → compact_from mask r.comp.0 n rows + r.size ≤ compact_from mask s.comp.0 n rows
+compact_order mask n [] h i j r s lt within is it on = absurd (omega arith)
+compact_order mask n (r0 ∷ rows) h i zero r s lt within is it on = absurd (omega arith)
+compact_order mask n (r0 ∷ rows) h zero (suc j) r s lt within is it on =
+    let rise = h.each 0 (suc j) r0 s (omega arith) within refl it in
     let skip = first_other mask s.comp.0 n r0 rows rise in
     let low = compact_from_low mask s.comp.0 (compact_after mask n r0) rows in
     let P : Row → Type 0 = λ x. is_extended mask x ≡ true → compact_from mask x.comp.0 n (r0 ∷ rows) + x.size ≤ compact_from mask s.comp.0 n (r0 ∷ rows) in
@@ -138,11 +136,10 @@ compact_order mask n before at (r0 ∷ rows) h zero (suc j) r s lt within is it 
     let here_is = first_here mask n r0 rows in
     let after = after_extended mask n r0 here in
     omega arith) on
-compact_order mask n before at (r0 ∷ rows) h (suc i) (suc j) r s lt within is it on =
-    let f = row_fault_none before at r0 rows h in
-    let first = first_other mask r.comp.0 n r0 rows (rise_from r0 (at + 1) rows f.1 i r (omega arith) is) in
-    let second = first_other mask s.comp.0 n r0 rows (rise_from r0 (at + 1) rows f.1 j s (omega arith) it) in
-    let rest = compact_order mask (compact_after mask n r0) (Some r0) (at + 1) rows f.1 i j r s (omega arith) (omega arith) is it on in
+compact_order mask n (r0 ∷ rows) h (suc i) (suc j) r s lt within is it on =
+    let first = first_other mask r.comp.0 n r0 rows (h.each 0 (suc i) r0 r (omega arith) (omega arith) refl is) in
+    let second = first_other mask s.comp.0 n r0 rows (h.each 0 (suc j) r0 s (omega arith) within refl it) in
+    let rest = compact_order mask (compact_after mask n r0) rows (rising_rest r0 rows h) i j r s (omega arith) (omega arith) is it on in
     omega arith
 
 -- ---- a machine's table
@@ -157,7 +154,7 @@ compact_size_low rows mask = compact_end_low mask 576 rows
 
 -- each component of the mask ends by the size
 pub compact_size_covers : (rows : List Row) → IsLayout rows → (mask i : ℕ) (r : Row) → i < length rows → r ≡ get_or rows i r → is_extended mask r ≡ true → compact_offset rows mask r.comp.0 + r.size ≤ compact_size rows mask
-compact_size_covers rows h mask = compact_fits mask 576 None 0 rows (layout_parts rows h).0
+compact_size_covers rows h mask = compact_fits mask 576 rows (rising rows h)
 
 -- components of the mask are apart
 pub compact_apart : (rows : List Row) → IsLayout rows → (mask i j : ℕ) (r s : Row) → i < length rows → j < length rows → r ≡ get_or rows i r → s ≡ get_or rows j s → is_extended mask r ≡ true → is_extended mask s ≡ true → i ≢ j → AreApart (compact_offset rows mask r.comp.0) r.size (compact_offset rows mask s.comp.0) s.size
@@ -165,8 +162,8 @@ compact_apart rows h mask i j r s lt within is it on and_on other = here (cases_
   where
     here : (i ≡ j) ⊎ ((i < j) ⊎ (j < i)) → AreApart (compact_offset rows mask r.comp.0) r.size (compact_offset rows mask s.comp.0) s.size
     here (inl e) = absurd (other e)
-    here (inr (inl less)) = inl (compact_order mask 576 None 0 rows (layout_parts rows h).0 i j r s less within is it on)
-    here (inr (inr more)) = inr (compact_order mask 576 None 0 rows (layout_parts rows h).0 j i s r more lt it is and_on)
+    here (inr (inl less)) = inl (compact_order mask 576 rows (rising rows h) i j r s less within is it on)
+    here (inr (inr more)) = inr (compact_order mask 576 rows (rising rows h) j i s r more lt it is and_on)
 
 -- sets that name the same rows place them alike, and make one size
 pub compact_end_same : (mask other n : ℕ) (rows : List Row) → ((i : ℕ) (r : Row) → i < length rows → r ≡ get_or rows i r → has mask r.comp.0 ≡ has other r.comp.0) → compact_end mask n rows ≡ compact_end other n rows
@@ -195,19 +192,10 @@ along_more mask i end r s h =
     let size : r.size ≤ 16384 = omega (arith, s.ends) in
     record { low = omega arith; few = omega arith }
 
-pub along_fits : (i end : ℕ) (r : Row) → i ≤ most_rows → IsSound r → IsAlong i end → end + 63 + r.size < 2 ^ 32
-along_fits i end r le s h =
-    let few = h.few in
-    let size : r.size ≤ 16384 = omega (arith, s.ends) in
-    omega arith
-
 -- The components of the mask before place i end at `end`.
 pub record IsEnded (mask : ℕ) (rows : List Row) (i end : ℕ) : Type 0 where
   pub rest : compact_end mask 576 rows ≡ compact_end mask end (drop i rows)
   pub along : IsAlong i end
-
-pub ended_none : (mask : ℕ) (rows : List Row) → IsEnded mask rows 0 576
-ended_none mask rows = record { rest = refl; along = along_none }
 
 pub ended_more : (mask : ℕ) (rows : List Row) (i end : ℕ) (r : Row) → i < length rows → r ≡ get_or rows i r → IsSound r → IsEnded mask rows i end → IsEnded mask rows (i + 1) (compact_after mask end r)
 ended_more mask rows i end r lt is s h = record { rest = h.rest ∙ compact_end_more mask end rows i r lt is; along = along_more mask i end r s h.along }
@@ -219,9 +207,6 @@ ended_all mask rows i end le h = sym (h.rest ∙ compact_end_all mask end rows i
 pub record IsSought (mask c : ℕ) (rows : List Row) (i end : ℕ) : Type 0 where
   pub rest : compact_from mask c 576 rows ≡ compact_from mask c end (drop i rows)
   pub along : IsAlong i end
-
-pub sought_none : (mask c : ℕ) (rows : List Row) → IsSought mask c rows 0 576
-sought_none mask c rows = record { rest = refl; along = along_none }
 
 pub sought_more : (mask c : ℕ) (rows : List Row) (i end : ℕ) (r : Row) → i < length rows → r ≡ get_or rows i r → IsSound r → r.comp.0 ≢ c → IsSought mask c rows i end → IsSought mask c rows (i + 1) (compact_after mask end r)
 sought_more mask c rows i end r lt is s other h = record { rest = h.rest ∙ compact_from_more mask c end rows i r lt is other; along = along_more mask i end r s h.along }
@@ -265,42 +250,24 @@ left_falls k n (c ∷ cs) le h = one (c == n) refl (nat_le (suc n) c) refl (nat_
     one false at false is true it any grows falls = let rest = falls any in omega arith
     one false at false is false it any grows falls = let rest = falls any in omega arith
 
--- what the rows behind a row can add
-left_after : Option Row → ℕ
-left_after None = left_from 0 component_numbers
-left_after (Some b) = left_from (suc b.comp.0) component_numbers
-
-left_most : left_after None ≤ 15808
-unfolding left_after left_from component_size sizes
+left_most : left_from 0 component_numbers ≤ 15808
+unfolding left_from component_size sizes
 left_most = omega arith
 
-left_less : (before : Option Row) (r : Row) → row_error before r ≡ None → left_after (Some r) + (63 + r.size) ≤ left_after before
-unfolding left_after
-left_less None r e =
-    let s = passes_sound None r (passes None r e) in
-    let size = s.size in
-    let falls = left_falls 0 r.comp.0 component_numbers (omega arith) s.known in
-    omega arith
-left_less (Some b) r e =
-    let p = passes (Some b) r e in
-    let s = passes_sound (Some b) r p in
-    let size = s.size in
-    let rise = number_after b r p in
-    let falls = left_falls (suc b.comp.0) r.comp.0 component_numbers (omega arith) s.known in
-    omega arith
-
-compact_end_most : (mask n : ℕ) (before : Option Row) (at : ℕ) (rows : List Row) → first_row_fault before at rows ≡ None → compact_end mask n rows ≤ n + left_after before
-compact_end_most mask n before at [] h = let none = end_none mask n in omega arith
-compact_end_most mask n before at (r ∷ rows) h =
-    let f = row_fault_none before at r rows h in
+-- rows from number k on end within what they can add
+compact_end_most : (mask n k : ℕ) (rows : List Row) → AreRising rows → ((i : ℕ) (r : Row) → i < length rows → r ≡ get_or rows i r → IsSound r × (k ≤ r.comp.0)) → compact_end mask n rows ≤ n + left_from k component_numbers
+compact_end_most mask n k [] h each = let none = end_none mask n in omega arith
+compact_end_most mask n k (r ∷ rows) h each =
+    let first = each 0 r (omega arith) refl in
+    let size = first.0.size in
     let step = end_step mask n r rows in
     let high = after_high mask n r in
-    let less = left_less before r f.0 in
-    let rest = compact_end_most mask (compact_after mask n r) (Some r) (at + 1) rows f.1 in
+    let falls = left_falls k r.comp.0 component_numbers first.1 first.0.known in
+    let rest = compact_end_most mask (compact_after mask n r) (suc r.comp.0) rows (rising_rest r rows h) (λ i s lt is. ((each (suc i) s (omega arith) is).0, h.each 0 (suc i) r s (omega arith) (omega arith) refl is)) in
     omega arith
 
 pub compact_size_most : (rows : List Row) → IsLayout rows → (mask : ℕ) → compact_size rows mask ≤ 16384
 compact_size_most rows table mask =
-    let most = compact_end_most mask 576 None 0 rows (layout_parts rows table).0 in
+    let most = compact_end_most mask 576 0 rows (rising rows table) (λ i r lt is. (sound_at rows table i r lt is, omega arith)) in
     let all = left_most in
     omega arith

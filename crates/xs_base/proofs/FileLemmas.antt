@@ -10,7 +10,7 @@ use Rattle.std.specs.Int.{to_le_bytes, w32}
 use Rattle.xs_base.specs.Bytes.{splice, zeros}
 use Rattle.xs_base.specs.Component.{component_count, component_size, initial_part}
 use Rattle.xs_base.specs.Layout.{IsLayout, has_row}
-use Rattle.xs_base.specs.File.{File, part, with_part, initial_file, is_own, is_mxcsr, IsFile}
+use Rattle.xs_base.specs.File.{File, part, with_part, pkru_bytes, with_pkru, initial_file, is_own, is_mxcsr, IsFile}
 use Rattle.xs_base.specs.Register.{IsRegister}
 use Rattle.xs_base.proofs.ByteLemmas.{length_splice, splice_below, splice_above}
 use Rattle.xs_base.proofs.Registers.{place_component, place_within, place_own}
@@ -88,18 +88,18 @@ pub part_is_file : (file : File) (c : ℕ) (bytes : List ℕ) → c < component_
 part_is_file file c bytes lt len clean has h = other_is_file file c bytes lt len clean (λ gone other. absurd (false≢true (sym gone ∙ has))) h
 
 -- the bytes of PKRU
-pkru_clean : (value k : ℕ) → is_own 9 k ≡ false → get_or (to_le_bytes w32 value ++ zeros 4) k 0 ≡ 0
+pkru_clean : (value k : ℕ) → is_own 9 k ≡ false → get_or (pkru_bytes value) k 0 ≡ 0
 pkru_clean value k loose =
     let high : 4 ≤ k = grind (arith, nat_tests, loose) in
     let rest : get_or (to_le_bytes w32 value ++ zeros 4) k 0 ≡ get_or (zeros 4) (k - 4) 0 = search (rules, places) in
     rest ∙ zero_at 4 (k - 4)
 
-pub pkru_length : (value : ℕ) → length (to_le_bytes w32 value ++ zeros 4) ≡ component_size 9
+pub pkru_length : (value : ℕ) → length (pkru_bytes value) ≡ component_size 9
 pkru_length value = rw pkru_size (simp length-append (omega (arith, length_zeros 4)))
 
-pub pkru_is_file : (file : File) (value : ℕ) → IsFile file → IsFile (with_part file 9 (to_le_bytes w32 value ++ zeros 4))
+pub pkru_is_file : (file : File) (value : ℕ) → IsFile file → IsFile (with_pkru file value)
 pkru_is_file file value h =
-    other_is_file file 9 (to_le_bytes w32 value ++ zeros 4) (omega arith) (pkru_length value) (pkru_clean value) (λ gone other. absurd (other refl)) h
+    other_is_file file 9 (pkru_bytes value) (omega arith) (pkru_length value) (pkru_clean value) (λ gone other. absurd (other refl)) h
 
 -- A file stays one with other bytes of a register.
 pub splice_clean : (c at : ℕ) (new old : List ℕ) → at + length new ≤ length old → ((k : ℕ) → at ≤ k → k < at + length new → is_own c k ≡ true) → ((k : ℕ) → is_own c k ≡ false → get_or old k 0 ≡ 0) → (k : ℕ) → is_own c k ≡ false → get_or (splice at new old) k 0 ≡ 0

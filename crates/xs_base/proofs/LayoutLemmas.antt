@@ -1,6 +1,7 @@
 -- What the tests of a machine's table tell of its rows.
-use Rattle.std.proofs.Common.{◌≡◌, ◌⊎◌, inl, inr, ℕ, zero, suc, ◌+◌, ◌<◌, ◌≤◌, Bool, true, false, not, ◌&&◌, ◌||◌, ◌==◌, nat_lt, List, [], ◌∷◌, length, get_or, Option, Some, None, if◌then◌else◌, refl, sym, ap, subst, ◌∙◌, arith}
-use Rattle.std.proofs.lemmas.Bool.{cases_order, eq-eqb, eqb-true}
+use Rattle.std.proofs.Common.{◌≡◌, ◌⊎◌, inl, inr, ℕ, zero, suc, ◌+◌, ◌<◌, ◌≤◌, Bool, true, false, ◌&&◌, ◌||◌, ◌==◌, nat_le, nat_lt, List, [], ◌∷◌, ◌++◌, length, take, get_or, append_assoc, Option, Some, None, if◌then◌else◌, refl, sym, ap, subst, ◌∙◌, arith}
+use Rattle.std.proofs.lemmas.Bool.{cases_order, cases_Bool, false≢true, eq-eqb, eqb-true}
+use Rattle.std.proofs.lemmas.List.{append-nil, get_or-take, get_or_default, length-take}
 use Rattle.std.proofs.lemmas.Bool.Decides.{nat_tests}
 use Rattle.std.proofs.lemmas.List.Folds.{list_any_at}
 use Rattle.std.specs.List.{list_any}
@@ -11,7 +12,7 @@ use Rattle.xs_base.specs.declared.layout_error.LayoutError.TheVariants as errors
 use Rattle.xs_base.specs.declared.layout_error.LayoutFault.{LayoutFault}
 use Rattle.xs_base.specs.Sets.{has}
 use Rattle.xs_base.specs.Component.{component_numbers, component_count, component_size, sizes}
-use Rattle.xs_base.specs.Layout.{is_known, is_unknown, is_repeated, has_wrong_size, has_wrong_flags, is_too_large, overlaps, row_error, first_row_fault, fault_or, fault_else, layout_fault, table_error, IsLayout, IsSound, IsRowOf, most_rows, amx_rows, avx_rows, has_row, features, default_features}
+use Rattle.xs_base.specs.Layout.{is_known, is_unknown, is_repeated, has_wrong_size, has_wrong_flags, is_too_large, overlaps, row_error, first_row_fault, fault_or, fault_else, layout_fault, table_error, IsLayout, IsSound, IsRowOf, most_rows, amx_rows, avx_rows, has_row, row_end, features}
 
 -- two runs of bytes have no byte in common
 abbrev pub AreApart : ℕ → ℕ → ℕ → ℕ → Type 0
@@ -33,7 +34,7 @@ else_none true x rest h = cc
 else_none false x rest h = (refl, h)
 
 -- what the tests of a row that passes answer
-pub record Passes (before : Option Row) (r : Row) : Type 0 where
+pub record Passes (before : List Row) (r : Row) : Type 0 where
   pub unknown : is_unknown r ≡ false
   pub repeated : is_repeated before r ≡ false
   pub zero : (r.size == 0) ≡ false
@@ -42,7 +43,7 @@ pub record Passes (before : Option Row) (r : Row) : Type 0 where
   pub large : is_too_large r ≡ false
   pub overlap : overlaps before r ≡ false
 
-pub passes : (before : Option Row) (r : Row) → row_error before r ≡ None → Passes before r
+pub passes : (before : List Row) (r : Row) → row_error before r ≡ None → Passes before r
 unfolding row_error
 passes before r h =
     let a = else_none (is_unknown r) errors.UnknownComponent _ h in
@@ -63,16 +64,19 @@ size_tells r h = (grind (arith, nat_tests), λ e. grind (arith, nat_tests), λ e
 flags_tell : (r : Row) → has_wrong_flags r ≡ false → r.flags ≤ 7
 flags_tell r h = grind (arith, nat_tests)
 
-overlap_tells : (before : Option Row) (r : Row) → overlaps before r ≡ false → 2 ≤ r.comp.0 → 576 ≤ r.offset
-overlap_tells None r h two = grind (arith, nat_tests)
-overlap_tells (Some b) r h two = grind (arith, nat_tests)
+overlap_tells : (before : List Row) (r : Row) → overlaps before r ≡ false → 2 ≤ r.comp.0 → 576 ≤ r.offset
+overlap_tells before r h two = here (list_any (λ (b : Row). nat_lt r.offset (row_end b)) before) h
+  where
+    here : (any : Bool) → (nat_le 2 r.comp.0 && (nat_lt r.offset 576 || any)) ≡ false → 576 ≤ r.offset
+    here true h = grind (arith, nat_tests)
+    here false h = grind (arith, nat_tests)
 
 sizes_legacy : (component_size 0 ≡ 160) × (component_size 1 ≡ 256)
 unfolding component_size sizes
 sizes_legacy = (refl, refl)
 
 -- a row that passes every test is sound, whatever stands before it
-pub passes_sound : (before : Option Row) (r : Row) → Passes before r → IsSound r
+pub passes_sound : (before : List Row) (r : Row) → Passes before r → IsSound r
 passes_sound before r p =
     let s = size_tells r p.size in
     record {
@@ -88,63 +92,70 @@ passes_sound before r p =
     }
 
 -- a list of rows that has no fault: its first row has none, nor have the others
-pub row_fault_none : (before : Option Row) (at : ℕ) (r : Row) (rows : List Row) → first_row_fault before at (r ∷ rows) ≡ None → (row_error before r ≡ None) × (first_row_fault (Some r) (at + 1) rows ≡ None)
+pub row_fault_none : (before : List Row) (r : Row) (rows : List Row) → first_row_fault before (r ∷ rows) ≡ None → (row_error before r ≡ None) × (first_row_fault (before ++ r ∷ []) rows ≡ None)
 unfolding first_row_fault
-row_fault_none before at r rows h = fault_none (row_error before r) (Some at) _ h
+row_fault_none before r rows h = fault_none (row_error before r) (Some (length before)) _ h
   where
     fault_none : (e : Option LayoutError) (at : Option ℕ) (later : Option LayoutFault) → fault_or at e later ≡ None → (e ≡ None) × (later ≡ None)
     fault_none None at later h = (refl, h)
     fault_none (Some e) at later h = cc
 
 -- a machine's table has no fault in a row, and none as a whole
-pub layout_parts : (rows : List Row) → IsLayout rows → (first_row_fault None 0 rows ≡ None) × (table_error rows ≡ None)
+pub layout_parts : (rows : List Row) → IsLayout rows → (first_row_fault [] rows ≡ None) × (table_error rows ≡ None)
 unfolding layout_fault
-layout_parts rows h = parts (first_row_fault None 0 rows) (table_error rows) h
+layout_parts rows h = parts (first_row_fault [] rows) (table_error rows) h
   where
     parts : (f : Option LayoutFault) (t : Option LayoutError) → fault_else f (fault_or None t None) ≡ None → (f ≡ None) × (t ≡ None)
     parts (Some f) t h = cc
     parts None None h = (refl, refl)
     parts None (Some t) h = cc
 
--- each row of a list without faults passes its tests behind some row
-pub sound_from : (before : Option Row) (at : ℕ) (rows : List Row) → first_row_fault before at rows ≡ None → (i : ℕ) (r : Row) → i < length rows → r ≡ get_or rows i r → IsSound r
-sound_from before at [] h i r lt is = absurd (omega arith)
-sound_from before at (r0 ∷ rows) h zero r lt is = subst IsSound (sym is) (passes_sound before r0 (passes before r0 (row_fault_none before at r0 rows h).0))
-sound_from before at (r0 ∷ rows) h (suc i) r lt is = sound_from (Some r0) (at + 1) rows (row_fault_none before at r0 rows h).1 i r (omega arith) is
+errors_from : (before rows : List Row) → first_row_fault before rows ≡ None → (i : ℕ) (r : Row) → i < length rows → r ≡ get_or rows i r → row_error (before ++ take i rows) r ≡ None
+errors_from before [] h i r lt is = absurd (omega arith)
+errors_from before (r0 ∷ rows) h zero r lt is = rw (append-nil before, is) (row_fault_none before r0 rows h).0
+errors_from before (r0 ∷ rows) h (suc i) r lt is =
+    rw append_assoc at (errors_from (before ++ r0 ∷ []) rows (row_fault_none before r0 rows h).1 i r (omega arith) is)
+
+-- each row of a list without faults passes behind those before it
+pub passes_in : (rows : List Row) → first_row_fault [] rows ≡ None → (i : ℕ) (r : Row) → i < length rows → r ≡ get_or rows i r → Passes (take i rows) r
+passes_in rows h i r lt is = passes (take i rows) r (errors_from [] rows h i r lt is)
+
+-- and is sound
+pub sound_in : (rows : List Row) → first_row_fault [] rows ≡ None → (i : ℕ) (r : Row) → i < length rows → r ≡ get_or rows i r → IsSound r
+sound_in rows h i r lt is = passes_sound (take i rows) r (passes_in rows h i r lt is)
 
 -- each row of a machine's table is sound
 pub sound_at : (rows : List Row) → IsLayout rows → (i : ℕ) (r : Row) → i < length rows → r ≡ get_or rows i r → IsSound r
-sound_at rows h = sound_from None 0 rows (layout_parts rows h).0
+sound_at rows h = sound_in rows (layout_parts rows h).0
 
 -- ---- the numbers rise
 
--- a row that passes has a greater number than the row before
-pub number_after : (b r : Row) → Passes (Some b) r → b.comp.0 < r.comp.0
-number_after b r p = let h = p.repeated in grind (arith, nat_tests)
+-- no row before passes a test that none passes
+pub none_before : (test : Row → Bool) (rows : List Row) (i j : ℕ) (r : Row) → i < j → j < length rows → r ≡ get_or rows i r → list_any test (take j rows) ≡ false → test r ≡ false
+none_before test rows i j r less lt is none = elim (cases_Bool (test r)) [
+  | inl on ↦
+      let same : get_or (take j rows) i r ≡ r = get_or-take j rows i r less ∙ sym is in
+      let long : i < length (take j rows) = omega (arith, length-take j rows) in
+      absurd (false≢true (sym none ∙ list_any_at test (take j rows) i r long (ap test same ∙ on)))
+  | inr off ↦ off
+]
 
--- every row has a greater number than the row before them all
-pub rise_from : (b : Row) (at : ℕ) (rows : List Row) → first_row_fault (Some b) at rows ≡ None → (i : ℕ) (r : Row) → i < length rows → r ≡ get_or rows i r → b.comp.0 < r.comp.0
-rise_from b at [] h i r lt is = absurd (omega arith)
-rise_from b at (r0 ∷ rows) h zero r lt is =
-    let P : Row → Type 0 = λ x. b.comp.0 < x.comp.0 in
-    subst P (sym is) (number_after b r0 (passes (Some b) r0 (row_fault_none (Some b) at r0 rows h).0))
-rise_from b at (r0 ∷ rows) h (suc i) r lt is =
-    let first = number_after b r0 (passes (Some b) r0 (row_fault_none (Some b) at r0 rows h).0) in
-    let later = rise_from r0 (at + 1) rows (row_fault_none (Some b) at r0 rows h).1 i r (omega arith) is in
-    omega arith
+-- The numbers of the rows rise.
+pub record AreRising (rows : List Row) : Type 0 where
+  pub each : (i j : ℕ) (r s : Row) → i < j → j < length rows → r ≡ get_or rows i r → s ≡ get_or rows j s → r.comp.0 < s.comp.0
 
-rise_between : (before : Option Row) (at : ℕ) (rows : List Row) → first_row_fault before at rows ≡ None → (i j : ℕ) (r s : Row) → i < j → j < length rows → r ≡ get_or rows i r → s ≡ get_or rows j s → r.comp.0 < s.comp.0
-rise_between before at [] h i j r s lt within is it = absurd (omega arith)
-rise_between before at (r0 ∷ rows) h i zero r s lt within is it = absurd (omega arith)
-rise_between before at (r0 ∷ rows) h zero (suc j) r s lt within is it =
-    let P : Row → Type 0 = λ x. x.comp.0 < s.comp.0 in
-    subst P (sym is) (rise_from r0 (at + 1) rows (row_fault_none before at r0 rows h).1 j s (omega arith) it)
-rise_between before at (r0 ∷ rows) h (suc i) (suc j) r s lt within is it =
-    rise_between (Some r0) (at + 1) rows (row_fault_none before at r0 rows h).1 i j r s (omega arith) (omega arith) is it
+pub rising_rest : (r : Row) (rows : List Row) → AreRising (r ∷ rows) → AreRising rows
+rising_rest r rows h = record { each = λ i j a b less lt is it. h.each (suc i) (suc j) a b (omega arith) (omega arith) is it }
 
--- numbers rise with the index
-pub rise_at : (rows : List Row) → IsLayout rows → (i j : ℕ) (r s : Row) → i < j → j < length rows → r ≡ get_or rows i r → s ≡ get_or rows j s → r.comp.0 < s.comp.0
-rise_at rows h = rise_between None 0 rows (layout_parts rows h).0
+pub rising_in : (rows : List Row) → first_row_fault [] rows ≡ None → AreRising rows
+rising_in rows h = record {
+  each = λ i j r s less lt is it.
+      let low : nat_le s.comp.0 r.comp.0 ≡ false = none_before (λ (b : Row). nat_le s.comp.0 b.comp.0) rows i j r less lt is (passes_in rows h j s lt it).repeated in
+      grind (arith, nat_tests);
+}
+
+pub rising : (rows : List Row) → IsLayout rows → AreRising rows
+rising rows h = rising_in rows (layout_parts rows h).0
 
 -- rows of one number are one row
 pub same_index : (rows : List Row) → IsLayout rows → (i j : ℕ) (r s : Row) → i < length rows → j < length rows → r ≡ get_or rows i r → s ≡ get_or rows j s → r.comp.0 ≡ s.comp.0 → i ≡ j
@@ -152,8 +163,8 @@ same_index rows h i j r s lt within is it same = here (cases_order i j)
   where
     here : (i ≡ j) ⊎ ((i < j) ⊎ (j < i)) → i ≡ j
     here (inl e) = e
-    here (inr (inl less)) = let rise = rise_at rows h i j r s less within is it in absurd (omega arith)
-    here (inr (inr more)) = let rise = rise_at rows h j i s r more lt it is in absurd (omega arith)
+    here (inr (inl less)) = let rise = (rising rows h).each i j r s less within is it in absurd (omega arith)
+    here (inr (inr more)) = let rise = (rising rows h).each j i s r more lt it is in absurd (omega arith)
 
 -- a row is among the rows by its number
 pub has_row_at : (rows : List Row) (i : ℕ) (r : Row) → i < length rows → r ≡ get_or rows i r → has_row rows r.comp.0 ≡ true
@@ -203,46 +214,31 @@ below_rises m n (c ∷ cs) lt h = one (c == m) refl (nat_lt c m) refl (nat_lt c 
     one false at false is true it any grows rises = let r = rises any in omega arith
     one false at false is false it any grows rises = let r = rises any in omega arith
 
--- how many components there are up to the row before, that one too
-pub rank_after : Option Row → ℕ
-rank_after None = 0
-rank_after (Some b) = below b.comp.0 component_numbers + 1
-
--- the row before, where there is one, is sound
-abbrev pub IsSoundBefore : Option Row → Type 0
-IsSoundBefore None = Unit {0}
-IsSoundBefore (Some b) = IsSound b
-
-pub rank_none : rank_after None ≡ 0
-unfolding rank_after
-rank_none = refl
-
-pub rank_most : (before : Option Row) → IsSoundBefore before → rank_after before ≤ most_rows
-unfolding rank_after
-rank_most None h = omega arith
-rank_most (Some b) h =
-    let rise = below_rises b.comp.0 (suc b.comp.0) component_numbers (omega arith) h.known in
-    let most : below (suc b.comp.0) component_numbers ≤ most_rows = below_length (suc b.comp.0) component_numbers in
+-- each row has as many numbers below its own as rows before it
+rank_in : (rows : List Row) → first_row_fault [] rows ≡ None → (i : ℕ) (r : Row) → i < length rows → r ≡ get_or rows i r → i ≤ below r.comp.0 component_numbers
+rank_in rows h zero r lt is = omega arith
+rank_in rows h (suc i) r lt is =
+    let b : Row = get_or rows i r in
+    let it : b ≡ get_or rows i b = get_or_default rows i r b (omega arith) in
+    let less = (rising_in rows h).each i (suc i) b r (omega arith) lt it is in
+    let rise = below_rises b.comp.0 r.comp.0 component_numbers less (sound_in rows h i b (omega arith) it).known in
+    let rest = rank_in rows h i b (omega arith) it in
     omega arith
 
-pub rank_more : (before : Option Row) (r : Row) → IsSoundBefore before → row_error before r ≡ None → rank_after before + 1 ≤ rank_after (Some r)
-unfolding rank_after
-rank_more None r h e = omega arith
-rank_more (Some b) r h e =
-    let rise = below_rises b.comp.0 r.comp.0 component_numbers (number_after b r (passes (Some b) r e)) h.known in
-    omega arith
-
-pub few_from : (before : Option Row) (at : ℕ) (rows : List Row) → IsSoundBefore before → first_row_fault before at rows ≡ None → rank_after before + length rows ≤ most_rows
-few_from before at [] s h = let most = rank_most before s in omega arith
-few_from before at (r ∷ rows) s h =
-    let parts = row_fault_none before at r rows h in
-    let step = rank_more before r s parts.0 in
-    let rest = few_from (Some r) (at + 1) rows (passes_sound before r (passes before r parts.0)) parts.1 in
+-- rows that pass are no more than the components
+pub few_in : (rows : List Row) → first_row_fault [] rows ≡ None → length rows ≤ most_rows
+few_in [] h = omega arith
+few_in (r0 ∷ rows) h =
+    let r : Row = get_or (r0 ∷ rows) (length rows) r0 in
+    let is : r ≡ get_or (r0 ∷ rows) (length rows) r = get_or_default (r0 ∷ rows) (length rows) r0 r (omega arith) in
+    let rank = rank_in (r0 ∷ rows) h (length rows) r (omega arith) is in
+    let rise = below_rises r.comp.0 (suc r.comp.0) component_numbers (omega arith) (sound_in (r0 ∷ rows) h (length rows) r (omega arith) is).known in
+    let most : below (suc r.comp.0) component_numbers ≤ most_rows = below_length (suc r.comp.0) component_numbers in
     omega arith
 
 -- a machine's table has a row for each component at most
 pub few_rows : (rows : List Row) → IsLayout rows → length rows ≤ most_rows
-few_rows rows h = let few = few_from None 0 rows tt (layout_parts rows h).0 in omega arith
+few_rows rows h = few_in rows (layout_parts rows h).0
 
 -- ---- features
 
@@ -272,12 +268,3 @@ set_known false k h = refl
 -- the features are the components of the rows
 pub has_features : (rows : List Row) → IsLayout rows → (c : ℕ) → has (features rows) c ≡ has_row rows c
 has_features rows h c = has_set_of (has_row rows) component_numbers refl c ∙ set_known (has_row rows c) (is_known c) (has_row_known rows h c)
-
-pub has_default_features : (rows : List Row) → IsLayout rows → (c : ℕ) → has (default_features rows) c ≡ (has_row rows c && not (c == 18))
-has_default_features rows h c =
-    has_set_of (λ k. has_row rows k && not (k == 18)) component_numbers refl c
-    ∙ set_known (has_row rows c && not (c == 18)) (is_known c) (λ on. has_row_known rows h c (first (has_row rows c) (not (c == 18)) on))
-  where
-    first : (a b : Bool) → (a && b) ≡ true → a ≡ true
-    first true b h = refl
-    first false b h = h

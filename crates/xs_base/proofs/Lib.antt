@@ -15,3 +15,6 @@ pub mod Registers
 pub mod WorkedValues
 pub mod AreaLemmas
 pub mod ZeroLemmas
+pub mod HeaderLemmas
+pub mod CompactedLemmas
+pub mod ClassLemmas

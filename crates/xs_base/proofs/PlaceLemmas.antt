@@ -1,15 +1,18 @@
 -- Where the components of a machine stand, in the standard format and by XCOMP_BV in either.
-use Rattle.std.proofs.Common.{◌≡◌, ◌≢◌, ◌⊎◌, inl, inr, ℕ, zero, suc, ◌+◌, ◌<◌, ◌≤◌, Bool, true, false, not, ◌&&◌, ◌||◌, nat_le, List, [], ◌∷◌, length, get_or, Option, Some, None, if◌then◌else◌, refl, sym, ap, subst, ◌∙◌, arith}
-use Rattle.std.proofs.lemmas.Bool.{cases_order, cases_lt, cases_Bool, le-leb}
+use Rattle.std.proofs.Common.{◌≡◌, ◌≢◌, ◌⊎◌, inl, inr, ℕ, ◌+◌, ◌%◌, ◌<◌, ◌≤◌, ◌==◌, Bool, true, false, true≢false, not, ◌&&◌, ◌||◌, nat_le, List, length, get_or, if◌then◌else◌, refl, sym, ap, subst, ◌∙◌, arith, nat_lt, take}
+use Rattle.std.proofs.lemmas.Bool.{cases_order, cases_lt, cases_eq, cases_Bool, le-leb}
 use Rattle.std.proofs.lemmas.Bool.Decides.{nat_tests}
+use Rattle.std.specs.List.{list_any}
 use Rattle.xs_base.specs.declared.component.Row.{Row}
+use Rattle.xs_base.specs.Bytes.{is_within}
+use Rattle.xs_base.specs.File.{is_own}
 use Rattle.xs_base.specs.Sets.{has}
-use Rattle.xs_base.specs.Layout.{first_row_fault, IsLayout, IsSound, has_row, standard_size}
+use Rattle.xs_base.specs.Layout.{IsLayout, IsSound, has_row, row_end}
 use Rattle.xs_base.specs.Compact.{is_extended, is_compacted, compact_offset, compact_size, place, has_place}
 use Rattle.std.specs.Cmp.Derive.{both_true}
+use Rattle.xs_base.proofs.ByteLemmas.{within_below, within_above, within_tells}
 use Rattle.xs_base.proofs.CompactLemmas.{compact_offset_low, compact_size_low, compact_size_covers, compact_apart}
-use Rattle.xs_base.proofs.SizeLemmas.{end_covers}
-use Rattle.xs_base.proofs.LayoutLemmas.{AreApart, Passes, passes, passes_sound, number_after, row_fault_none, layout_parts, sound_at}
+use Rattle.xs_base.proofs.LayoutLemmas.{AreApart, Passes, passes_in, rising, none_before, layout_parts, sound_at}
 
 -- ---- places in the standard format
 
@@ -21,44 +24,47 @@ legacy_end r s lt = here (cases_lt r.comp.0 1)
     here (inl none) = let f = s.x87 (omega arith) in omega (arith, f.0, f.1)
     here (inr one) = let f = s.sse (omega arith) in omega (arith, f.0, f.1)
 
--- a row that passes behind another begins at its end or later
-begins_after : (b r : Row) → IsSound b → Passes (Some b) r → b.offset + b.size ≤ r.offset
-begins_after b r s p = here (cases_lt b.comp.0 1) (cases_lt r.comp.0 2)
+-- A row's place is apart from that of each row before it. Here alone the test of a row's place in the standard format
+-- tells that places are apart.
+apart_before : (rows : List Row) → IsLayout rows → (i j : ℕ) (r s : Row) → i < j → j < length rows → r ≡ get_or rows i r → s ≡ get_or rows j s → AreApart r.offset r.size s.offset s.size
+apart_before rows h i j r s less lt is it = here (cases_lt s.comp.0 2) (cases_lt r.comp.0 1)
   where
-    here : (b.comp.0 < 1) ⊎ (1 ≤ b.comp.0) → (r.comp.0 < 2) ⊎ (2 ≤ r.comp.0) → b.offset + b.size ≤ r.offset
-    here before (inr two) = let o = p.overlap in grind (arith, nat_tests)
-    here (inl none) (inl legacy) = let f = s.x87 (omega arith) in let g = (passes_sound (Some b) r p).sse (omega (arith, number_after b r p)) in omega (arith, f.0, f.1, g.0)
-    here (inr one) (inl legacy) = absurd (omega (arith, number_after b r p))
+    p : Passes (take j rows) s
+    p = passes_in rows (layout_parts rows h).0 j s lt it
 
-begins_from : (b : Row) (at : ℕ) (rows : List Row) → IsSound b → first_row_fault (Some b) at rows ≡ None → (i : ℕ) (r : Row) → i < length rows → r ≡ get_or rows i r → b.offset + b.size ≤ r.offset
-begins_from b at [] s h i r lt is = absurd (omega arith)
-begins_from b at (r0 ∷ rows) s h zero r lt is =
-    let P : Row → Type 0 = λ x. b.offset + b.size ≤ x.offset in
-    subst P (sym is) (begins_after b r0 s (passes (Some b) r0 (row_fault_none (Some b) at r0 rows h).0))
-begins_from b at (r0 ∷ rows) s h (suc i) r lt is =
-    let p = passes (Some b) r0 (row_fault_none (Some b) at r0 rows h).0 in
-    let first = begins_after b r0 s p in
-    let later = begins_from r0 (at + 1) rows (passes_sound (Some b) r0 p) (row_fault_none (Some b) at r0 rows h).1 i r (omega arith) is in
-    omega arith
+    rise : r.comp.0 < s.comp.0
+    rise = (rising rows h).each i j r s less lt is it
 
-begins_between : (before : Option Row) (at : ℕ) (rows : List Row) → first_row_fault before at rows ≡ None → (i j : ℕ) (r s : Row) → i < j → j < length rows → r ≡ get_or rows i r → s ≡ get_or rows j s → r.offset + r.size ≤ s.offset
-begins_between before at [] h i j r s lt within is it = absurd (omega arith)
-begins_between before at (r0 ∷ rows) h i zero r s lt within is it = absurd (omega arith)
-begins_between before at (r0 ∷ rows) h zero (suc j) r s lt within is it =
-    let P : Row → Type 0 = λ x. x.offset + x.size ≤ s.offset in
-    let f = row_fault_none before at r0 rows h in
-    subst P (sym is) (begins_from r0 (at + 1) rows (passes_sound before r0 (passes before r0 f.0)) f.1 j s (omega arith) it)
-begins_between before at (r0 ∷ rows) h (suc i) (suc j) r s lt within is it =
-    begins_between (Some r0) (at + 1) rows (row_fault_none before at r0 rows h).1 i j r s (omega arith) (omega arith) is it
+    sound : IsSound r
+    sound = sound_at rows h i r (omega arith) is
+
+    none : (any : Bool) → (nat_le 2 s.comp.0 && (nat_lt s.offset 576 || any)) ≡ false → 2 ≤ s.comp.0 → any ≡ false
+    none true h two = grind (arith, nat_tests)
+    none false h two = refl
+
+    here : (s.comp.0 < 2) ⊎ (2 ≤ s.comp.0) → (r.comp.0 < 1) ⊎ (1 ≤ r.comp.0) → AreApart r.offset r.size s.offset s.size
+    here (inr two) either =
+        let any = none (list_any (λ (b : Row). nat_lt s.offset (row_end b)) (take j rows)) p.overlap two in
+        let low : nat_lt s.offset (row_end r) ≡ false = none_before (λ (b : Row). nat_lt s.offset (row_end b)) rows i j r less lt is any in
+        inl (grind (arith, nat_tests))
+    here (inl legacy) (inl first) =
+        let f = sound.x87 (omega arith) in
+        let g = (sound_at rows h j s lt it).sse (omega (arith, rise)) in
+        inl (omega (arith, f.0, f.1, g.0))
+    here (inl legacy) (inr some) = absurd (omega (arith, rise))
 
 -- two rows have no byte of the standard format in common
 pub standard_apart : (rows : List Row) → IsLayout rows → (i j : ℕ) (r s : Row) → i < length rows → j < length rows → r ≡ get_or rows i r → s ≡ get_or rows j s → i ≢ j → AreApart r.offset r.size s.offset s.size
 standard_apart rows h i j r s lt within is it other = here (cases_order i j)
   where
+    turn : AreApart s.offset s.size r.offset r.size → AreApart r.offset r.size s.offset s.size
+    turn (inl a) = inr a
+    turn (inr b) = inl b
+
     here : (i ≡ j) ⊎ ((i < j) ⊎ (j < i)) → AreApart r.offset r.size s.offset s.size
     here (inl e) = absurd (other e)
-    here (inr (inl less)) = inl (begins_between None 0 rows (layout_parts rows h).0 i j r s less within is it)
-    here (inr (inr more)) = inr (begins_between None 0 rows (layout_parts rows h).0 j i s r more lt it is)
+    here (inr (inl less)) = apart_before rows h i j r s less within is it
+    here (inr (inr more)) = turn (apart_before rows h j i s r more lt it is)
 
 -- ---- by XCOMP_BV
 
@@ -129,6 +135,37 @@ compacted_within rows h xcomp i r lt is on placed = here (cases_lt r.comp.0 2)
         rw (place_legacy rows xcomp r legacy) (omega arith)
     here (inr two) = rw (place_compacted rows xcomp r on two) (compact_size_covers rows h xcomp i r lt is (extended_of rows xcomp r on placed two))
 
--- and a component of a mask by the mask's standard size in the standard format
-pub standard_within : (rows : List Row) (xcomp mask i : ℕ) (r : Row) → i < length rows → r ≡ get_or rows i r → is_compacted xcomp ≡ false → has mask r.comp.0 ≡ true → place rows xcomp r + r.size ≤ standard_size rows mask
-standard_within rows xcomp mask i r lt is off on = rw (place_standard rows xcomp r off) (end_covers (has mask) rows i r lt is on)
+-- ---- bytes of no row's place
+
+-- a row's place is in the legacy region or behind the header
+pub place_sides : (rows : List Row) (xcomp : ℕ) (r : Row) → IsSound r → (place rows xcomp r + r.size ≤ 416) ⊎ (576 ≤ place rows xcomp r)
+place_sides rows xcomp r sound = elim (cases_lt r.comp.0 2) [
+  | inl low ↦ inl (omega (arith, place_legacy rows xcomp r low, legacy_end r sound low))
+  | inr high ↦ inr (place_extended rows xcomp r sound high)
+]
+
+-- so nothing of it is between
+pub place_outside : (rows : List Row) (xcomp : ℕ) (r : Row) (k : ℕ) → IsSound r → is_within 416 160 k ≡ true → is_within (place rows xcomp r) r.size k ≡ false
+place_outside rows xcomp r k sound inside =
+    let tells = within_tells 416 160 k inside in
+    elim (place_sides rows xcomp r sound) [
+      | inl low ↦ within_above (place rows xcomp r) r.size k (omega arith)
+      | inr high ↦ within_below (place rows xcomp r) r.size k (omega arith)
+    ]
+
+-- Bytes 24 to 31 belong to no register.
+pub own_outside : (rows : List Row) (xcomp : ℕ) (r : Row) (k : ℕ) → IsSound r → is_own r.comp.0 k ≡ true → is_within 24 8 (place rows xcomp r + k) ≡ false
+own_outside rows xcomp r k sound own = here (cases_eq r.comp.0 0) (cases_eq r.comp.0 1)
+  where
+    middle : (a b c : Bool) → (not a && not b && not c) ≡ true → b ≡ false
+    middle true b c h = absurd (true≢false (sym h))
+    middle false true c h = absurd (true≢false (sym h))
+    middle false false c h = refl
+
+    here : (r.comp.0 ≡ 0) ⊎ (r.comp.0 ≡ 0 → ⊥) → (r.comp.0 ≡ 1) ⊎ (r.comp.0 ≡ 1 → ⊥) → is_within 24 8 (place rows xcomp r + k) ≡ false
+    here (inl x87) b =
+        let at : place rows xcomp r + k ≡ k = omega (arith, place_legacy rows xcomp r (omega arith), (sound.x87 x87).0) in
+        let own0 : is_own 0 k ≡ true = ap (λ c. is_own c k) (sym x87) ∙ own in
+        ap (is_within 24 8) at ∙ middle (k == 5) (is_within 24 8 k) (nat_le 32 k && nat_le 10 (k % 16)) own0
+    here (inr a) (inl sse) = within_above 24 8 (place rows xcomp r + k) (omega (arith, place_legacy rows xcomp r (omega arith), (sound.sse sse).0))
+    here (inr a) (inr b) = within_above 24 8 (place rows xcomp r + k) (omega (arith, place_extended rows xcomp r sound (omega arith)))

@@ -1,11 +1,12 @@
 -- The row of a component among the rows of a machine.
 use Rattle.std.proofs.Common.{◌≡◌, ℕ, ◌+◌, ◌<◌, ◌≤◌, ◌==◌, ◌&&◌, ◌||◌, Bool, true, false, true≢false, not, List, [], ◌∷◌, length, get_or, drop, Some, None, if◌then◌else◌, refl, sym, ap, ◌∙◌, add-one, inl, inr, arith}
 use Rattle.std.proofs.lemmas.Bool.{cases_Bool, eqb-true, eq-eqb, ne_eqb}
-use Rattle.std.proofs.lemmas.Option.{same_Some}
+use Rattle.std.proofs.lemmas.Option.{same_Some, slice_get_within, get_or_from_slice_get}
 use Rattle.std.proofs.lemmas.List.{at_drop_all}
 use Rattle.xs_base.specs.declared.component.Row.{Row}
 use Rattle.std.proofs.lemmas.List.{get_or_default}
 use Rattle.std.specs.List.{list_any}
+use Rattle.std.specs.Prelude.{slice_get}
 use Rattle.xs_base.specs.declared.layout_error.LayoutError.TheVariants as errors
 use Rattle.xs_base.specs.Layout.{IsLayout, IsRowOf, row_of, has_row, table_error}
 use Rattle.xs_base.proofs.LayoutLemmas.{has_row_at, same_index, else_none, layout_parts}
@@ -72,3 +73,7 @@ has_sse rows table = both (has_row rows 0) (has_row rows 1) (else_none (not (has
     both true true h = refl
     both true false h = absurd (true≢false h)
     both false b h = absurd (true≢false h)
+
+-- a look-up that finds a row, by its index
+pub row_index : (rows : List Row) (i : ℕ) (r : Row) → slice_get rows i ≡ Some r → (i < length rows) × (r ≡ get_or rows i r)
+row_index rows i r row = (slice_get_within rows i r row, sym (get_or_from_slice_get rows i r r row))

@@ -1,5 +1,5 @@
 -- A task that no fork has made is a valid private task.
-use Rattle.std.proofs.Common.{◌≡◌, ℕ, zero, suc, ◌+◌, ◌<◌, ◌≤◌, List, [], ◌++◌, length, get_or, refl, sym, ap, ◌∙◌, subst, inl, inr, arith, lit<}
+use Rattle.std.proofs.Common.{ℕ, zero, suc, ◌<◌, List, [], ◌++◌, get_or, refl, ◌∙◌, inl, inr, arith, lit<}
 use Rattle.std.proofs.lemmas.Bool.{cases_lt, cases_eq}
 use Rattle.std.proofs.lemmas.List.{get_or_past}
 use Rattle.std.proofs.lemmas.List.FromFn.{length-map-range_with_len}
@@ -8,8 +8,8 @@ use Rattle.xs_base.specs.declared.component.Row.{Row}
 use Rattle.xs_base.specs.Bytes.{zeros}
 use Rattle.xs_base.specs.Component.{component_count, component_size, initial_part}
 use Rattle.xs_base.specs.Layout.{IsLayout}
-use Rattle.xs_base.specs.File.{File, part, initial_file, with_pkru}
-use Rattle.xs_base.specs.Task.{PrivateTask, IsPrivateTask, root_task, start_pkru}
+use Rattle.xs_base.specs.File.{part, initial_file, with_pkru}
+use Rattle.xs_base.specs.Task.{IsPrivateTask, root_task, start_pkru}
 use Rattle.xs_base.proofs.ComponentLemmas.{zero_at, length_zeros, initial_x87, initial_other}
 use Rattle.xs_base.proofs.FileLemmas.{initial_at, initial_is_file, part_other, pkru_is_file}
 
@@ -49,10 +49,12 @@ root_bytes rows c k = elim (cases_eq c 9) [
 pub root_is_private : (rows : List Row) → IsLayout rows → IsPrivateTask rows (root_task rows)
 unfolding root_task
 root_is_private rows table = record {
-  is_file = pkru_is_file (initial_file rows) start_pkru (initial_is_file rows table);
-  rows_are = refl;
-  bytes = root_bytes rows;
-  control = lit< tt;
+  file = record {
+    is_file = pkru_is_file (initial_file rows) start_pkru (initial_is_file rows table);
+    rows_are = refl;
+    bytes = root_bytes rows;
+    control = lit< tt;
+  };
   tiles_are = λ small. part_other (initial_file rows) 9 18 (to_le_bytes w32 start_pkru ++ zeros 4) (λ e. absurd (cc e)) ∙ initial_at rows 18 (lit< tt);
   frame_size = length_zeros 16388;
   frame_bytes = zeros_bytes 16388;

@@ -35,12 +35,12 @@ HasPlaces rows area set = (i : ℕ) (r : Row) → slice_get rows i ≡ Some r �
 
 -- ---- the file of an image in the standard format
 
--- The file that the parts of an image are: the components in its bits come from their standard places in the bytes, and
--- every other one is initial.
-pub record IsOfParts (rows : List Row) (bytes : List ℕ) (parts : Parts) (file : File) : Type 0 where
+-- The file that the parts of an image are over a base file: the components in its bits come from their standard places
+-- in the bytes, and every other one from the base. MXCSR and PKRU are those of the parts.
+pub record IsOfParts (rows : List Row) (bytes : List ℕ) (parts : Parts) (base file : File) : Type 0 where
   pub rows_are : file.rows ≡ rows
   pub present : (i : ℕ) (r : Row) → slice_get rows i ≡ Some r → (r.comp.0 ≡ 9 → ⊥) → has parts.bits.0 r.comp.0 ≡ true → StandsAt bytes r.offset file r.comp.0
-  pub absent : (i : ℕ) (r : Row) → slice_get rows i ≡ Some r → (r.comp.0 ≡ 9 → ⊥) → has parts.bits.0 r.comp.0 ≡ false → part file r.comp.0 ≡ initial_part r.comp.0
+  pub absent : (i : ℕ) (r : Row) → slice_get rows i ≡ Some r → (r.comp.0 ≡ 9 → ⊥) → has parts.bits.0 r.comp.0 ≡ false → part file r.comp.0 ≡ part base r.comp.0
   pub control : file.mxcsr ≡ parts.mxcsr
   pub pkru : with_pkru file parts.pkru ≡ file
 

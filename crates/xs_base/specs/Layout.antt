@@ -1,6 +1,6 @@
 -- A machine's table of components: a row each, as CPUID leaf 0DH gives them (SDM volume 1, 13.2). That rows 0 and 1
 -- stand in the table too, that rows rise in number and in place, and every test of a table is this project's own.
-use Rattle.std.specs.Prelude.{◌≡◌, ℕ, ◌+◌, ◌^◌, ◌<◌, ◌≤◌, Bool, true, false, not, ◌&&◌, ◌||◌, ◌==◌, nat_le, nat_lt, List, [], ◌∷◌, length, max, slice_index_or, Option, Some, None, if◌then◌else◌}
+use Rattle.std.specs.Prelude.{◌≡◌, ℕ, ◌+◌, ◌^◌, ◌<◌, ◌≤◌, Bool, true, not, ◌&&◌, ◌||◌, ◌==◌, nat_le, nat_lt, List, [], ◌∷◌, ◌++◌, length, max, slice_index_or, Option, Some, None, if◌then◌else◌}
 use Rattle.std.specs.List.{list_any}
 use Rattle.xs_base.specs.declared.component.Row.{Row}
 use Rattle.xs_base.specs.declared.layout_error.LayoutError.{LayoutError}
@@ -47,7 +47,7 @@ row_of (r ∷ rows) c = if r.comp.0 == c then Some r else row_of rows c
 abbrev pub row_end : Row → ℕ
 row_end r = r.offset + r.size
 
--- ---- the tests of one row, where `before` is the row before it
+-- ---- the tests of one row, where `before` are the rows before it
 
 -- the number is that of a component
 abbrev pub is_known : ℕ → Bool
@@ -56,9 +56,9 @@ is_known number = list_any (λ c. c == number) component_numbers
 abbrev pub is_unknown : Row → Bool
 is_unknown r = not (is_known r.comp.0)
 
-abbrev pub is_repeated : Option Row → Row → Bool
-is_repeated None r = false
-is_repeated (Some before) r = nat_le r.comp.0 before.comp.0
+-- Its number isn't above that of a row before it.
+abbrev pub is_repeated : List Row → Row → Bool
+is_repeated before r = list_any (λ b. nat_le r.comp.0 b.comp.0) before
 
 -- Rows 0 and 1 stand in the legacy region, at 0 and at 160 (SDM volume 1, 13.4.1).
 abbrev pub has_wrong_size : Row → Bool
@@ -79,16 +79,15 @@ most_bytes = 16384
 abbrev pub is_too_large : Row → Bool
 is_too_large r = nat_lt most_bytes (row_end r)
 
--- Below 576 stand the legacy region and the header.
-abbrev pub begins_before : Option Row → Row → Bool
-begins_before None r = nat_lt r.offset 576
-begins_before (Some before) r = nat_lt r.offset 576 || nat_lt r.offset (row_end before)
+-- It begins in the legacy region or the header, or before the end of a row before it.
+abbrev pub begins_before : List Row → Row → Bool
+begins_before before r = nat_lt r.offset 576 || list_any (λ b. nat_lt r.offset (row_end b)) before
 
-abbrev pub overlaps : Option Row → Row → Bool
+abbrev pub overlaps : List Row → Row → Bool
 overlaps before r = nat_le 2 r.comp.0 && begins_before before r
 
 -- the first test that the row fails
-unfoldable pub row_error : Option Row → Row → Option LayoutError
+unfoldable pub row_error : List Row → Row → Option LayoutError
 row_error before r = first_of (
     (is_unknown r, errors.UnknownComponent)
     ∷ (is_repeated before r, errors.Repeated)
@@ -118,10 +117,10 @@ abbrev pub fault_or : Option ℕ → Option LayoutError → Option LayoutFault �
 fault_or at (Some error) later = Some (record { row = at; error = error })
 fault_or at None later = later
 
--- The first row that fails, by its place, and its error. `before` is the row before these, `at` the place of their first.
-unfoldable pub first_row_fault : Option Row → ℕ → List Row → Option LayoutFault
-first_row_fault before at [] = None
-first_row_fault before at (r ∷ rows) = fault_or (Some at) (row_error before r) (first_row_fault (Some r) (at + 1) rows)
+-- The first row that fails, by its place, and its error. `before` are the rows before these.
+unfoldable pub first_row_fault : List Row → List Row → Option LayoutFault
+first_row_fault before [] = None
+first_row_fault before (r ∷ rows) = fault_or (Some (length before)) (row_error before r) (first_row_fault (before ++ r ∷ []) rows)
 
 abbrev pub fault_else : Option LayoutFault → Option LayoutFault → Option LayoutFault
 fault_else (Some fault) later = Some fault
@@ -129,7 +128,7 @@ fault_else None later = later
 
 -- the first test that a list of rows fails: each row in turn, then the table
 unfoldable pub layout_fault : List Row → Option LayoutFault
-layout_fault rows = fault_else (first_row_fault None 0 rows) (fault_or None (table_error rows) None)
+layout_fault rows = fault_else (first_row_fault [] rows) (fault_or None (table_error rows) None)
 
 -- The rows are a machine's table: they pass every test.
 abbrev pub IsLayout : List Row → Type 0

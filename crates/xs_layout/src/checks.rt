@@ -1,6 +1,6 @@
-//! The tests of a machine's table: of a row behind the row before, and of the whole.
+//! The tests of a machine's table: of a row behind the rows before it, and of the whole.
 
-ghost use Rattle.std.specs.Prelude.{◌≡◌, None};
+ghost use Rattle.std.specs.Prelude.{◌≡◌, []};
 ghost use Rattle.xs_base.specs.Layout as table;
 ghost use Rattle.xs_base.specs.Component as component;
 
@@ -14,11 +14,11 @@ const SIZES: [u32; 19] = [
     160, 256, 256, 0, 0, 64, 512, 1024, 0, 8, 0, 0, 0, 0, 0, 0, 0, 64, 8192,
 ];
 
-/// The first test that a row fails behind the row before it, None where it passes them all. The tests of one row come
+/// The first test that a row fails behind the rows before it, None where it passes them all. The tests of one row come
 /// in the order of `LayoutError`, from `UnknownComponent` to `Overlap`.
 #[tactic(auto, unfolding(xs_base::specs::Layout::row_error))]
-pub fn row_error(before: Option<Row>, row: Row) -> Option<LayoutError>
-    ensures { result ≡ table.row_error before row }
+pub fn row_error(before: &[Row], row: Row) -> Option<LayoutError>
+    ensures { result ≡ table.row_error before.now row }
 {
     if !is_known(row.comp) {
         return Some(LayoutError::UnknownComponent);
@@ -89,13 +89,11 @@ pub fn component_size(c: Comp) -> u32
     }
 }
 
-fn is_repeated(before: Option<Row>, row: Row) -> bool
-    ensures { result ≡ table.is_repeated before row }
+/// Whether the row's number isn't above that of a row before it.
+fn is_repeated(before: &[Row], row: Row) -> bool
+    ensures { result ≡ table.is_repeated before.now row }
 {
-    match before {
-        Some(before) => row.comp.0 <= before.comp.0,
-        None => false,
-    }
+    before.iter().any(|other| row.comp.0 <= other.comp.0)
 }
 
 /// Whether the size isn't the component's, or the row is one of the legacy region and stands elsewhere.
@@ -117,35 +115,32 @@ fn has_wrong_flags(row: Row) -> bool
         || (row.comp.0 <= 1 && row.flags != 0)
 }
 
-fn overlaps(before: Option<Row>, row: Row) -> bool
-    ensures { result ≡ table.overlaps before row }
+/// Whether the row begins where another stands. Rows 0 and 1 have places of their own.
+fn overlaps(before: &[Row], row: Row) -> bool
+    ensures { result ≡ table.overlaps before.now row }
 {
     row.comp.0 >= 2 && begins_before(before, row)
 }
 
-/// Whether the row begins before the end of the header, or of the row before.
-fn begins_before(before: Option<Row>, row: Row) -> bool
-    ensures { result ≡ table.begins_before before row }
+/// Whether the row begins before the end of the header, or of a row before it.
+fn begins_before(before: &[Row], row: Row) -> bool
+    ensures { result ≡ table.begins_before before.now row }
 {
-    match before {
-        Some(before) => row.offset < 576 || (row.offset as u64) < end_of_row(before),
-        None => row.offset < 576,
-    }
+    let begin = u64::from(row.offset);
+    begin < 576 || before.iter().any(|other| begin < end_of_row(*other))
 }
 
 /// The first row that fails, by its place in the list, and its error.
 pub(crate) fn first_row_fault(rows: &[Row]) -> Option<LayoutFault>
-    ensures { result ≡ table.first_row_fault None 0 rows.now }
+    ensures { result ≡ table.first_row_fault [] rows.now }
 {
-    let mut before = None;
     'each: for (i, row) in rows.iter().enumerate() {
-        if let Some(error) = row_error(before, *row) {
+        if let Some(error) = row_error(&rows[..i], *row) {
             return Some(LayoutFault {
                 row: Some(i as u32),
                 error,
             });
         }
-        before = Some(*row);
     }
     None
 }

@@ -1,1 +1,2 @@
 pub mod LatestTurn
+pub mod FilesStay

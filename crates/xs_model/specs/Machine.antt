@@ -2,7 +2,7 @@
 -- its whole register file; a bank, a save area or an owner mark is nowhere in it. One relation stands for each kind
 -- of event; an event of a kind that no line of this version makes is no step.
 use Rattle.std.specs.Prelude.{◌≡◌, ℕ, ◌+◌, ◌<◌, Bool, true, false, ◌==◌, nat_lt, List, [], ◌∷◌, ◌++◌, length, map, slice_get, slice_set, Option, Some, None, if◌then◌else◌}
-use Rattle.std.specs.List.{list_any}
+use Rattle.std.specs.List.{list_any, AllByRecursion}
 use Rattle.xs_base.specs.declared.component.Row.{Row}
 use Rattle.xs_base.specs.declared.component.Place.{Place}
 use Rattle.xs_base.specs.declared.words.How.{How}
@@ -10,7 +10,7 @@ use Rattle.xs_base.specs.declared.words.How.TheVariants.{Load, Skip, Kern}
 use Rattle.xs_base.specs.declared.words.Signo.{Signo}
 use Rattle.xs_base.specs.File.{read_place, write_place}
 use Rattle.xs_base.specs.Register.{IsRegister}
-use Rattle.xs_base.specs.Task.{PrivateTask, root_task, parked}
+use Rattle.xs_base.specs.Task.{PrivateTask, IsFileOf, root_task, parked}
 use Rattle.xs_model.specs.declared.script.BlockKind.{BlockKind}
 use Rattle.xs_model.specs.declared.script.BlockKind.TheVariants.{Task, Child, Kthread}
 use Rattle.xs_model.specs.declared.script.Command.{Command}
@@ -165,3 +165,9 @@ Step m (Outer t line reply) n = ⊥
 Step m (Grow t) n = ⊥
 Step m (Kill t signo why) n = ⊥
 Step m (End t) n = Ends m t n
+
+-- A state of the script's machine: as many blocks as the script has, each with a file that a task may have.
+pub record IsMachineOf (script : Script) (m : Machine) : Type 0 where
+  pub script_is : m.script ≡ script
+  pub count : length m.blocks ≡ length script.blocks
+  pub files : AllByRecursion (λ (block : BlockState). IsFileOf script.layout block.task.file) m.blocks

@@ -7,6 +7,7 @@
 mod event;
 mod items;
 mod look_back;
+mod machine;
 mod name;
 mod script;
 mod stage;
@@ -16,6 +17,7 @@ mod tests;
 pub use event::{Event, History, Reply, Why};
 pub use items::Items;
 pub use look_back::held;
+pub use machine::files_stay_valid;
 pub use name::Name;
 pub use script::{Block, BlockKind, Command, Named, Order, Script};
 pub use stage::Stage;

@@ -1,5 +1,7 @@
 //! A script: a machine and the blocks of lines that run on it.
 
+ghost use Rattle.std.specs.Prelude.{◌<◌, ◌^◌};
+
 use crate::items::Items;
 use crate::name::Name;
 use xs_base::Lane;
@@ -43,6 +45,8 @@ pub struct Order {
     pub number: u32,
     /// What the line asks.
     pub command: Command,
+    /// Definitions see any number here.
+    pub ghost in_range: { number < 2 ^ 32 },
 }
 
 /// A block: the lines between its first line and `end`. The handler is empty where there is none.

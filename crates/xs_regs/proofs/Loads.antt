@@ -1,22 +1,18 @@
 -- One component of a file that takes bytes, or becomes initial.
-use Rattle.std.proofs.Common.{◌≡◌, ◌⊎◌, inl, inr, ℕ, ◌+◌, ◌-◌, ◌<◌, ◌≤◌, Bool, true, false, not, ◌&&◌, List, [], map, length, get_or, set, Vec, Global, ◌++◌, if◌then◌else◌, refl, sym, ap, ◌∙◌, arith, rules, length-append}
+use Rattle.std.proofs.Common.{◌≡◌, ◌⊎◌, inl, inr, ℕ, ◌+◌, ◌-◌, ◌<◌, ◌≤◌, Bool, true, false, not, ◌&&◌, List, [], map, length, get_or, set, Vec, Global, if◌then◌else◌, refl, sym, ap, ◌∙◌, arith}
 use Rattle.std.proofs.lemmas.Bool.{cases_lt, cases_eq, false≢true}
-use Rattle.std.proofs.lemmas.Bool.Decides.{nat_tests}
-use Rattle.std.proofs.lemmas.List.{get_or_past, length-map, length-set, places, ext_get_or}
+use Rattle.std.proofs.lemmas.List.{get_or_past, length-map, length-set, ext_get_or}
 use Rattle.std.proofs.lemmas.List.FromFn.{get_or-map-range_with_len, length-map-range_with_len}
 use Rattle.std.specs.List.{range_with_len}
 use Rattle.std.specs.Vec.{with_items}
-use Rattle.std.specs.Int.{to_le_bytes, w32}
 use Rattle.xs_base.specs.declared.component.Row.{Row}
-use Rattle.xs_base.specs.Bytes.{zeros, is_within}
+use Rattle.xs_base.specs.Bytes.{is_within}
 use Rattle.xs_base.specs.Component.{component_count, component_size, initial_part}
 use Rattle.xs_base.specs.File.{File, part, with_part, is_own, IsFile}
-use Rattle.xs_base.specs.Layout.{has_row}
 use Rattle.xs_base.specs.Standard.{IsCleaned}
 use Rattle.xs_base.proofs.ByteLemmas.{within_in}
-use Rattle.xs_base.proofs.ComponentLemmas.{length_initial, length_zeros, zero_at, pkru_size}
-use Rattle.xs_base.proofs.FileLemmas.{part_here, part_other, initial_clean}
-pub use Rattle.xs_base.proofs.FileLemmas.{other_is_file, pkru_is_file, pkru_length}
+use Rattle.xs_base.proofs.ComponentLemmas.{length_initial}
+use Rattle.xs_base.proofs.FileLemmas.{part_here, part_other, initial_clean, other_is_file}
 use Rattle.xs_regs.proofs.Parts.{shown, shown_at, shown_file, shown_written}
 use Rattle.xs_regs.specs.Loads.{IsCleanCopy, IsPartLoaded}
 

@@ -118,10 +118,10 @@ fn tile_row(tile: u8, row: &[u8]) -> Option<Place>
 fn find_named(name: &[u8]) -> Option<Place>
     ensures { Finds (IsNamed name.now) result }
 {
-    if let Some(place) = find_alone(&SINGLES, name) {
+    if let Some(place) = find_numbered(&FAMILIES, name) {
         return Some(place);
     }
-    if let Some(place) = find_numbered(&FAMILIES, name) {
+    if let Some(place) = find_alone(&SINGLES, name) {
         return Some(place);
     }
     find_tile_row(name)

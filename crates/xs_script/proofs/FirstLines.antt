@@ -1,5 +1,5 @@
 -- The first line of a text and its first word, where it is a line.
-use Rattle.std.proofs.Common.{◌≡◌, ℕ, Bool, true, false, List, ◌∷◌, ◌++◌, Option, Some, None, Ok, Err, ◌&&◌, ◌||◌, nat_le, inl, inr, codes, refl, ◌∙◌, ap}
+use Rattle.std.proofs.Common.{◌≡◌, ℕ, Bool, true, false, List, ◌∷◌, ◌++◌, Option, Some, None, Ok, Err, ◌&&◌, ◌||◌, nat_le, inl, inr, codes, refl, sym, ◌∙◌, ap}
 use Rattle.std.specs.Prelude.{bytes_eq, if◌then◌else◌}
 use Rattle.std.specs.List.{list_any}
 use Rattle.std.proofs.lemmas.Bool.Decides.{eqb_tells}
@@ -8,14 +8,15 @@ use Rattle.xs_base.specs.Layout.{table_error}
 use Rattle.xs_model.specs.declared.script.Command.TheVariants as commands
 use Rattle.xs_script.specs.declared.line.Line.{Line}
 use Rattle.xs_script.specs.declared.line.Line.TheVariants as lines
-use Rattle.xs_script.specs.ScriptLine.{line_text, IsLine}
+use Rattle.xs_script.specs.ScriptLine.{line_text, IsLine, IsNumber, kept_line}
 use Rattle.xs_script.specs.declared.refusal.Kind.TheVariants.{NotBuilt, Limit}
 use Rattle.xs_script.specs.declared.refusal.LimitName.TheVariants as limits
 use Rattle.xs_script.specs.LineOrder.{Stand, AtVersion, AtMachine, AtRow, AtCpus, AtQuantum, AtLarge, AtBlock, InBlock, next, after_cpus, after_rows}
 use Rattle.xs_script.specs.Refusal.{first_line, first_word, is_unbuilt, unbuilt_words, unbuilt_cpus, before}
 use Rattle.xs_script.proofs.Cuts.{before_cut}
 use Rattle.xs_script.proofs.Spellings.{Lacks_line}
-use Rattle.xs_script.proofs.Unbuilt.{one_is_built}
+use Rattle.xs_script.specs.Parts.{is_unbuilt_line}
+use Rattle.xs_script.proofs.Unbuilt.{one_is_built, count_unbuilt}
 
 -- the line is a row
 abbrev pub is_row_line : Line → Bool
@@ -103,3 +104,40 @@ built_line stand mid lines.End h = refl
 -- a line that leads on is of a form that this version has
 pub not_unbuilt : (stand mid : Stand) (l : Line) (text rest : List ℕ) → IsLine l → text ≡ line_text l ++ 10 ∷ rest → next stand l ≡ Ok mid → is_unbuilt text ≡ false
 not_unbuilt stand mid l text rest fits e leads = ap unbuilt_line (first_line_is l text rest fits e) ∙ built_line stand mid l leads
+
+-- ---- the test of unbuilt forms, by the line
+
+-- a number of processors
+unbuilt_cpus_line : (n : ℕ) → IsNumber n → unbuilt_line (line_text (lines.Cpus n)) ≡ is_unbuilt_line (lines.Cpus n)
+unfolding unbuilt_words
+unbuilt_cpus_line n fits = count_unbuilt n fits
+
+-- what the test sees of a line's text
+unbuilt_text : (l : Line) → IsLine l → unbuilt_line (line_text l) ≡ is_unbuilt_line l
+unfolding unbuilt_words unbuilt_cpus
+unbuilt_text lines.Version fits = refl
+unbuilt_text (lines.Machine named) fits = refl
+unbuilt_text (lines.Row r) fits = refl
+unbuilt_text (lines.Cpus n) fits = unbuilt_cpus_line n fits
+unbuilt_text (lines.Quantum n) fits = refl
+unbuilt_text (lines.Large n) fits = refl
+unbuilt_text (lines.Task name) fits = refl
+unbuilt_text (lines.Order (commands.Set reg bytes)) fits = refl
+unbuilt_text (lines.Order (commands.Get reg)) fits = refl
+unbuilt_text lines.End fits = refl
+
+-- The same of what is kept of the line.
+kept_is_unbuilt : (l : Line) → is_unbuilt_line (kept_line l) ≡ is_unbuilt_line l
+kept_is_unbuilt lines.Version = refl
+kept_is_unbuilt (lines.Machine named) = refl
+kept_is_unbuilt (lines.Row r) = refl
+kept_is_unbuilt (lines.Cpus n) = refl
+kept_is_unbuilt (lines.Quantum n) = refl
+kept_is_unbuilt (lines.Large n) = refl
+kept_is_unbuilt (lines.Task name) = refl
+kept_is_unbuilt (lines.Order command) = refl
+kept_is_unbuilt lines.End = refl
+
+-- A text's first line is of an unbuilt form where what is kept of it is.
+pub kept_unbuilt : (l kept : Line) (text rest : List ℕ) → IsLine l → text ≡ line_text l ++ 10 ∷ rest → kept ≡ kept_line l → is_unbuilt text ≡ is_unbuilt_line kept
+kept_unbuilt l kept text rest fits e is = ap unbuilt_line (first_line_is l text rest fits e) ∙ unbuilt_text l fits ∙ sym (kept_is_unbuilt l) ∙ sym (ap is_unbuilt_line is)

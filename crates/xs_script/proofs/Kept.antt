@@ -1,5 +1,5 @@
 -- What a reader keeps of a line: mostly the line, and of a row what its test answers.
-use Rattle.std.proofs.Common.{◌≡◌, ℕ, ◌<◌, ◌≤◌, false, min, List, [], length, Option, Some, None, inl, inr, refl, ap, sym, ◌∙◌, arith}
+use Rattle.std.proofs.Common.{◌≡◌, ℕ, ◌<◌, ◌≤◌, false, min, List, [], length, Some, None, inl, inr, refl, ap, sym, ◌∙◌, arith}
 use Rattle.std.proofs.lemmas.Bool.{cases_lt}
 use Rattle.std.proofs.lemmas.Bool.Decides.{nat_tests}
 use Rattle.xs_base.specs.declared.component.Row.{Row}
@@ -61,12 +61,12 @@ unknown_above : (n : ℕ) → 18 < n → is_known n ≡ false
 unknown_above n h = grind (arith, nat_tests)
 
 -- a row of such a number fails the first test
-unknown_error : (before : Option Row) (r : Row) → is_known r.comp.0 ≡ false → row_error before r ≡ Some errors.UnknownComponent
+unknown_error : (before : List Row) (r : Row) → is_known r.comp.0 ≡ false → row_error before r ≡ Some errors.UnknownComponent
 unfolding row_error
 unknown_error before r h = rw h refl
 
 -- what is kept of a row fails the same test
-pub kept_row_error : (before : Option Row) (r : Row) → row_error before (kept_row r) ≡ row_error before r
+pub kept_row_error : (before : List Row) (r : Row) → row_error before (kept_row r) ≡ row_error before r
 kept_row_error before r = elim (cases_lt 255 r.comp.0) [
   | inl above ↦
       unknown_error before (kept_row r) (unknown_above (min r.comp.0 255) (omega arith)) ∙ sym (unknown_error before r (unknown_above r.comp.0 (omega arith)))
@@ -74,5 +74,5 @@ kept_row_error before r = elim (cases_lt 255 r.comp.0) [
 ]
 
 -- of a row that passes, the whole is kept
-pub kept_row_is : (before : Option Row) (r : Row) → row_error before r ≡ None → kept_row r ≡ r
+pub kept_row_is : (before : List Row) (r : Row) → row_error before r ≡ None → kept_row r ≡ r
 kept_row_is before r h = let number = (passes_sound before r (passes before r h)).number in kept_same_row r (omega arith)

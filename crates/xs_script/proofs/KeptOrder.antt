@@ -8,7 +8,7 @@ use Rattle.xs_script.specs.declared.line.Line.TheVariants as lines
 use Rattle.xs_script.specs.declared.head.Stage.{Stage}
 use Rattle.xs_script.specs.declared.head.Stage.TheVariants as stages
 use Rattle.xs_script.specs.ScriptLine.{kept_line, kept_row}
-use Rattle.xs_script.specs.LineOrder.{Stand, AtVersion, AtMachine, AtRow, AtCpus, AtQuantum, AtLarge, AtBlock, InBlock, next, after_row, last_row}
+use Rattle.xs_script.specs.LineOrder.{Stand, AtVersion, AtMachine, AtRow, AtCpus, AtQuantum, AtLarge, AtBlock, InBlock, next, after_row}
 use Rattle.xs_script.specs.Head.{stage_stand}
 use Rattle.xs_script.proofs.Kept.{kept_row_error, kept_row_is}
 
@@ -19,8 +19,8 @@ same_row_test rows r k (Some e) h = refl
 
 pub kept_next_row : (rows : List Row) (r : Row) → next (AtRow rows) (lines.Row (kept_row r)) ≡ next (AtRow rows) (lines.Row r)
 kept_next_row rows r =
-    ap (λ (e : Option LayoutError). after_row rows (kept_row r) e) (kept_row_error (last_row rows) r)
-    ∙ same_row_test rows r (kept_row r) (row_error (last_row rows) r) (λ e. kept_row_is (last_row rows) r e)
+    ap (λ (e : Option LayoutError). after_row rows (kept_row r) e) (kept_row_error rows r)
+    ∙ same_row_test rows r (kept_row r) (row_error rows r) (λ e. kept_row_is rows r e)
 
 pub kept_next : (stand : Stand) (l : Line) → next stand (kept_line l) ≡ next stand l
 kept_next stand lines.Version = refl
@@ -48,8 +48,8 @@ kept_next (InBlock names) (lines.Order command) = refl
 kept_next stand lines.End = refl
 
 -- a row that leads on is kept
-row_is_kept : (rows : List Row) (r : Row) (mid : Stand) (e : Option LayoutError) → row_error (last_row rows) r ≡ e → after_row rows r e ≡ Ok mid → kept_row r ≡ r
-row_is_kept rows r mid None is h = kept_row_is (last_row rows) r is
+row_is_kept : (rows : List Row) (r : Row) (mid : Stand) (e : Option LayoutError) → row_error rows r ≡ e → after_row rows r e ≡ Ok mid → kept_row r ≡ r
+row_is_kept rows r mid None is h = kept_row_is rows r is
 row_is_kept rows r mid (Some error) is h = absurd (cc h)
 
 -- Before the blocks a line that leads on is kept whole.
@@ -58,7 +58,7 @@ kept_of_head stage rows lines.Version mid h = refl
 kept_of_head stage rows (lines.Machine named) mid h = refl
 kept_of_head stages.Version rows (lines.Row r) mid h = absurd (cc h)
 kept_of_head stages.Machine rows (lines.Row r) mid h = absurd (cc h)
-kept_of_head stages.Row rows (lines.Row r) mid h = ap lines.Row (row_is_kept rows r mid (row_error (last_row rows) r) refl h)
+kept_of_head stages.Row rows (lines.Row r) mid h = ap lines.Row (row_is_kept rows r mid (row_error rows r) refl h)
 kept_of_head stages.Cpus rows (lines.Row r) mid h = absurd (cc h)
 kept_of_head stages.Quantum rows (lines.Row r) mid h = absurd (cc h)
 kept_of_head stages.Large rows (lines.Row r) mid h = absurd (cc h)

@@ -5,6 +5,7 @@ pub mod Lanes
 pub mod HexText
 pub mod Spellings
 pub mod FirstLines
+pub mod FirstWords
 pub mod Kept
 pub mod HeadRows
 pub mod Fronts
@@ -15,7 +16,9 @@ pub mod Unbuilt
 pub mod BodyLines
 pub mod CommandFaults
 pub mod KnownLines
+pub mod Outlines
 pub mod Numbering
 pub mod WholeScripts
 pub mod OneRefusal
 pub mod SpelledLines
+pub mod EveryText

@@ -1,28 +1,23 @@
 -- Readers of one line, part by part.
-use Rattle.std.proofs.Common.{◌≡◌, ℕ, ◌<◌, ◌≤◌, ◌*◌, ◌/◌, Bool, true, false, List, [], ◌∷◌, ◌++◌, length, Option, Some, None, refl, sym, ◌∙◌, ap, arith, codes, decimal}
+use Rattle.std.proofs.Common.{◌≡◌, ℕ, ◌<◌, ◌≤◌, ◌*◌, Bool, true, false, List, [], ◌∷◌, ◌++◌, length, Some, refl, sym, ◌∙◌, ap, arith, decimal}
 use Rattle.std.specs.Prelude.{nat_eq}
 use Rattle.std.specs.Cmp.Lexicographic.{pointwise}
 use Rattle.std.proofs.lemmas.Bool.Decides.{Decides-eqb}
-use Rattle.std.proofs.lemmas.List.{append_cancel_left}
 use Rattle.std.proofs.lemmas.Slice.Eq.{slice_eq-Decides}
 use Rattle.hex.specs.Hex.{encode_lower, lower_digits}
 use Rattle.hex.proofs.HexLemmas.{length-encode_with}
 use Rattle.xs_base.specs.declared.component.Row.{Row}
 use Rattle.xs_base.specs.Layout.{row}
 use Rattle.xs_script.specs.declared.line.Line.{Line}
-use Rattle.xs_script.specs.ScriptLine.{line_text, IsLine, IsNumber, row_text, kept_bytes}
-use Rattle.xs_script.specs.Reads.{Reads, ReadsAs, Lacks}
+use Rattle.xs_script.specs.declared.line.Line.TheVariants as lines
+use Rattle.xs_script.specs.ScriptLine.{line_text, IsLine, IsNumber, row_text, kept_bytes, is_register_word}
+use Rattle.xs_script.specs.Reads.{ReadsAs, Lacks}
 use Rattle.xs_script.specs.Refusal.{NoLine}
-use Rattle.xs_script.specs.Parts.{IsValue, IsLane, is_hex_text, row_line_text, IsRow, set_text, IsSet}
+use Rattle.xs_script.specs.Parts.{IsValue, IsSpelledBy, is_hex_text}
 use Rattle.xs_script.proofs.Cuts.{one_cut, no_cut, Lacks-register}
 use Rattle.xs_script.proofs.HexText.{hex_text, hex_text_bytes}
 use Rattle.xs_script.proofs.Kept.{kept_same_bytes, kept_long}
 use Rattle.xs_script.proofs.Spellings.{Lacks_line, lacks_space, one_pair}
-
--- what was read after a word
-pub reads_after : {A : Type 0} (text : A → List ℕ) (Fits : A → Type 0) (word line rest : List ℕ) (r : Option A) → line ≡ word ++ rest → Reads text Fits r rest → Reads (λ x. word ++ text x) Fits r line
-reads_after text Fits word line rest None e h = λ x fits spelled. h x fits (append_cancel_left word _ _ (sym e ∙ spelled))
-reads_after text Fits word line rest (Some x) e h = (h.0, e ∙ ap (λ (t : List ℕ). word ++ t) h.1)
 
 -- ---- hex
 
@@ -37,14 +32,11 @@ no_bytes text none x fits e =
     let long = length_hex x text e in
     omega arith
 
--- what fits a lane is kept
-pub reads_short : (text : List ℕ) (r : Option (List ℕ)) → 0 < length text → length text ≤ 128 → Reads encode_lower (IsLane (length text / 2)) r text → ReadsAs encode_lower IsValue kept_bytes r text
-reads_short text None some short h = λ x fits e.
-    let long = length_hex x text e in
-    h x (omega arith, fits.1) e
-reads_short text (Some x) some short h =
-    let long = length_hex x text h.1 in
-    (x, (omega arith, h.0.1), h.1, sym (kept_same_bytes x (omega arith)))
+-- what is decoded of hex text is what the text spells
+pub reads_short : (text bytes : List ℕ) → 0 < length text → length text ≤ 128 → IsSpelledBy bytes text → ReadsAs encode_lower IsValue kept_bytes (Some bytes) text
+reads_short text bytes some short h =
+    let long = length_hex bytes text h.spelled in
+    (bytes, (omega arith, h.fits), h.spelled, sym (kept_same_bytes bytes (omega arith)))
 
 -- of a longer text nothing is kept
 pub reads_long : (text : List ℕ) → 128 < length text → is_hex_text text ≡ true → ReadsAs encode_lower IsValue kept_bytes (Some []) text
@@ -63,37 +55,28 @@ reads_other text x other fits e = let t = hex_text x fits.1 in cc (sym other ∙
 pub no_number : (words front rest : List ℕ) → words ≡ front ++ 32 ∷ rest → Lacks 32 front → ((n : ℕ) → IsNumber n → front ≡ decimal n → ⊥) → (n : ℕ) (more : List ℕ) → IsNumber n → words ≡ decimal n ++ 32 ∷ more → ⊥
 no_number words front rest cut lacks none n more fits e = none n fits (one_cut 32 front (decimal n) rest more lacks (lacks_space n fits) (sym cut ∙ e)).0
 
--- the words after `row`
-pub row_words : (line words : List ℕ) (r : Row) → line ≡ codes "row " ++ words → line ≡ row_line_text r → words ≡ row_text r
-row_words line words r e spelled = append_cancel_left (codes "row ") words (row_text r) (sym e ∙ spelled)
-
 -- the words after one number and the next
 pub next_words : (m n : ℕ) (words x y : List ℕ) → IsNumber m → IsNumber n → words ≡ decimal m ++ 32 ∷ x → words ≡ decimal n ++ 32 ∷ y → x ≡ y
 next_words m n words x y fm fn e spelled = (one_pair m n x y fm fn (sym e ∙ spelled)).1
 
 -- the words after the first number of a row, the second and the third
-pub size_words : (line words w : List ℕ) (n : ℕ) (r : Row) → line ≡ codes "row " ++ words → IsNumber n → words ≡ decimal n ++ 32 ∷ w → IsRow r → line ≡ row_line_text r → w ≡ decimal r.size ++ 32 ∷ (decimal r.offset ++ 32 ∷ decimal r.flags)
-size_words line words w n r e fn cut fits spelled = next_words n r.comp.0 words w _ fn fits.0 cut (row_words line words r e spelled)
+pub size_words : (words w : List ℕ) (n : ℕ) (r : Row) → IsNumber n → words ≡ decimal n ++ 32 ∷ w → IsLine (lines.Row r) → words ≡ row_text r → w ≡ decimal r.size ++ 32 ∷ (decimal r.offset ++ 32 ∷ decimal r.flags)
+size_words words w n r fn cut fits spelled = next_words n r.comp.0 words w _ fn fits.0 cut spelled
 
-pub offset_words : (line words w v : List ℕ) (n m : ℕ) (r : Row) → line ≡ codes "row " ++ words → IsNumber n → words ≡ decimal n ++ 32 ∷ w → IsNumber m → w ≡ decimal m ++ 32 ∷ v → IsRow r → line ≡ row_line_text r → v ≡ decimal r.offset ++ 32 ∷ decimal r.flags
-offset_words line words w v n m r e fn cut fm again fits spelled = next_words m r.size w v _ fm fits.1 again (size_words line words w n r e fn cut fits spelled)
+pub offset_words : (words w v : List ℕ) (n m : ℕ) (r : Row) → IsNumber n → words ≡ decimal n ++ 32 ∷ w → IsNumber m → w ≡ decimal m ++ 32 ∷ v → IsLine (lines.Row r) → words ≡ row_text r → v ≡ decimal r.offset ++ 32 ∷ decimal r.flags
+offset_words words w v n m r fn cut fm again fits spelled = next_words m r.size w v _ fm fits.1 again (size_words words w n r fn cut fits spelled)
 
-pub flag_words : (line words w v u : List ℕ) (n m o : ℕ) (r : Row) → line ≡ codes "row " ++ words → IsNumber n → words ≡ decimal n ++ 32 ∷ w → IsNumber m → w ≡ decimal m ++ 32 ∷ v → IsNumber o → v ≡ decimal o ++ 32 ∷ u → IsRow r → line ≡ row_line_text r → u ≡ decimal r.flags
-flag_words line words w v u n m o r e fn cut fm again fo once fits spelled = next_words o r.offset v u _ fo fits.2 once (offset_words line words w v n m r e fn cut fm again fits spelled)
+pub flag_words : (words w v u : List ℕ) (n m o : ℕ) (r : Row) → IsNumber n → words ≡ decimal n ++ 32 ∷ w → IsNumber m → w ≡ decimal m ++ 32 ∷ v → IsNumber o → v ≡ decimal o ++ 32 ∷ u → IsLine (lines.Row r) → words ≡ row_text r → u ≡ decimal r.flags
+flag_words words w v u n m o r fn cut fm again fo once fits spelled = next_words o r.offset v u _ fo fits.2 once (offset_words words w v n m r fn cut fm again fits spelled)
 
 -- four numbers with a space between each two
-pub row_joined : (line words w v u : List ℕ) (n m o f : ℕ) → line ≡ codes "row " ++ words → words ≡ decimal n ++ 32 ∷ w → w ≡ decimal m ++ 32 ∷ v → v ≡ decimal o ++ 32 ∷ u → u ≡ decimal f → line ≡ row_line_text (row n m o f)
-row_joined line words w v u n m o f a b c d e = cc
+pub row_joined : (words w v u : List ℕ) (n m o f : ℕ) → words ≡ decimal n ++ 32 ∷ w → w ≡ decimal m ++ 32 ∷ v → v ≡ decimal o ++ 32 ∷ u → u ≡ decimal f → words ≡ row_text (row n m o f)
+row_joined words w v u n m o f b c d e = cc
 
 -- the register and the digits of a command that sets
-pub set_parts : (line words reg digits : List ℕ) (x : List ℕ × List ℕ) → line ≡ codes "set " ++ words → words ≡ reg ++ 32 ∷ digits → Lacks 32 reg → IsSet x → line ≡ set_text x → (reg ≡ x.0) × (digits ≡ encode_lower x.1)
-set_parts line words reg digits x e cut lacks fits spelled =
-    let tail = append_cancel_left (codes "set ") words (x.0 ++ 32 ∷ encode_lower x.1) (sym e ∙ spelled) in
-    one_cut 32 reg x.0 digits (encode_lower x.1) lacks (Lacks-register 32 x.0 refl fits.0) (sym cut ∙ tail)
-
--- and both again
-pub set_joined : (line words front digits reg bytes : List ℕ) → line ≡ codes "set " ++ words → words ≡ front ++ 32 ∷ digits → front ≡ reg → digits ≡ encode_lower bytes → line ≡ set_text (reg, bytes)
-set_joined line words front digits reg bytes a b c d = cc
+pub set_parts : (words reg digits name bytes : List ℕ) → words ≡ reg ++ 32 ∷ digits → Lacks 32 reg → is_register_word name ≡ true → words ≡ name ++ 32 ∷ encode_lower bytes → (reg ≡ name) × (digits ≡ encode_lower bytes)
+set_parts words reg digits name bytes cut lacks fits spelled =
+    one_cut 32 reg name digits (encode_lower bytes) lacks (Lacks-register 32 name refl fits) (sym cut ∙ spelled)
 
 -- ---- the first line of a text
 

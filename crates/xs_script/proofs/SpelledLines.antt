@@ -1,10 +1,11 @@
 -- The lines of a script that a text spells.
-use Rattle.std.proofs.Common.{◌≡◌, ℕ, ◌+◌, ◌<◌, ◌≤◌, Bool, true, false, ◌&&◌, ◌||◌, ◌==◌, nat_le, nat_lt, List, [], ◌∷◌, ◌++◌, length, map, Option, Some, None, Ok, refl, sym, ◌∙◌, ap, subst, arith, length-append}
+use Rattle.std.proofs.Common.{◌≡◌, ℕ, ◌+◌, ◌<◌, ◌≤◌, ◌^◌, Bool, true, false, ◌&&◌, ◌||◌, ◌==◌, nat_le, nat_lt, List, [], ◌∷◌, ◌++◌, length, map, Option, Some, None, Ok, refl, sym, ◌∙◌, ap, subst, arith, length-append}
 use Rattle.std.specs.Prelude.{bytes_eq}
 use Rattle.std.specs.List.{AllByRecursion, flat_map, list_any, list_all}
 use Rattle.std.proofs.lemmas.Bool.{lt-leb, le-leb, lt-ltb}
 use Rattle.std.proofs.lemmas.List.{append_assoc, append-nil, append_cancel_left}
 use Rattle.std.proofs.lemmas.Slice.Eq.{bytes_eq-Decides}
+use Rattle.std.proofs.Props.{props}
 use Rattle.xs_base.specs.declared.component.Row.{Row}
 use Rattle.xs_base.specs.declared.component.Place.{Place}
 use Rattle.xs_base.specs.Layout.{IsSound, IsLayout, first_row_fault}
@@ -26,14 +27,14 @@ use Rattle.xs_script.specs.declared.line.Line.TheVariants as lines
 use Rattle.xs_script.specs.declared.refusal.Kind.{Kind}
 use Rattle.xs_script.specs.ScriptLine.{IsLine, IsCommandLine, is_register_byte, is_register_word}
 use Rattle.xs_script.specs.Grammar.{order_lines, block_lines, row_lines, head_lines, script_lines, Spells}
-use Rattle.xs_script.specs.LineOrder.{Stand, AtVersion, AtMachine, AtRow, AtCpus, AtQuantum, AtLarge, AtBlock, InBlock, next, last_row, after_machine, Leads}
+use Rattle.xs_script.specs.LineOrder.{Stand, AtVersion, AtMachine, AtRow, AtCpus, AtQuantum, AtLarge, AtBlock, InBlock, next, after_machine, Leads}
 use Rattle.xs_script.specs.Refusal.{AreLines, Passes, table_of, IsKnown, CommandFails, Refuses, ByLine, ByCommand}
 use Rattle.xs_script.specs.Body.{names_of}
 use Rattle.xs_script.proofs.CommandFaults.{fits_length}
 use Rattle.xs_script.proofs.HeadRows.{row_leads, rows_over}
 use Rattle.xs_script.proofs.Fronts.{all_join, leads_join}
 use Rattle.xs_script.proofs.KnownLines.{all_parts}
-use Rattle.xs_script.proofs.WholeScripts.{HasNoRows, blocks_no_rows, table_of_lines, head_known, may_end_some}
+use Rattle.xs_script.proofs.WholeScripts.{blocks_no_rows, no_rows_table, table_of_lines, head_known, may_end_some}
 use Rattle.xs_script.proofs.OneRefusal.{one_lines, passes_not_refused, known_not_fails}
 
 -- ---- each has a spelling
@@ -42,16 +43,16 @@ use Rattle.xs_script.proofs.OneRefusal.{one_lines, passes_not_refused, known_not
 row_fits : (r : Row) → IsSound r → IsLine (lines.Row r)
 row_fits r h = (omega (arith, h.number), omega (arith, h.ends), omega (arith, h.ends), omega (arith, h.flags))
 
-rows_fit : (before : Option Row) (at : ℕ) (rows : List Row) → first_row_fault before at rows ≡ None → AreLines (map lines.Row rows)
-rows_fit before at [] h = tt
-rows_fit before at (r ∷ rows) h =
-    let parts = row_fault_none before at r rows h in
-    (row_fits r (passes_sound before r (passes before r parts.0)), rows_fit (Some r) (at + 1) rows parts.1)
+rows_fit : (before rows : List Row) → first_row_fault before rows ≡ None → AreLines (map lines.Row rows)
+rows_fit before [] h = tt
+rows_fit before (r ∷ rows) h =
+    let parts = row_fault_none before r rows h in
+    (row_fits r (passes_sound before r (passes before r parts.0)), rows_fit (before ++ r ∷ []) rows parts.1)
 
 machine_fits : (machine : Named) (layout : List Row) → IsLayout layout → AreLines (row_lines machine layout)
 machine_fits Amx layout h = tt
 machine_fits Avx layout h = tt
-machine_fits Rows layout h = rows_fit None 0 layout (layout_parts layout h).0
+machine_fits Rows layout h = rows_fit [] layout (layout_parts layout h).0
 
 or_assoc : (a b c : Bool) → (a || b) || c ≡ a || (b || c)
 or_assoc true b c = refl
@@ -97,16 +98,11 @@ head_fits script h =
 
 -- ---- each leads on
 
-last_push : (done : List Row) (r : Row) → last_row (done ++ r ∷ []) ≡ Some r
-last_push [] r = refl
-last_push (x ∷ []) r = refl
-last_push (x ∷ (y ∷ done)) r = last_push (y ∷ done) r
-
-rows_lead : (at : ℕ) (done rows : List Row) → first_row_fault (last_row done) at rows ≡ None → Leads (AtRow done) (map lines.Row rows) (AtRow (done ++ rows))
-rows_lead at done [] h = ap AtRow (append-nil done)
-rows_lead at done (r ∷ rows) h =
-    let parts = row_fault_none (last_row done) at r rows h in
-    let later = rows_lead (at + 1) (done ++ r ∷ []) rows (rw last_push parts.1) in
+rows_lead : (done rows : List Row) → first_row_fault done rows ≡ None → Leads (AtRow done) (map lines.Row rows) (AtRow (done ++ rows))
+rows_lead done [] h = ap AtRow (append-nil done)
+rows_lead done (r ∷ rows) h =
+    let parts = row_fault_none done r rows h in
+    let later = rows_lead (done ++ r ∷ []) rows parts.1 in
     (AtRow (done ++ r ∷ []), row_leads done r parts.0, subst (λ (rs : List Row). Leads (AtRow (done ++ r ∷ [])) (map lines.Row rows) (AtRow rs)) (append_assoc done (r ∷ []) rows) later)
 
 -- A machine's lines lead to where one processor may be given.
@@ -115,7 +111,7 @@ machine_leads Amx layout h = (AtCpus, refl, refl)
 machine_leads Avx layout h = (AtCpus, refl, refl)
 machine_leads Rows layout h =
     let parts = layout_parts layout h in
-    (AtRow layout, rows_lead 0 [] layout parts.0, rows_over layout 1 parts.1)
+    (AtRow layout, rows_lead [] layout parts.0, rows_over layout 1 parts.1)
 
 quantum_leads : (n : ℕ) → 0 < n → n ≤ 32 → next AtQuantum (lines.Quantum n) ≡ Ok AtLarge
 quantum_leads n some few =
@@ -197,10 +193,6 @@ pub spelled_known : (text : List ℕ) (script : Script) → Spells text script �
 spelled_known text script h =
     all_join (IsKnown script.layout) (head_lines script) (flat_map block_lines script.blocks) (head_known script.layout script) (blocks_are_known script.layout script.blocks h.valid.commands h.built.registers)
 
-no_rows_table : (ls : List Line) → HasNoRows ls → table_of ls ≡ []
-no_rows_table [] h = refl
-no_rows_table (l ∷ ls) h = rw h.0 (no_rows_table ls h.1)
-
 pub spelled_table : (text : List ℕ) (script : Script) → Spells text script → table_of (script_lines script) ≡ script.layout
 spelled_table text script h = table_of_lines script (flat_map block_lines script.blocks) h.valid.machine (no_rows_table (flat_map block_lines script.blocks) (blocks_no_rows script.blocks))
 
@@ -217,8 +209,17 @@ not_both text script number kind h (ByCommand r) =
 
 -- ---- one script
 
+-- Orders of one number and one command are the same: that the number is in its range has one proof.
+abbrev order_of : (n : ℕ) → n < 2 ^ 32 → Command → Order
+order_of n small command = record { number = n; command = command; in_range = small }
+
+one_proof : (n : ℕ) → IsProp (n < 2 ^ 32)
+one_proof n = Prim.hlevel props
+
 same_order : (a b : Order) → a.number ≡ b.number → a.command ≡ b.command → a ≡ b
-same_order a b en ec = ap (λ (n : ℕ). record { number = n; command = a.command }) en ∙ ap (λ (k : Command). record { number = b.number; command = k }) ec
+same_order a b en ec =
+    subst (λ n. (small : n < 2 ^ 32) → a ≡ order_of n small b.command) en
+    (λ small. ap (λ (h : a.number < 2 ^ 32). order_of a.number h a.command) (one_proof a.number a.in_range small) ∙ ap (order_of a.number small) ec) b.in_range
 
 same_orders : (number : ℕ) (x y : List Order) (r s : List Line) → AreNumbered number x → AreNumbered number y → order_lines x ++ lines.End ∷ r ≡ order_lines y ++ lines.End ∷ s → (x ≡ y) × (r ≡ s)
 same_orders number [] [] r s hx hy e = (refl, cc e)

@@ -76,13 +76,13 @@ Lacks_line lines.End fits = lacks_word (codes "end") refl
 -- ---- lines of one text are of one kind
 
 -- the text begins with the word
-abbrev begins : List ℕ → List ℕ → Bool
+abbrev pub begins : List ℕ → List ℕ → Bool
 begins [] bs = true
 begins (p ∷ ps) [] = false
 begins (p ∷ ps) (b ∷ bs) = (p == b) && begins ps bs
 
 -- a number for each kind of line
-abbrev kind : Line → ℕ
+abbrev pub kind : Line → ℕ
 kind lines.Version = 0
 kind (lines.Machine named) = 1
 kind (lines.Row r) = 2
@@ -94,7 +94,7 @@ kind (lines.Order command) = 7
 kind lines.End = 8
 
 -- the kind, read from the first word
-abbrev kind_of : List ℕ → ℕ
+abbrev pub kind_of : List ℕ → ℕ
 kind_of bs =
     if begins (codes "xstate ") bs then 0
     else if begins (codes "machine ") bs then 1
@@ -108,7 +108,7 @@ kind_of bs =
     else 8
 
 -- a line's first word is that of its kind
-kind_is : (l : Line) → kind_of (line_text l) ≡ kind l
+pub kind_is : (l : Line) → kind_of (line_text l) ≡ kind l
 kind_is lines.Version = refl
 kind_is (lines.Machine named) = refl
 kind_is (lines.Row r) = refl
@@ -181,7 +181,7 @@ command_kind (commands.Set reg bytes) = 0
 command_kind (commands.Get reg) = 1
 
 -- the same, read from the first word
-abbrev command_kind_of : List ℕ → ℕ
+abbrev pub command_kind_of : List ℕ → ℕ
 command_kind_of bs = if begins (codes "set ") bs then 0 else 1
 
 command_kind_is : (k : Command) → command_kind_of (command_text k) ≡ command_kind k

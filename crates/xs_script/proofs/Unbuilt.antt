@@ -1,5 +1,5 @@
 -- The numbers of processors that this version doesn't have.
-use Rattle.std.proofs.Common.{◌≡◌, ℕ, ◌+◌, ◌<◌, ◌≤◌, zero, suc, ◌||◌, nat_le, Bool, true, false, List, ◌++◌, map, inl, inr, refl, sym, ◌∙◌, ap, arith, codes, decimal}
+use Rattle.std.proofs.Common.{◌≡◌, ℕ, ◌+◌, ◌<◌, ◌≤◌, zero, suc, ◌&&◌, ◌||◌, nat_le, Bool, true, false, List, ◌++◌, map, inl, inr, refl, sym, ◌∙◌, ap, arith, codes, decimal}
 use Rattle.std.specs.Prelude.{bytes_eq}
 use Rattle.std.specs.Bool.{Decides}
 use Rattle.std.specs.List.{list_any, range_with_len}
@@ -77,3 +77,14 @@ pub count_below_two : (n : ℕ) (line : List ℕ) → IsNumber n → line ≡ co
 count_below_two n line fits e low = above_test 2 n low ∙ sym (no_unbuilt_count line (λ m lo hi same.
     let k = one_number (codes "cpus ") n m fits (omega arith) (sym e ∙ same) in
     omega arith))
+
+-- so the numbers from 2 to 16 are those that aren't built
+pub count_unbuilt : (n : ℕ) → IsNumber n → list_any (λ other. bytes_eq other (codes "cpus " ++ decimal n)) unbuilt_cpus ≡ (nat_le 2 n && nat_le n 16)
+count_unbuilt n fits = elim (cases_lt n 2) [
+  | inl low ↦
+      let t = above_test 2 n low in
+      rw t (sym (count_below_two n (codes "cpus " ++ decimal n) fits refl low) ∙ t)
+  | inr high ↦
+      let t = within_test 2 n high in
+      rw t (sym (count_from_two n (codes "cpus " ++ decimal n) fits refl high))
+]

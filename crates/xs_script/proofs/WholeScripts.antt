@@ -1,35 +1,40 @@
 -- A script and the lines that it was read from.
-use Rattle.std.proofs.Common.{◌≡◌, ℕ, ◌+◌, ◌<◌, true, List, [], ◌∷◌, ◌++◌, length, map, refl, sym, ◌∙◌, ap, subst, arith, length-append}
-use Rattle.std.specs.List.{AllByRecursion, flat_map}
-use Rattle.std.proofs.lemmas.List.{append_assoc, append-nil, map-append, length-map}
-use Rattle.std.proofs.lemmas.List.Concat.{flat_map-append}
+use Rattle.std.specs.Prelude.{bytes_eq, if◌then◌else◌}
+use Rattle.std.proofs.Common.{Bool, false, nat_le, Ok, Err, ◌≡◌, ℕ, ◌+◌, ◌<◌, true, List, [], ◌∷◌, ◌++◌, length, map, refl, sym, ◌∙◌, ap, subst, arith, length-append}
+use Rattle.std.specs.List.{AllByRecursion, flat_map, list_any}
+use Rattle.std.proofs.lemmas.List.{append_assoc, append-nil}
 use Rattle.xs_base.specs.declared.component.Row.{Row}
 use Rattle.xs_base.specs.Layout.{amx_rows, avx_rows}
 use Rattle.xs_model.specs.declared.script.Named.{Named}
 use Rattle.xs_model.specs.declared.script.Named.TheVariants.{Amx, Avx, Rows}
-use Rattle.xs_model.specs.declared.script.Command.{Command}
+use Rattle.xs_base.proofs.Registers.{place_length}
+use Rattle.xs_model.specs.declared.script.Command.TheVariants as commands
 use Rattle.xs_model.specs.declared.script.Order.{Order}
 use Rattle.xs_model.specs.declared.script.Block.{Block}
 use Rattle.xs_model.specs.declared.script.Script.{Script}
-use Rattle.xs_model.specs.Script.{IsTableOf, AreBlocksNumbered}
+use Rattle.xs_model.specs.Script.{IsTableOf}
 use Rattle.xs_script.specs.declared.line.Line.{Line}
 use Rattle.xs_script.specs.declared.line.Line.TheVariants as lines
 use Rattle.xs_script.specs.declared.head.Stage.TheVariants as stages
 use Rattle.xs_script.specs.declared.head.Head.{Head}
-use Rattle.xs_script.specs.declared.refusal.Kind.{Kind}
 use Rattle.xs_script.specs.declared.refusal.ScriptError.{ScriptError}
 use Rattle.xs_script.specs.declared.refusal.ScriptError.TheVariants as errors
-use Rattle.xs_script.specs.ScriptLine.{IsLine, kept_line, kept_command}
+use Rattle.xs_script.specs.ScriptLine.{kept_line}
 use Rattle.xs_script.specs.Grammar.{lines_text, order_lines, block_lines, row_lines, head_lines, Spells}
-use Rattle.xs_script.specs.LineOrder.{AtVersion, AtBlock, may_end}
-use Rattle.xs_script.specs.Refusal.{AreLines, Passes, rows_of_line, table_of, IsKnown, RefusesCommand, Refuses, ByLine, ByCommand, Explains, CommandFails}
+use Rattle.xs_script.specs.declared.refusal.Kind.TheVariants.{Limit, Repeated}
+use Rattle.xs_script.specs.declared.refusal.LimitName.TheVariants.{Blocks}
+use Rattle.xs_script.specs.LineOrder.{Stand, AtVersion, AtMachine, AtRow, AtCpus, AtQuantum, AtLarge, AtBlock, InBlock, may_end, next, Leads}
+use Rattle.xs_script.specs.Refusal.{AreLines, Passes, rows_of_line, table_of, IsKnown, ByLine, ByCommand, Explains, CommandFails}
 use Rattle.xs_script.specs.Front.{IsFront, ExplainsFrom}
 use Rattle.xs_script.specs.Head.{IsHeadOf, lines_of_head, machine_lines}
 use Rattle.xs_script.specs.Body.{names_of, AreBlocksOf}
-use Rattle.xs_script.specs.Commands.{PassesOrders, FirstBlock}
+use Rattle.xs_script.specs.Outline.{AreKnownBlocks, ExplainsBlocks, ByBlockLine, ByBlockCommand}
 use Rattle.xs_script.proofs.Numbering.{blocks_rise}
 use Rattle.xs_script.proofs.Fronts.{all_join, front_join, rest_explains}
-use Rattle.xs_script.proofs.KnownLines.{all_parts, map_cut, PassesLine, known_lines, kept_fails, orders_pass, blocks_pass, names_fit, blocks_known, number_at}
+use Rattle.xs_script.proofs.KnownLines.{names_fit, blocks_known}
+use Rattle.xs_script.proofs.Kept.{kept_same_bytes}
+use Rattle.xs_script.proofs.CommandFaults.{fits_length}
+use Rattle.xs_script.proofs.OneRefusal.{one_lines}
 
 -- ---- the head
 
@@ -66,9 +71,13 @@ no_row rows lines.End h = h
 abbrev pub HasNoRows : List Line → Type 0
 HasNoRows ls = AllByRecursion (λ l. rows_of_line l ≡ []) ls
 
-kept_no_rows : (ls : List Line) → HasNoRows (map kept_line ls) → table_of ls ≡ []
-kept_no_rows [] h = refl
-kept_no_rows (l ∷ ls) h = cc (no_row [] l h.0, kept_no_rows ls h.1)
+kept_bare : (ls : List Line) → HasNoRows (map kept_line ls) → HasNoRows ls
+kept_bare [] h = tt
+kept_bare (l ∷ ls) h = (no_row [] l h.0, kept_bare ls h.1)
+
+pub no_rows_table : (ls : List Line) → HasNoRows ls → table_of ls ≡ []
+no_rows_table [] h = refl
+no_rows_table (l ∷ ls) h = rw h.0 (no_rows_table ls h.1)
 
 orders_no_rows : (orders : List Order) (ls : List Line) → HasNoRows ls → HasNoRows (order_lines orders ++ ls)
 orders_no_rows [] ls h = h
@@ -121,20 +130,43 @@ read_both text rest head number sched blocks h b =
         leads = front.leads;
         whole = may_end_some blocks b.some;
       };
-      table = table_of_lines script later h.fits.machine (kept_no_rows later (subst HasNoRows b.front.kept_is (blocks_no_rows blocks)));
+      table = table_of_lines script later h.fits.machine (no_rows_table later (kept_bare later (subst HasNoRows b.front.kept_is (blocks_no_rows blocks))));
     }
 
 -- ---- what the second pass adds
 
+-- a known line among blocks is kept whole
+known_whole : (rows : List Row) (l : Line) → IsKnown rows l → rows_of_line l ≡ [] → kept_line l ≡ l
+known_whole rows lines.Version h none = refl
+known_whole rows (lines.Machine named) h none = refl
+known_whole rows (lines.Row r) h none = absurd (cc none)
+known_whole rows (lines.Cpus n) h none = refl
+known_whole rows (lines.Quantum n) h none = refl
+known_whole rows (lines.Large n) h none = refl
+known_whole rows (lines.Task name) h none = refl
+known_whole rows (lines.Order (commands.Set reg bytes)) ((place, here, fits, bytes_are), built) none =
+    let size = place_length reg place here.0 in
+    let len = fits_length place bytes fits in
+    ap (λ (bs : List ℕ). lines.Order (commands.Set reg bs)) (kept_same_bytes bytes (omega (arith, size.1, len)))
+known_whole rows (lines.Order (commands.Get reg)) h none = refl
+known_whole rows lines.End h none = refl
+
+known_lines_whole : (rows : List Row) (ls : List Line) → AllByRecursion (IsKnown rows) ls → HasNoRows ls → map kept_line ls ≡ ls
+known_lines_whole rows [] h none = refl
+known_lines_whole rows (l ∷ ls) h none = cc (known_whole rows l h.0 none.0, known_lines_whole rows ls h.1 none.1)
+
 -- Where it finds nothing, the text spells the script.
-pub read_spells : (text rest : List ℕ) (head : Head) (number : ℕ) (sched : List ℕ) (blocks : List Block) → sched ≡ [] → IsHeadOf text head number rest → AreBlocksOf number rest blocks → AllByRecursion (λ (b : Block). PassesOrders head.layout b.body) blocks → Spells text (script_of head sched blocks)
-read_spells text rest head number sched blocks none h b passed =
+pub read_spells : (text rest : List ℕ) (head : Head) (number : ℕ) (sched : List ℕ) (blocks : List Block) → sched ≡ [] → IsHeadOf text head number rest → AreKnownBlocks head.layout rest → AreBlocksOf number rest blocks → Spells text (script_of head sched blocks)
+unfolding read_both
+read_spells text rest head number sched blocks none h k b =
     let script = script_of head sched blocks in
     let r = read_both text rest head number sched blocks h b in
     let rows = head.layout in
-    let known = known_lines rows r.later r.later_fits (subst (λ (ls : List Line). AllByRecursion (PassesLine rows) ls) r.kept_is (blocks_pass rows blocks passed)) in
-    let same : flat_map block_lines blocks ≡ r.later = r.kept_is ∙ known.0 in
-    let commands = blocks_known rows blocks (subst (λ (ls : List Line). AllByRecursion (IsKnown rows) ls) (sym same) known.1) in
+    let one : k.lines ≡ r.later = one_lines k.lines r.later k.front.lines_fit r.later_fits (sym (append-nil (lines_text k.lines)) ∙ sym k.front.parts ∙ b.front.front.parts ∙ append-nil (lines_text r.later)) in
+    let known = subst (λ (ls : List Line). AllByRecursion (IsKnown rows) ls) one k.known in
+    let bare = kept_bare r.later (subst HasNoRows r.kept_is (blocks_no_rows blocks)) in
+    let same : flat_map block_lines blocks ≡ r.later = r.kept_is ∙ known_lines_whole rows r.later known bare in
+    let commands = blocks_known rows blocks (subst (λ (ls : List Line). AllByRecursion (IsKnown rows) ls) (sym same) known) in
     let lines_are : lines_of_head head ≡ head_lines script = whole_lines head script h.whole refl refl refl refl refl in
     let first : number ≡ length (head_lines script) + 1 = rw lines_are at h.next in
     record {
@@ -182,76 +214,83 @@ head_known rows script =
     rows_known Avx layout = tt
     rows_known Rows layout = all_rows layout
 
--- the lines of blocks, cut at an order
-abbrev pub lines_before : List Block → Block → List Order → List Line
-lines_before done block before = flat_map block_lines done ++ lines.Task block.name ∷ order_lines before
+-- the stand is among blocks
+abbrev IsAmongBlocks : Stand → Type 0
+IsAmongBlocks AtVersion = ⊥
+IsAmongBlocks AtMachine = ⊥
+IsAmongBlocks (AtRow rows) = ⊥
+IsAmongBlocks AtCpus = ⊥
+IsAmongBlocks AtQuantum = ⊥
+IsAmongBlocks AtLarge = ⊥
+IsAmongBlocks (AtBlock names) = Unit {0}
+IsAmongBlocks (InBlock names) = Unit {0}
 
-abbrev pub lines_after : List Order → List Block → List Line
-lines_after after later = (order_lines after ++ lines.End ∷ []) ++ flat_map block_lines later
+task_among : (full repeated : Bool) (names : List (List ℕ)) (mid : Stand) → (if full then Err (Limit Blocks) else if repeated then Err Repeated else Ok (InBlock names)) ≡ Ok mid → IsAmongBlocks mid
+task_among true repeated names mid h = absurd (cc h)
+task_among false true names mid h = absurd (cc h)
+task_among false false names mid h = let is : InBlock names ≡ mid = cc h in subst IsAmongBlocks is tt
 
-cut_block : (block : Block) (before after : List Order) (order : Order) (rest : List Line) → block.body ≡ before ++ order ∷ after → block_lines block ++ rest ≡ lines.Task block.name ∷ (order_lines before ++ lines.Order order.command ∷ ((order_lines after ++ lines.End ∷ []) ++ rest))
-cut_block block before after order rest body =
-    let orders : order_lines block.body ≡ order_lines before ++ lines.Order order.command ∷ order_lines after = ap order_lines body ∙ map-append (λ (o : Order). lines.Order o.command) before (order ∷ after) in
-    ap (λ (ls : List Line). lines.Task block.name ∷ ((ls ++ lines.End ∷ []) ++ rest)) orders
-    ∙ ap (λ (ls : List Line). lines.Task block.name ∷ (ls ++ rest)) (append_assoc (order_lines before) (lines.Order order.command ∷ order_lines after) (lines.End ∷ []))
-    ∙ ap (λ (ls : List Line). lines.Task block.name ∷ ls) (append_assoc (order_lines before) (lines.Order order.command ∷ (order_lines after ++ lines.End ∷ [])) rest)
+-- A line that leads on from there is no row, and leads to such a stand.
+among_step : (stand mid : Stand) (l : Line) → IsAmongBlocks stand → next stand l ≡ Ok mid → (rows_of_line l ≡ []) × IsAmongBlocks mid
+among_step AtVersion mid l among h = absurd among
+among_step AtMachine mid l among h = absurd among
+among_step (AtRow rows) mid l among h = absurd among
+among_step AtCpus mid l among h = absurd among
+among_step AtQuantum mid l among h = absurd among
+among_step AtLarge mid l among h = absurd among
+among_step (AtBlock names) mid lines.Version among h = absurd (cc h)
+among_step (AtBlock names) mid (lines.Machine named) among h = absurd (cc h)
+among_step (AtBlock names) mid (lines.Row r) among h = absurd (cc h)
+among_step (AtBlock names) mid (lines.Cpus n) among h = absurd (cc h)
+among_step (AtBlock names) mid (lines.Quantum n) among h = absurd (cc h)
+among_step (AtBlock names) mid (lines.Large n) among h = absurd (cc h)
+among_step (AtBlock names) mid (lines.Task name) among h = (refl, task_among (nat_le 64 (length names)) (list_any (λ other. bytes_eq other name) names) (names ++ name ∷ []) mid h)
+among_step (AtBlock names) mid (lines.Order command) among h = absurd (cc h)
+among_step (AtBlock names) mid lines.End among h = absurd (cc h)
+among_step (InBlock names) mid lines.Version among h = absurd (cc h)
+among_step (InBlock names) mid (lines.Machine named) among h = absurd (cc h)
+among_step (InBlock names) mid (lines.Row r) among h = absurd (cc h)
+among_step (InBlock names) mid (lines.Cpus n) among h = absurd (cc h)
+among_step (InBlock names) mid (lines.Quantum n) among h = absurd (cc h)
+among_step (InBlock names) mid (lines.Large n) among h = absurd (cc h)
+among_step (InBlock names) mid (lines.Task name) among h = absurd (cc h)
+among_step (InBlock names) mid (lines.Order command) among h = (refl, let is : InBlock names ≡ mid = cc h in subst IsAmongBlocks is tt)
+among_step (InBlock names) mid lines.End among h = (refl, let is : AtBlock names ≡ mid = cc h in subst IsAmongBlocks is tt)
 
-cut_blocks : (done later : List Block) (block : Block) (before after : List Order) (order : Order) → block.body ≡ before ++ order ∷ after → flat_map block_lines (done ++ block ∷ later) ≡ lines_before done block before ++ lines.Order order.command ∷ lines_after after later
-cut_blocks done later block before after order body =
-    flat_map-append block_lines done (block ∷ later)
-    ∙ ap (λ (ls : List Line). flat_map block_lines done ++ ls) (cut_block block before after order (flat_map block_lines later) body)
-    ∙ sym (append_assoc (flat_map block_lines done) (lines.Task block.name ∷ order_lines before) (lines.Order order.command ∷ lines_after after later))
+lead_bare : (stand end : Stand) (ls : List Line) → IsAmongBlocks stand → Leads stand ls end → HasNoRows ls
+lead_bare stand end [] among h = tt
+lead_bare stand end (l ∷ ls) among (mid, leads, rest) =
+    let step = among_step stand mid l among leads in
+    (step.0, lead_bare mid end ls step.1 rest)
 
--- the line of which a command was kept
-pub record IsOrder (l : Line) (kept : Command) : Type 0 where
-  pub command : Command
-  pub line_is : l ≡ lines.Order command
-  pub kept_is : kept_command command ≡ kept
-
-order_of : (l : Line) (c : Command) → kept_line l ≡ lines.Order c → IsOrder l c
-order_of lines.Version c e = absurd (cc e)
-order_of (lines.Machine named) c e = absurd (cc e)
-order_of (lines.Row r) c e = absurd (cc e)
-order_of (lines.Cpus n) c e = absurd (cc e)
-order_of (lines.Quantum n) c e = absurd (cc e)
-order_of (lines.Large n) c e = absurd (cc e)
-order_of (lines.Task name) c e = absurd (cc e)
-order_of (lines.Order command) c e = record { command = command; line_is = refl; kept_is = cc e }
-order_of lines.End c e = absurd (cc e)
-
--- A command that fails in what is kept of the lines fails in the lines.
-command_refuses : (text : List ℕ) (script : Script) (number : ℕ) (kind : Kind) (done later : List Block) (block : Block) (before after : List Order) (order : Order) → IsRead text script → AreBlocksNumbered (length (head_lines script) + 1) script.blocks → script.blocks ≡ done ++ block ∷ later → block.body ≡ before ++ order ∷ after → AllByRecursion (λ (b : Block). PassesOrders script.layout b.body) done → PassesOrders script.layout before → CommandFails script.layout order.command kind → number ≡ order.number → RefusesCommand text number kind
-command_refuses text script number kind done later block before after order r numbered blocks body passed passed_too fails at =
-    let rows = script.layout in
-    let head = head_lines script in
-    let front = lines_before done block before in
-    let cut = map_cut kept_line r.later front (lines.Order order.command) (lines_after after later) (sym r.kept_is ∙ ap (λ (bs : List Block). flat_map block_lines bs) blocks ∙ cut_blocks done later block before after order body) in
-    let is = order_of cut.at order.command cut.at_is in
-    let here : r.later ≡ cut.done ++ lines.Order is.command ∷ cut.later = cut.split ∙ ap (λ (l : Line). cut.done ++ l ∷ cut.later) is.line_is in
-    let whole : head ++ r.later ≡ (head ++ cut.done) ++ lines.Order is.command ∷ cut.later = ap (λ (ls : List Line). head ++ ls) here ∙ sym (append_assoc head cut.done (lines.Order is.command ∷ cut.later)) in
-    let table : table_of ((head ++ cut.done) ++ lines.Order is.command ∷ cut.later) ≡ rows = sym (ap table_of whole) ∙ r.table in
-    let fit = all_parts IsLine cut.done (lines.Order is.command ∷ cut.later) (subst AreLines here r.later_fits) in
-    let front_passes = all_join (PassesLine rows) (flat_map block_lines done) (lines.Task block.name ∷ order_lines before) (blocks_pass rows done passed) (tt, orders_pass rows before passed_too) in
-    let known = known_lines rows cut.done fit.0 (subst (λ (ls : List Line). AllByRecursion (PassesLine rows) ls) (sym cut.done_is) front_passes) in
-    let kept : length (map kept_line cut.done) ≡ length cut.done = length-map cut.done kept_line in
-    let same : length (map kept_line cut.done) ≡ length front = ap length cut.done_is in
-    let long : length front ≡ length (flat_map block_lines done) + length (lines.Task block.name ∷ order_lines before) = length-append (flat_map block_lines done) (lines.Task block.name ∷ order_lines before) in
-    let orders : length (order_lines before) ≡ length before = length-map before (λ (o : Order). lines.Order o.command) in
-    let joined : length (head ++ cut.done) ≡ length head + length cut.done = length-append head cut.done in
-    let place = number_at (length head + 1) done later block before after order (subst (λ (bs : List Block). AreBlocksNumbered (length head + 1) bs) blocks numbered) body in
-    record {
-      done = head ++ cut.done;
-      command = is.command;
-      later = cut.later;
-      passes = subst (λ (ls : List Line). Passes text ls) whole r.passes;
-      known = subst (λ (rs : List Row). AllByRecursion (IsKnown rs) (head ++ cut.done)) (sym table) (all_join (IsKnown rows) head cut.done (head_known rows script) known.1);
-      fails = subst (λ (rs : List Row). CommandFails rs is.command kind) (sym table) (kept_fails rows is.command kind (rw is.kept_is fails));
-      number_is = omega (arith, kept, same, long, orders, joined, place, at);
-    }
-
-pub read_refuses : (text rest : List ℕ) (head : Head) (number : ℕ) (sched : List ℕ) (blocks : List Block) (line : ℕ) (kind : Kind) → IsHeadOf text head number rest → AreBlocksOf number rest blocks → FirstBlock head.layout blocks line kind → Refuses text line kind
-read_refuses text rest head number sched blocks line kind h b f =
-    let script = script_of head sched blocks in
-    let lines_are : lines_of_head head ≡ head_lines script = whole_lines head script h.whole refl refl refl refl refl in
-    let first : number ≡ length (head_lines script) + 1 = rw lines_are at h.next in
-    ByCommand (command_refuses text script line kind f.done f.later f.block f.first.done f.first.later f.first.order (read_both text rest head number sched blocks h b) (rw first at b.fits.numbered) f.split f.first.split f.passed f.first.passed f.first.fails f.first.number_is)
+-- A refusal of the blocks is one of the text.
+pub outline_refuses : (text rest : List ℕ) (head : Head) (number : ℕ) (e : ScriptError) → IsHeadOf text head number rest → ExplainsBlocks head.layout number rest e → Explains text e
+outline_refuses text rest head number (errors.Refused line kind) h (ByBlockLine r) = blocks_refuse text rest head number (errors.Refused line kind) h r
+outline_refuses text rest head number (errors.Refused line kind) h (ByBlockCommand ls stand front whole f) =
+    let script = script_of head [] [] in
+    let rows = head.layout in
+    let before = lines_of_head head in
+    let all = (before ++ f.done) ++ lines.Order f.command ∷ f.later in
+    let same : before ++ ls ≡ all = ap (λ (xs : List Line). before ++ xs) f.split ∙ sym (append_assoc before f.done (lines.Order f.command ∷ f.later)) in
+    let lines_are : before ≡ head_lines script = whole_lines head script h.whole refl refl refl refl refl in
+    let joined = front_join AtVersion (AtBlock []) stand text rest [] before ls h.front front in
+    let bare = lead_bare (AtBlock []) stand ls tt front.leads in
+    let table : table_of all ≡ rows = sym (ap table_of same) ∙ ap (λ (xs : List Line). table_of (xs ++ ls)) lines_are ∙ table_of_lines script ls h.fits.machine (no_rows_table ls bare) in
+    let head_is_known = subst (λ (xs : List Line). AllByRecursion (IsKnown rows) xs) (sym lines_are) (head_known rows script) in
+    let long : length (before ++ f.done) ≡ length before + length f.done = length-append before f.done in
+    ByCommand (record {
+      done = before ++ f.done;
+      command = f.command;
+      later = f.later;
+      passes = subst (λ (xs : List Line). Passes text xs) same (record {
+        lines_fit = joined.lines_fit;
+        spelled = joined.parts ∙ append-nil (lines_text (before ++ ls));
+        stand = stand;
+        leads = joined.leads;
+        whole = whole;
+      });
+      known = subst (λ (rs : List Row). AllByRecursion (IsKnown rs) (before ++ f.done)) (sym table) (all_join (IsKnown rows) before f.done head_is_known f.known);
+      fails = subst (λ (rs : List Row). CommandFails rs f.command kind) (sym table) f.fails;
+      number_is = omega (arith, h.next, f.number_is, long);
+    })
+outline_refuses text rest head number errors.Memory h e = tt

@@ -54,7 +54,7 @@ HasNoRowsYet stage rows = Unit {0}
 -- Its parts are those that a script may have.
 pub record IsHead (head : Head) : Type 0 where
   pub early : HasNoRowsYet head.stage head.rows.items
-  pub rows : first_row_fault None 0 head.rows.items ≡ None
+  pub rows : first_row_fault [] head.rows.items ≡ None
   pub layout : IsLayout head.layout
   pub machine : IsTableOf head.machine head.layout
   pub quantum : (0 < head.quantum) × (head.quantum ≤ 32)

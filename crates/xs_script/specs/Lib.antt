@@ -9,4 +9,5 @@ pub mod Front
 pub mod Head
 pub mod Body
 pub mod Commands
+pub mod Outline
 pub mod RefusalText

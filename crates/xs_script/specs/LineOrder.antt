@@ -37,11 +37,6 @@ may_end (AtBlock []) = false
 may_end (AtBlock (name ∷ names)) = true
 may_end (InBlock names) = false
 
-abbrev pub last_row : List Row → Option Row
-last_row [] = None
-last_row (r ∷ []) = Some r
-last_row (r ∷ (next ∷ rows)) = last_row (next ∷ rows)
-
 abbrev pub after_machine : Named → Stand
 after_machine machines.Amx = AtCpus
 after_machine machines.Avx = AtCpus
@@ -81,7 +76,7 @@ after_task names name =
 abbrev pub next : Stand → Line → Result Stand Kind
 next AtVersion lines.Version = Ok AtMachine
 next AtMachine (lines.Machine named) = Ok (after_machine named)
-next (AtRow rows) (lines.Row r) = after_row rows r (row_error (last_row rows) r)
+next (AtRow rows) (lines.Row r) = after_row rows r (row_error rows r)
 next (AtRow rows) (lines.Cpus n) = after_rows n (table_error rows)
 next AtCpus (lines.Cpus n) = after_cpus n
 next AtQuantum (lines.Quantum n) = after_quantum n

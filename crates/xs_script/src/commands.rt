@@ -1,46 +1,20 @@
 //! The registers of a script's commands.
 
 ghost use Rattle.std.specs.Prelude.{◌≡◌, ◌==◌, drop, MatchOption, IfOk, IfErr};
-ghost use Rattle.std.specs.List.{list_all, AllByRecursion};
+ghost use Rattle.std.specs.List.{list_all};
 ghost use Rattle.xs_base.specs.File.{is_mxcsr};
-ghost use Rattle.xs_model.specs.declared.script.Order.{Order};
-ghost use Rattle.xs_model.specs.declared.script.Block.{Block};
 ghost use Rattle.xs_model.specs.Script.{fits_register, is_built};
 ghost use Rattle.xs_script.specs.Refusal.{CommandFails};
-ghost use Rattle.xs_script.specs.Commands.{IsBuiltRegister, RegisterFails, PassesCommand, PassesOrders, FirstOrder, FirstBlock};
+ghost use Rattle.xs_script.specs.Commands.{IsBuiltRegister, RegisterFails, PassesCommand};
 
 use crate::refusal::Kind;
 use xs_base::{Comp, Lane, Place};
 use xs_layout::Layout;
-use xs_model::{Block, Command, Order};
+use xs_model::Command;
 use xs_regs::place_of_bytes;
 
-/// The line of the first command that fails on the machine, and what it is refused with.
-pub(crate) fn first_fault(layout: &Layout, blocks: &[Block]) -> Option<(u32, Kind)>
-    ensures { MatchOption result (AllByRecursion (λ (block : Block). PassesOrders layout.now block.body) blocks.now) (λ x. FirstBlock layout.now blocks.now x.0 x.1) }
-{
-    'each: for block in blocks {
-        if let Some(fault) = first_order_fault(layout, block.body.as_slice()) {
-            return Some(fault);
-        }
-    }
-    None
-}
-
-/// The same of the commands of one body.
-fn first_order_fault(layout: &Layout, orders: &[Order]) -> Option<(u32, Kind)>
-    ensures { MatchOption result (PassesOrders layout.now orders.now) (λ x. FirstOrder layout.now orders.now x.0 x.1) }
-{
-    'each: for order in orders {
-        if let Some(kind) = command_fault(layout, &order.command) {
-            return Some((order.number, kind));
-        }
-    }
-    None
-}
-
 /// What a command is refused with on the machine.
-fn command_fault(layout: &Layout, command: &Command) -> Option<Kind>
+pub(crate) fn command_fault(layout: &Layout, command: &Command) -> Option<Kind>
     ensures { MatchOption result (PassesCommand layout.now command.now) (CommandFails layout.now command.now) }
 {
     match command {

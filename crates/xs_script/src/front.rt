@@ -6,7 +6,7 @@ ghost use Rattle.xs_script.specs.Refusal.{LineFails};
 ghost use Rattle.xs_script.specs.Front.{IsNext};
 
 use crate::line::Line;
-use crate::line_reader::{is_unbuilt, next_line};
+use crate::line_reader::{is_unbuilt, is_unbuilt_line, next_line};
 use crate::refusal::Kind;
 
 /// The first line of the text, and the text after it; or what that line is refused with wherever it stands. An empty
@@ -16,11 +16,10 @@ pub(crate) fn first_line(text: &[u8]) -> Result<(Line, &[u8]), Kind>
     ensures shorter { IfOk result (λ x. length x.1.now < length text.now) }
     ensures refused { IfErr result (λ kind. (stand : Stand) → (text.now ≡ [] → may_end stand ≡ false) → LineFails stand text.now kind) }
 {
-    if is_unbuilt(text) {
-        return Err(Kind::NotBuilt);
-    }
     match next_line(text) {
+        Some((line, _)) if is_unbuilt_line(&line) => Err(Kind::NotBuilt),
         Some(first) => Ok(first),
+        None if is_unbuilt(text) => Err(Kind::NotBuilt),
         None => Err(Kind::BadLine),
     }
 }

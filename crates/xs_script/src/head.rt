@@ -2,7 +2,7 @@
 
 ghost use Rattle.std.specs.Prelude.{◌≡◌, ◌<◌, [], length, OnOk, IfOk, IfErr};
 ghost use Rattle.xs_base.specs.Layout.{row_error};
-ghost use Rattle.xs_script.specs.LineOrder.{AtVersion, next, last_row, after_cpus, AtQuantum};
+ghost use Rattle.xs_script.specs.LineOrder.{AtVersion, next, after_cpus, AtQuantum};
 ghost use Rattle.xs_script.specs.Refusal.{table_fault};
 ghost use Rattle.xs_script.specs.Front.{ExplainsLine};
 ghost use Rattle.xs_script.specs.Head.{IsHead, Takes, Steps, head_stand, lines_of_head};
@@ -168,9 +168,9 @@ impl Head {
 
     /// The first test that the row fails as the next one.
     fn row_error(&self, row: Row) -> Option<LayoutError>
-        ensures { result ≡ row_error (last_row self.now.rows.items) row }
+        ensures { result ≡ row_error self.now.rows.items row }
     {
-        row_error(self.rows.as_slice().last().copied(), row)
+        row_error(self.rows.as_slice(), row)
     }
 
     /// Takes the number of processors after the rows, which are the machine's table.

@@ -9,6 +9,7 @@ mod front;
 mod head;
 mod line;
 mod line_reader;
+mod outline;
 mod reader;
 mod refusal;
 mod words;

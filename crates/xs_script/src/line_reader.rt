@@ -3,15 +3,15 @@
 ghost use Rattle.std.specs.Prelude.{◌≡◌, ◌<◌, List, ℕ, ◌∷◌, ◌++◌, length, codes, decimal, bytes_eq, MatchOption, IfSome};
 ghost use Rattle.std.specs.List.{list_any};
 ghost use Rattle.xs_script.specs.declared.line.Line.{Line};
-ghost use Rattle.xs_script.specs.ScriptLine.{line_text, IsLine, IsNumber, kept_line, kept_row, kept_command, command_text, IsCommandLine};
+ghost use Rattle.xs_script.specs.ScriptLine.{line_text, IsLine, IsNumber, kept_line};
 ghost use Rattle.xs_script.specs.Reads.{Reads, ReadsAs};
-ghost use Rattle.xs_script.specs.Parts.{machine_text, row_line_text, IsRow, task_text, IsTask, set_text, IsSet, kept_set, get_text, IsGet};
+ghost use Rattle.xs_script.specs.Parts.{is_unbuilt_line};
 ghost use Rattle.xs_script.specs.Refusal.{NoLine, is_unbuilt, first_word, unbuilt_words, unbuilt_cpus};
 
 use crate::line::Line;
 use crate::words::{after, before, cut_at, read_bytes, read_name, read_number, read_register};
-use xs_base::{Comp, Lane, Row};
-use xs_model::{Command, Name, Named};
+use xs_base::{Comp, Row};
+use xs_model::{Command, Named};
 
 /// The first words of the forms that this version doesn't have.
 const UNBUILT_WORDS: [&[u8]; 20] = [
@@ -57,6 +57,16 @@ pub fn is_unbuilt(text: &[u8]) -> bool
     is_unbuilt_word(word) || is_unbuilt_count(line)
 }
 
+/// The same of a text whose first line was read.
+pub fn is_unbuilt_line(line: &Line) -> bool
+    ensures { result ≡ is_unbuilt_line line.now }
+{
+    match line {
+        Line::Cpus(n) => 2 <= *n && *n <= 16,
+        _ => false,
+    }
+}
+
 /// Whether the text's first line begins with the word `row`.
 pub fn begins_row(text: &[u8]) -> bool
     ensures { result ≡ bytes_eq (first_word text.now) (codes "row") }
@@ -83,89 +93,116 @@ fn is_among(word: &[u8], words: &[&[u8]]) -> bool
 fn is_unbuilt_count(line: &[u8]) -> bool
     ensures { result ≡ list_any (λ other. bytes_eq other line.now) unbuilt_cpus }
 {
-    match read_count(b"cpus ", line) {
+    match read_count(line) {
         Some(n) => 2 <= n && n <= 16,
         None => false,
     }
 }
 
-/// A line without its line feed.
+/// The number of processors that the line sets.
+fn read_count(line: &[u8]) -> Option<u32>
+    ensures { Reads (λ n. codes "cpus " ++ decimal n) IsNumber result line.now }
+{
+    let digits = after(b"cpus ", line)?;
+    read_number(digits)
+}
+
+/// A line without its line feed. Its first word says of which kind it can be.
 fn read_line(line: &[u8]) -> Option<Line>
     ensures { ReadsAs line_text IsLine kept_line result line.now }
 {
-    if line == b"xstate 1".as_slice() {
-        return Some(Line::Version);
+    if let Some(reg) = after(b"get ", line) {
+        return read_get(reg);
+    }
+    if let Some(words) = after(b"set ", line) {
+        return read_set(words);
     }
     if line == b"end".as_slice() {
         return Some(Line::End);
     }
-    if let Some(named) = read_machine(line) {
-        return Some(Line::Machine(named));
+    if let Some(name) = after(b"task ", line) {
+        return read_task(name);
     }
-    if let Some(row) = read_row(line) {
-        return Some(Line::Row(row));
+    if let Some(words) = after(b"row ", line) {
+        return read_row(words);
     }
-    if let Some(n) = read_count(b"cpus ", line) {
+    if let Some(name) = after(b"machine ", line) {
+        return read_machine(name);
+    }
+    if let Some(digits) = after(b"cpus ", line) {
+        let n = read_number(digits)?;
         return Some(Line::Cpus(n));
     }
-    if let Some(n) = read_count(b"quantum ", line) {
+    if let Some(digits) = after(b"quantum ", line) {
+        let n = read_number(digits)?;
         return Some(Line::Quantum(n));
     }
-    if let Some(n) = read_count(b"large ", line) {
+    if let Some(digits) = after(b"large ", line) {
+        let n = read_number(digits)?;
         return Some(Line::Large(n));
     }
-    if let Some(name) = read_task(line) {
-        return Some(Line::Task(name));
-    }
-    let command = read_command(line)?;
-    Some(Line::Order(command))
-}
-
-fn read_machine(line: &[u8]) -> Option<Named>
-    ensures { Reads machine_text (λ named. Unit {0}) result line.now }
-{
-    let name = after(b"machine ", line)?;
-    if name == b"amx".as_slice() {
-        return Some(Named::Amx);
-    }
-    if name == b"avx".as_slice() {
-        return Some(Named::Avx);
-    }
-    if name == b"rows".as_slice() {
-        return Some(Named::Rows);
+    if line == b"xstate 1".as_slice() {
+        return Some(Line::Version);
     }
     None
 }
 
-/// A word and a number after it.
-fn read_count(word: &[u8], line: &[u8]) -> Option<u32>
-    ensures { Reads (λ n. word.now ++ decimal n) IsNumber result line.now }
+/// The line `get REGISTER`, by its register.
+fn read_get(reg: &[u8]) -> Option<Line>
+    ensures { ReadsAs line_text IsLine kept_line result (codes "get " ++ reg.now) }
 {
-    let digits = after(word, line)?;
-    read_number(digits)
+    let reg = read_register(reg)?;
+    Some(Line::Order(Command::Get { reg }))
 }
 
-/// The first line of a block.
-fn read_task(line: &[u8]) -> Option<Name>
-    ensures { Reads task_text IsTask result line.now }
+/// The line `set REGISTER BYTES`, by the words after its first.
+fn read_set(words: &[u8]) -> Option<Line>
+    ensures { ReadsAs line_text IsLine kept_line result (codes "set " ++ words.now) }
 {
-    read_name(after(b"task ", line)?)
+    let (reg, digits) = cut_at(b' ', words)?;
+    let reg = read_register(reg)?;
+    let bytes = read_bytes(digits)?;
+    Some(Line::Order(Command::Set { reg, bytes }))
 }
 
-fn read_row(line: &[u8]) -> Option<Row>
-    ensures { ReadsAs row_line_text IsRow kept_row result line.now }
+/// The first line of a block, by its name.
+fn read_task(name: &[u8]) -> Option<Line>
+    ensures { ReadsAs line_text IsLine kept_line result (codes "task " ++ name.now) }
 {
-    let words = after(b"row ", line)?;
+    let name = read_name(name)?;
+    Some(Line::Task(name))
+}
+
+/// The line of a machine, by its name.
+fn read_machine(name: &[u8]) -> Option<Line>
+    ensures { ReadsAs line_text IsLine kept_line result (codes "machine " ++ name.now) }
+{
+    if name == b"amx".as_slice() {
+        return Some(Line::Machine(Named::Amx));
+    }
+    if name == b"avx".as_slice() {
+        return Some(Line::Machine(Named::Avx));
+    }
+    if name == b"rows".as_slice() {
+        return Some(Line::Machine(Named::Rows));
+    }
+    None
+}
+
+/// The line of a row, by its four numbers.
+fn read_row(words: &[u8]) -> Option<Line>
+    ensures { ReadsAs line_text IsLine kept_line result (codes "row " ++ words.now) }
+{
     let (number, words) = read_first_number(words)?;
     let (size, words) = read_first_number(words)?;
     let (offset, flags) = read_first_number(words)?;
     let flags = read_number(flags)?;
-    Some(Row {
+    Some(Line::Row(Row {
         comp: Comp(number.min(255) as u8),
         size,
         offset,
         flags,
-    })
+    }))
 }
 
 /// The number before the first space of some words, and the words after it.
@@ -175,32 +212,6 @@ fn read_first_number(words: &[u8]) -> Option<(u32, &[u8])>
     let (number, rest) = cut_at(b' ', words)?;
     let number = read_number(number)?;
     Some((number, rest))
-}
-
-fn read_command(line: &[u8]) -> Option<Command>
-    ensures { ReadsAs command_text IsCommandLine kept_command result line.now }
-{
-    if let Some((reg, bytes)) = read_set(line) {
-        return Some(Command::Set { reg, bytes });
-    }
-    let reg = read_get(line)?;
-    Some(Command::Get { reg })
-}
-
-fn read_set(line: &[u8]) -> Option<(Name, Lane)>
-    ensures { ReadsAs set_text IsSet kept_set result line.now }
-{
-    let words = after(b"set ", line)?;
-    let (reg, digits) = cut_at(b' ', words)?;
-    let reg = read_register(reg)?;
-    let bytes = read_bytes(digits)?;
-    Some((reg, bytes))
-}
-
-fn read_get(line: &[u8]) -> Option<Name>
-    ensures { Reads get_text IsGet result line.now }
-{
-    read_register(after(b"get ", line)?)
 }
 
 #[cfg(test)]

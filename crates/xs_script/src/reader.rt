@@ -11,14 +11,14 @@ ghost use Rattle.xs_script.specs.Head.{IsHeadOf};
 ghost use Rattle.xs_script.specs.Body.{AreBlocksOf};
 
 use crate::body::Body;
-use crate::commands::first_fault;
 use crate::head::{Head, Stage};
+use crate::outline::look_through;
 use crate::refusal::ScriptError;
 use std::alloc::Global;
 use xs_model::{Block, Items, Script};
 
 /// The script that the text spells, which has at most 1,048,576 bytes, or its first refusal. It takes memory for the
-/// blocks and their orders alone.
+/// blocks and their orders alone, and for the orders only where nothing is wrong with the text.
 pub fn read_script(alloc: Global, text: &[u8]) -> Result<Script, ScriptError>
     requires { length text.now ≤ 1048576 }
     ensures spelled { IfOk result (Spells text.now) }
@@ -28,11 +28,15 @@ pub fn read_script(alloc: Global, text: &[u8]) -> Result<Script, ScriptError>
         Ok(read) => read,
         Err(e) => return Err(e),
     };
+    match look_through(alloc, &head.layout, number, rest) {
+        Ok(()) => {}
+        Err(e) => return Err(e),
+    }
     let blocks = match read_blocks(alloc, number, rest) {
         Ok(blocks) => blocks,
         Err(e) => return Err(e),
     };
-    let script = Script {
+    Ok(Script {
         machine: head.machine,
         layout: head.layout,
         cpus: 1,
@@ -40,11 +44,7 @@ pub fn read_script(alloc: Global, text: &[u8]) -> Result<Script, ScriptError>
         large: head.large,
         sched: Items::new(alloc),
         blocks,
-    };
-    match first_fault(&script.layout, script.blocks.as_slice()) {
-        Some((line, kind)) => Err(ScriptError::Refused { line, kind }),
-        None => Ok(script),
-    }
+    })
 }
 
 /// A text spells at most one script. A call does nothing.
@@ -104,7 +104,5 @@ fn read_blocks(alloc: Global, first: u32, text: &[u8]) -> Result<Items<Block>, S
     }
 }
 
-#[cfg(test)]
-mod refusal_tests;
 #[cfg(test)]
 mod tests;

@@ -7,7 +7,7 @@ ghost use Rattle.hex.specs.Hex.{encode_lower};
 ghost use Rattle.xs_model.specs.Script.{is_letter, is_letter_or_digit, is_name};
 ghost use Rattle.xs_script.specs.Reads.{Reads, ReadsAs, Lacks};
 ghost use Rattle.xs_script.specs.ScriptLine.{is_register_byte, is_register_word, kept_bytes};
-ghost use Rattle.xs_script.specs.Parts.{IsLane, IsValue, is_lower_digit, is_hex_text};
+ghost use Rattle.xs_script.specs.Parts.{IsValue, IsSpelledBy, is_lower_digit, is_hex_text, digit_value};
 ghost use Rattle.xs_script.specs.Refusal.{before};
 
 use std::str;
@@ -18,8 +18,8 @@ use xs_model::Name;
 pub fn cut_at(byte: u8, bytes: &[u8]) -> Option<(&[u8], &[u8])>
     ensures { MatchOption result (Lacks byte bytes.now) (λ x. Lacks byte x.0.now × (bytes.now ≡ x.0.now ++ byte ∷ x.1.now)) }
 {
-    'bytes: for (i, b) in bytes.iter().enumerate() {
-        if *b == byte {
+    'bytes: for i in 0..bytes.len() {
+        if bytes[i] == byte {
             let (front, rest) = bytes.split_at(i);
             return Some((front, &rest[1..]));
         }
@@ -144,16 +144,13 @@ fn is_register_word(bytes: &[u8]) -> bool
 pub fn read_bytes(text: &[u8]) -> Option<Lane>
     ensures { ReadsAs encode_lower IsValue kept_bytes result text.now }
 {
-    if text.is_empty() {
+    if text.is_empty() || !is_hex_text(text) {
         return None;
     }
     if text.len() <= 128 {
-        return read_lane(text.len() / 2, text);
-    }
-    if is_hex_text(text) {
-        Some(Lane::from_slice(b""))
+        Some(decode(text))
     } else {
-        None
+        Some(Lane::from_slice(b""))
     }
 }
 
@@ -173,42 +170,36 @@ fn is_lower_digit(byte: u8) -> bool
 fn are_lower_digits(bytes: &[u8]) -> bool
     ensures { result ≡ list_all is_lower_digit bytes.now }
 {
-    bytes.iter().all(|b| is_lower_digit(*b))
-}
-
-/// The lane of `len` bytes, at most 64, that the text spells in lower-case hex.
-fn read_lane(len: usize, text: &[u8]) -> Option<Lane>
-    requires { len ≤ 64 }
-    ensures { Reads encode_lower (IsLane len) result text.now }
-{
-    let lane = decode_lane(len, text)?;
-    if is_spelling(&lane, text) {
-        Some(lane)
-    } else {
-        None
+    let mut well = true;
+    'bytes: for byte in bytes {
+        well &= is_lower_digit(*byte);
     }
+    well
 }
 
-/// The lane that the crate `hex` reads: also one with capital digits.
-fn decode_lane(len: usize, text: &[u8]) -> Option<Lane>
-    requires { len ≤ 64 }
-    ensures { MatchOption result ((x : List ℕ) → IsLane len x → text.now ≡ encode_lower x → ⊥) (λ lane. IsLane len lane × ((x : List ℕ) → IsLane len x → text.now ≡ encode_lower x → lane ≡ x)) }
+/// The bytes, at most 64, that hex text spells.
+fn decode(text: &[u8]) -> Lane
+    requires digits { is_hex_text text.now ≡ true }
+    requires short { length text.now ≤ 128 }
+    ensures { IsSpelledBy result text.now }
 {
     let mut bytes = [0u8; 64];
-    let lane = &mut bytes[..len];
-    match hex::decode_to_slice(text, lane) {
-        Ok(()) => Some(Lane::from_slice(lane)),
-        Err(_) => None,
+    let len = text.len() / 2;
+    'bytes: for i in 0..len {
+        bytes[i] = 16 * digit_value(text[2 * i]) + digit_value(text[2 * i + 1]);
     }
+    Lane::from_slice(&bytes[..len])
 }
 
-/// Whether the text is the lane's, in lower-case hex.
-fn is_spelling(lane: &Lane, text: &[u8]) -> bool
-    ensures { result ≡ bytes_eq (encode_lower lane.now) text.now }
+/// The number that a digit of hex text stands for.
+fn digit_value(digit: u8) -> u8
+    requires { is_lower_digit digit ≡ true }
+    ensures value { result ≡ digit_value digit }
+    ensures small { result < 16 }
 {
-    let bytes = lane.as_slice();
-    let mut digits = [0u8; 128];
-    let spelled = &mut digits[..2 * bytes.len()];
-    let _ = hex::encode_to_slice(bytes, spelled);
-    *spelled == *text
+    if digit <= b'9' {
+        digit - b'0'
+    } else {
+        digit - b'a' + 10
+    }
 }

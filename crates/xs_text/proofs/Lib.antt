@@ -2,3 +2,5 @@
 pub mod SpacedWords
 pub mod EventWords
 pub mod OneSpelling
+pub mod LegalEvents
+pub mod Digits

@@ -3,5 +3,7 @@
 #![tactic(auto)]
 
 mod event_line;
+mod history;
 
-pub use event_line::{Line, one_history, write_event};
+pub use event_line::{Line, write_event};
+pub use history::{a_legal_history_has_a_text, one_history};

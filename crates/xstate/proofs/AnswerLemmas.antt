@@ -1,6 +1,8 @@
 -- The answers to inputs.
-use Rattle.std.proofs.Common.{◌≡◌, ℕ, false, List, [], ◌∷◌, refl, sym, subst, inl, inr}
-use Rattle.std.specs.Prelude.{Option}
+use Rattle.std.proofs.Common.{◌≡◌, ℕ, ◌<◌, false, List, [], ◌∷◌, length, get_or, refl, sym, ap, ◌∙◌, subst, inl, inr, arith}
+use Rattle.std.specs.Io.KnownBytes.{Appends}
+use Rattle.std.specs.Prelude.{slice_get, slice_set, Some, map}
+use Rattle.xs_bank.specs.declared.cpu.Cpu.{Cpu}
 use Rattle.xs_model.specs.declared.script.Script.{Script}
 use Rattle.xs_model.specs.declared.event.Event.{Event}
 use Rattle.xs_model.specs.declared.event.Event.TheVariants as events
@@ -9,7 +11,9 @@ use Rattle.xs_model.specs.History.{Run, IsWhole, has_kill}
 use Rattle.xstate.specs.declared.status.Status.{Status}
 use Rattle.xstate.specs.declared.status.Status.TheVariants as statuses
 use Rattle.xs_text.specs.Text.{history_text, AreTasksKnown}
-use Rattle.xstate.specs.Answers.{IsAccepted, IsRefused, RunsTo, AnswerEnds, TellEnds, WriteEnds}
+use Rattle.xstate.specs.Outside.{Output, Outside}
+use Rattle.xstate.specs.Answers.{IsAccepted, IsRefused, RunsTo, AnswerEnds, TellEnds, WriteEnds, RunEnds, HasRun, KeepsProcessors}
+use Rattle.xstate.specs.Headline.{Headline}
 use Rattle.xstate.proofs.LegalTasks.{legal_tasks}
 
 -- no task is killed in a run
@@ -27,10 +31,10 @@ pub whole_tasks : (script : Script) (history : List Event) → IsWhole script hi
 whole_tasks script history whole = legal_tasks script history (whole.machine, whole.legal)
 
 -- an input that is refused, once its line was told
-pub refused_told : (input line : List ℕ) (written written' : Option (List ℕ)) (faults faults' : ℕ) (result : Status) → IsRefused input line → TellEnds statuses.Refused line written written' faults faults' result → AnswerEnds input written written' faults faults' result
-refused_told input line written written' faults faults' result refused told = elim told [
-  | inl told ↦ subst (λ (status : Status). AnswerEnds input written written' faults faults' status) (sym told.0) (told.1, line, refused, told.2)
-  | inr failed ↦ subst (λ (status : Status). AnswerEnds input written written' faults faults' status) (sym failed.0) (failed.1, line, inr refused, failed.2)
+pub refused_told : (input line : List ℕ) (before after : Output) (result : Status) → IsRefused input line → TellEnds statuses.Refused line before after result → AnswerEnds input before after result
+refused_told input line before after result refused told = elim told [
+  | inl told ↦ subst (AnswerEnds input before after) (sym told.0) (line, refused, told.1)
+  | inr failed ↦ subst (AnswerEnds input before after) (sym failed.0) (line, inr refused, failed.1)
 ]
 
 runs_to : (input : List ℕ) (script : Script) (history : List Event) → IsAccepted input script → IsWhole script history → RunsTo input (history_text script history)
@@ -44,10 +48,62 @@ runs_to input script history accepted whole = record {
 }
 
 -- an input that is a script, once its history was written
-pub run_told : (input : List ℕ) (script : Script) (written written' : Option (List ℕ)) (faults faults' : ℕ) (result : Status) → IsAccepted input script → WriteEnds script written written' faults faults' result → AnswerEnds input written written' faults faults' result
-run_told input script written written' faults faults' statuses.Done accepted ends = (ends.0, history_text script ends.1, runs_to input script ends.1 accepted ends.2, ends.3)
-run_told input script written written' faults faults' statuses.Refused accepted ends = absurd ends
-run_told input script written written' faults faults' statuses.ReadFault accepted ends = absurd ends
-run_told input script written written' faults faults' statuses.WriteFault accepted ends = (ends.0, history_text script ends.1, inl (runs_to input script ends.1 accepted ends.2), ends.3)
-run_told input script written written' faults faults' statuses.NoMemory accepted ends = ends
-run_told input script written written' faults faults' statuses.Usage accepted ends = absurd ends
+pub run_told : (input : List ℕ) (script : Script) (before after : Output) (result : Status) → IsAccepted input script → WriteEnds script before after result → AnswerEnds input before after result
+run_told input script before after statuses.Done accepted ends = (history_text script ends.0, runs_to input script ends.0 accepted ends.1, ends.2)
+run_told input script before after statuses.Refused accepted ends = absurd ends
+run_told input script before after statuses.ReadFault accepted ends = absurd ends
+run_told input script before after statuses.WriteFault accepted ends = (history_text script ends.0, inl (runs_to input script ends.0 accepted ends.1), ends.2)
+run_told input script before after statuses.NoMemory accepted ends = ends
+run_told input script before after statuses.Usage accepted ends = absurd ends
+
+-- a script's history was written
+pub headline_told : (before after : Outside) → RunEnds before after statuses.Done → Headline before after
+headline_told before after ends =
+    let ran = ends.ends.1 in
+    record {
+      input = ends.input;
+      read = ends.read.taken;
+      ended = ends.read.whole ran.accepted.short;
+      script = ran.script;
+      accepted = ran.accepted;
+      history = ran.history;
+      whole = ran.whole;
+      unkilled = ran.unkilled;
+      text = subst (λ (text : List ℕ). Appends before.output.written after.output.written text) ran.written ends.ends.2.whole;
+    }
+
+-- ---- processors
+
+-- the first processor's place holds the one that was put there
+pub first_is : {B : Type 0} (cpus : List (Cpu B)) (new cpu : Cpu B) → 0 < length cpus → slice_get (slice_set cpus 0 new) 0 ≡ Some cpu → cpu ≡ new
+first_is [] new cpu some at = absurd (omega arith)
+first_is (old ∷ others) new cpu some at = cc at
+
+-- with the same number all numbers are the same
+pub same_numbers : {B : Type 0} (cpus : List (Cpu B)) (first new : Cpu B) → first ≡ get_or cpus 0 first → new.number ≡ first.number → map (λ (cpu : Cpu B). cpu.number) (slice_set cpus 0 new) ≡ map (λ (cpu : Cpu B). cpu.number) cpus
+same_numbers {B = B} [] first new at same = refl
+same_numbers {B = B} (old ∷ others) first new at same = let number : new.number ≡ old.number = same ∙ ap (λ (cpu : Cpu B). cpu.number) at in
+    ap (λ (n : ℕ). n ∷ map (λ (cpu : Cpu B). cpu.number) others) number
+
+has_run : {B : Type 0} (input : List ℕ) (script : Script) (cpus : List (Cpu B)) (new : Cpu B) → IsAccepted input script → 0 < length cpus → new.layout ≡ script.layout → HasRun input (slice_set cpus 0 new)
+has_run {B = B} input script cpus new accepted some layout = record {
+  script = script;
+  accepted = accepted;
+  layout = λ cpu at. ap (λ (c : Cpu B). c.layout) (first_is cpus new cpu some at) ∙ layout;
+}
+
+-- the first processor put back
+unchanged : {A : Type 0} (items : List A) (first : A) → 0 < length items → first ≡ get_or items 0 first → slice_set items 0 first ≡ items
+unchanged [] first some at = refl
+unchanged {A = A} (old ∷ others) first some at = ap (λ (x : A). x ∷ others) at
+
+-- a script's run on the first processor
+pub ran_on : {B : Type 0} (input : List ℕ) (script : Script) (cpus : List (Cpu B)) (first new : Cpu B) (result : Status) (before after : Output) → IsAccepted input script → WriteEnds script before after result → 0 < length cpus → first ≡ get_or cpus 0 first
+    → (result ≡ statuses.NoMemory → new ≡ first) → ((result ≡ statuses.NoMemory → ⊥) → new.layout ≡ script.layout)
+    → KeepsProcessors cpus (slice_set cpus 0 new) (HasRun input (slice_set cpus 0 new)) result
+ran_on input script cpus first new statuses.Done before after accepted ends some at kept layout = has_run input script cpus new accepted some (layout (λ is. cc is))
+ran_on input script cpus first new statuses.Refused before after accepted ends some at kept layout = absurd ends
+ran_on input script cpus first new statuses.ReadFault before after accepted ends some at kept layout = absurd ends
+ran_on input script cpus first new statuses.WriteFault before after accepted ends some at kept layout = inr (has_run input script cpus new accepted some (layout (λ is. cc is)))
+ran_on input script cpus first new statuses.NoMemory before after accepted ends some at kept layout = rw (kept refl) (unchanged cpus first some at)
+ran_on input script cpus first new statuses.Usage before after accepted ends some at kept layout = absurd ends

@@ -1,5 +1,5 @@
 -- What a command does to a bank that holds a task's file.
-use Rattle.std.proofs.Common.{◌≡◌, inl, inr, ℕ, ◌+◌, ◌<◌, ◌^◌, ◌==◌, Bool, true, false, ◌&&◌, ◌||◌, List, [], length, get_or, refl, sym, ap, ◌∙◌, if◌then◌else◌, arith}
+use Rattle.std.proofs.Common.{◌≡◌, inl, inr, ℕ, zero, suc, ◌+◌, ◌<◌, ◌^◌, ◌==◌, Bool, true, false, ◌&&◌, ◌||◌, List, [], ◌∷◌, length, get_or, refl, sym, ap, ◌∙◌, if◌then◌else◌, arith}
 use Rattle.std.proofs.lemmas.Bool.{cases_Bool, cases_eq, cases_lt, ne_eqb}
 use Rattle.std.proofs.lemmas.List.{get_or_past}
 use Rattle.std.specs.Prelude.{Some, None, slice_index, slice_range}
@@ -22,7 +22,6 @@ use Rattle.xs_model.specs.declared.event.Reply.TheVariants as replies
 use Rattle.xs_model.specs.Script.{IsCommand, is_built}
 use Rattle.xstate.specs.Turns.{FileRuns}
 use Rattle.xstate.specs.Engine.{IsTaskFile, IsSetUp, BankRuns}
-use Rattle.xs_script.proofs.Lanes.{IsBytes-from_recursion}
 use Rattle.xstate.proofs.BuiltRegisters.{built_not_pkru, built_not_config, built_not_tiles, set_length, set_control}
 
 -- ---- traps
@@ -89,8 +88,13 @@ module _ (file registers : File) (name : List ℕ) (place : Place) (bytes : List
 
 -- ---- the file after a write
 
+byte_at : (bytes : List ℕ) → AllByRecursion (λ byte. byte < 256) bytes → (i : ℕ) → slice_index bytes i < 256
+byte_at [] fits i = omega arith
+byte_at (b ∷ bytes) fits zero = fits.0
+byte_at (b ∷ bytes) fits (suc i) = byte_at bytes fits.1 i
+
 small_control : (bytes : List ℕ) → AllByRecursion (λ byte. byte < 256) bytes → slice_index bytes 2 ≡ 0 → slice_index bytes 3 ≡ 0 → from_le_bytes w32 bytes < 2 ^ 16
-small_control bytes fits second third = omega (arith, second, third, IsBytes-from_recursion bytes fits 0, IsBytes-from_recursion bytes fits 1)
+small_control bytes fits second third = omega (arith, second, third, byte_at bytes fits 0, byte_at bytes fits 1)
 
 module _ (rows : List Row) (file : File) (name : List ℕ) (place : Place) (bytes : List ℕ) (good : IsTaskFile rows file) (register : IsRegister rows name place) (built : is_built place ≡ true) (long : length bytes ≡ place.len) (fits : AllByRecursion (λ byte. byte < 256) bytes) (upper : is_mxcsr place ≡ true → (slice_index bytes 2 ≡ 0) × (slice_index bytes 3 ≡ 0)) where
   here : IsRegister file.rows name place

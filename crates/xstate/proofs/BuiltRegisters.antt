@@ -14,7 +14,6 @@ use Rattle.xs_model.specs.declared.script.Order.{Order}
 use Rattle.xs_model.specs.declared.script.Block.{Block}
 use Rattle.xs_model.specs.declared.script.Script.{Script}
 use Rattle.xs_model.specs.Script.{IsCommand, IsBuiltCommand, IsValid, IsBuilt, register_of, fits_register, built_components, is_built}
-use Rattle.xs_script.proofs.CommandFaults.{fits_length}
 use Rattle.xstate.proofs.TurnLemmas.{AllByRecursion-at, body_found}
 use Rattle.xstate.specs.Turns.{body_at}
 
@@ -47,7 +46,9 @@ set_fits rows reg bytes place command register =
 
 -- so it has as many bytes
 pub set_length : (rows : List Row) (reg bytes : List ℕ) (place : Place) → IsCommand rows (commands.Set reg bytes) → IsRegister rows reg place → length bytes ≡ place.len
-set_length rows reg bytes place command register = fits_length place bytes (set_fits rows reg bytes place command register)
+set_length rows reg bytes place command register =
+    let upper = list_all (λ byte. byte == 0) (drop 2 bytes) in
+    eqb-true (length bytes) place.len (and_parts (length bytes == place.len) (not (is_mxcsr place) || upper) (set_fits rows reg bytes place command register)).0
 
 zero_at : (bytes : List ℕ) → list_all (λ byte. byte == 0) (drop 2 bytes) ≡ true → (slice_index bytes 2 ≡ 0) × (slice_index bytes 3 ≡ 0)
 zero_at [] zero = (refl, refl)

@@ -26,7 +26,7 @@ use Rattle.xs_model.specs.Script.{IsBuilt, IsCommand}
 use Rattle.xs_model.specs.History.{IsWhole}
 use Rattle.xstate.specs.declared.parked.Parked.{Parked}
 use Rattle.xstate.specs.Turns.{SavedTask, task_at, task_with, with_task, body_at, is_last, AfterLine}
-use Rattle.xstate.specs.Engine.{EngineState, IsSetUp, BankRuns, IsTaskFile, IsTaskArea, has_ended, parked_at, IsParked, AreParked, living, IsPoolOf, IsHeld, IsResting, IsTurning, IsPaused, EngineAfterLine, EngineAfterLines, IsNext, NoneLives}
+use Rattle.xstate.specs.Engine.{EngineState, IsSetUp, BankRuns, IsTaskFile, IsTaskArea, has_ended, parked_at, IsParked, AreParked, living, IsPoolOf, HoldsBlock, IsResting, IsTurning, IsPaused, EngineAfterLine, EngineAfterLines, IsLiving, NoneLives}
 use Rattle.xstate.proofs.BankLemmas.{bank_line}
 use Rattle.xstate.proofs.TaskLemmas.{root_large}
 use Rattle.xstate.proofs.TurnLemmas.{turn_starts, turn_line, turn_ends, turn_lines}
@@ -68,11 +68,11 @@ pub entry_area : (rows : List Row) (tasks : List Parked) (saved : List SavedTask
 entry_area rows tasks saved t parked lease all here is has = (all.each t here).area lease (ap (λ (p : Parked). p.lease) is ∙ has)
 
 -- what a restore gives of a task's file is held
-pub restored_held : (rows : List Row) (bank : banks.Bank) (tasks : List Parked) (saved : List SavedTask) (t : ℕ) (parked : Parked) (lease : Lease) → AreParked rows tasks saved → t < length tasks → parked_at tasks t ≡ parked → parked.lease ≡ Some lease
+pub restored_holds : (rows : List Row) (bank : banks.Bank) (tasks : List Parked) (saved : List SavedTask) (t : ℕ) (parked : Parked) (lease : Lease) → AreParked rows tasks saved → t < length tasks → parked_at tasks t ≡ parked → parked.lease ≡ Some lease
     → ((task : PrivateTask) → task.large ≡ false → IsTaskFile rows task.file → StandsFor rows lease.area.bytes.items task.file → Holds bank task)
     → ((m : ℕ) → banks.IsReady bank lease.area.id m lease.area.bytes.items)
-    → IsHeld rows bank (task_at saved t).file tasks t
-restored_held rows bank tasks saved t parked lease all here is has holds ready =
+    → HoldsBlock rows bank (task_at saved t).file tasks t
+restored_holds rows bank tasks saved t parked lease all here is has holds ready =
     let entry = all.each t here in
     let file = (task_at saved t).file in
     let stands = (entry_area rows tasks saved t parked lease all here is has).1 in
@@ -84,11 +84,11 @@ restored_held rows bank tasks saved t parked lease all here is has holds ready =
 -- ---- a Start
 
 pub engine_starts : (script : Script) (bank after : banks.Bank) (mark : Option ℕ) (engine : EngineState) (t : ℕ) (how : How) (history : List Event) (room : ℕ)
-    → IsBuilt script → (rest : IsResting script bank mark engine) → IsNext engine.tasks t → how ≡ how_of kinds.Task (is_last mark t)
-    → IsHeld script.layout after (task_at rest.saved t).file engine.tasks t → IsSetUp script.layout after
+    → IsBuilt script → (rest : IsResting script bank mark engine) → IsLiving engine.tasks t → how ≡ how_of kinds.Task (is_last mark t)
+    → HoldsBlock script.layout after (task_at rest.saved t).file engine.tasks t → IsSetUp script.layout after
     → history ≡ engine.history ++ events.Start t 0 how None ∷ []
     → IsTurning script after (Some t) (record engine { history = history; room = room }) t (parked_at engine.tasks t).place 0
-engine_starts script bank after mark engine t how history room built rest next how_is held machine is =
+engine_starts script bank after mark engine t how history room built rest next how_is holds machine is =
     let here : t < length rest.saved = omega (arith, next.0, rest.parked.count) in
     let entry = rest.parked.each t next.0 in
     let turn = turn_starts script rest.file mark rest.saved engine.history t how (task_at rest.saved t).file built rest.rest here (sym entry.ended ∙ next.1) how_is refl in
@@ -98,7 +98,7 @@ engine_starts script bank after mark engine t how history room built rest next h
       turn = turn;
       parked = rest.parked;
       machine = machine;
-      held = held;
+      holds = holds;
       good = entry.file;
       pool = rest.pool;
       lives = next.1;
@@ -107,10 +107,10 @@ engine_starts script bank after mark engine t how history room built rest next h
 -- ---- a line
 
 lift_line : (script : Script) (bank after : banks.Bank) (mark : Option ℕ) (engine : EngineState) (t place ran : ℕ) (history : List Event) (room : ℕ)
-    → (turn : IsTurning script bank mark engine t place ran) (file : File) → IsTaskFile script.layout file → IsSetUp script.layout after → IsHeld script.layout after file engine.tasks t
+    → (turn : IsTurning script bank mark engine t place ran) (file : File) → IsTaskFile script.layout file → IsSetUp script.layout after → HoldsBlock script.layout after file engine.tasks t
     → (on : Bool) → AfterLine script file mark turn.saved history t (place + 1) ran (if on then stages.Turn 0 (ran + 1) else stages.Ready)
     → EngineAfterLine script after mark (record engine { history = history; room = room }) t (place + 1) ran (if on then stages.Turn 0 (ran + 1) else stages.Ready)
-lift_line script bank after mark engine t place ran history room turn file good machine held true next = (
+lift_line script bank after mark engine t place ran history room turn file good machine holds true next = (
   next.0,
   next.1,
   record {
@@ -119,19 +119,19 @@ lift_line script bank after mark engine t place ran history room turn file good 
     turn = next.2;
     parked = turn.parked;
     machine = machine;
-    held = held;
+    holds = holds;
     good = good;
     pool = turn.pool;
     lives = turn.lives;
   },
 )
-lift_line script bank after mark engine t place ran history room turn file good machine held false next = record {
+lift_line script bank after mark engine t place ran history room turn file good machine holds false next = record {
   file = file;
   saved = turn.saved;
   rest = next;
   parked = turn.parked;
   machine = machine;
-  held = held;
+  holds = holds;
   good = good;
   pool = turn.pool;
   lives = turn.lives;
@@ -147,13 +147,13 @@ pub engine_line : (script : Script) (bank after : banks.Bank) (mark : Option ℕ
     → history ≡ engine.history ++ events.Local t order.number reply ∷ []
     → EngineAfterLine script after mark (record engine { history = history; room = room }) t (place + 1) ran (stage_after 0 ran script.quantum)
 engine_line script bank after mark engine t place ran history room turn lines order known at within reply command runs ready is =
-    let line = bank_line script.layout bank turn.file order.command reply after turn.machine turn.good turn.held.same command runs in
-    let held : IsHeld script.layout after line.file_is engine.tasks t = record {
+    let line = bank_line script.layout bank turn.file order.command reply after turn.machine turn.good turn.holds.same command runs in
+    let holds : HoldsBlock script.layout after line.file_is engine.tasks t = record {
       same = line.same;
-      ready = λ lease has. ready lease.area.id (class_features script.layout Small) lease.area.bytes.items (turn.held.ready lease has);
+      ready = λ lease has. ready lease.area.id (class_features script.layout Small) lease.area.bytes.items (turn.holds.ready lease has);
     } in
     let next = turn_line script turn.file mark turn.saved engine.history t place ran turn.turn lines order known at within reply line.file_is line.runs in
-    rw is (lift_line script bank after mark engine t place ran (engine.history ++ events.Local t order.number reply ∷ []) room turn line.file_is line.good line.machine held (goes_on ran script.quantum) next)
+    rw is (lift_line script bank after mark engine t place ran (engine.history ++ events.Local t order.number reply ∷ []) room turn line.file_is line.good line.machine holds (goes_on ran script.quantum) next)
 
 -- ---- an end
 
@@ -168,7 +168,7 @@ engine_ends script bank mark engine t place ran history room turn lines known at
   rest = turn_ends script turn.file mark turn.saved engine.history t place ran turn.turn lines known at_end within;
   parked = turn.parked;
   machine = turn.machine;
-  held = turn.held;
+  holds = turn.holds;
   good = turn.good;
   pool = turn.pool;
   lives = turn.lives;
@@ -210,8 +210,8 @@ module _ (script : Script) (bank after : banks.Bank) (mark : Option ℕ) (engine
     rest = rw history_is paused.rest;
     parked = rw tasks_are (parked_set script.layout engine.tasks paused.saved t parked (record { file = paused.file; place = place; ended = ended }) paused.parked paused.here entry);
     machine = record { rows_are = ap (λ (f : File). f.rows) file_is ∙ paused.machine.rows_are; armed = armed_is ∙ paused.machine.armed };
-    held = λ u is. rw (← marked u is) (record {
-      same = rw file_is paused.held.same;
+    holds = λ u is. rw (← marked u is) (record {
+      same = rw file_is paused.holds.same;
       ready = λ lease has. ready lease (sym (ap (λ (p : Parked). p.lease) entry_here) ∙ has);
     });
     pool = pool;
@@ -263,7 +263,7 @@ engine_whole script bank mark engine rest none =
 -- ---- a turn's place
 
 -- a task's place is within its body
-pub place_within : (script : Script) (bank : banks.Bank) (mark : Option ℕ) (engine : EngineState) (t : ℕ) (parked : Parked) → IsResting script bank mark engine → IsNext engine.tasks t → parked ≡ parked_at engine.tasks t → parked.place ≤ length (body_at script t)
+pub place_within : (script : Script) (bank : banks.Bank) (mark : Option ℕ) (engine : EngineState) (t : ℕ) (parked : Parked) → IsResting script bank mark engine → IsLiving engine.tasks t → parked ≡ parked_at engine.tasks t → parked.place ≤ length (body_at script t)
 place_within script bank mark engine t parked rest next is =
     let lines = turn_lines script (length engine.tasks) t (rest.parked.count ∙ rest.rest.known) next.0 in
     let within = rest.rest.places t lines.0 lines.1 in

@@ -7,7 +7,7 @@ use Rattle.std.proofs.lemmas.Grind.{flat_map-append}
 use Rattle.xs_model.specs.declared.script.Script.{Script}
 use Rattle.xs_model.specs.declared.event.Event.{Event}
 use Rattle.xs_text.specs.Text.{event_line, history_text}
-use Rattle.xstate.specs.Writing.{AppendsFront}
+use Rattle.xstate.specs.Outside.{AppendsFront}
 use Rattle.xstate.proofs.KnownBytes.{AppendsFront_then, AppendsFront_more}
 
 -- the text is the lines before an event, its line, and the lines after it

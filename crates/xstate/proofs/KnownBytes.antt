@@ -3,7 +3,7 @@ use Rattle.std.proofs.Common.{◌≡◌, ℕ, List, [], ◌∷◌, ◌++◌, tak
 use Rattle.std.proofs.lemmas.Grind.{common_steps}
 use Rattle.std.specs.Prelude.{Option}
 use Rattle.std.specs.Io.KnownBytes.{Appends, Consumes}
-use Rattle.xstate.specs.Writing.{AppendsFront}
+use Rattle.xstate.specs.Outside.{AppendsFront}
 
 -- Two reads consume the bytes of the first and then those of the second.
 pub Consumes_then : (a b c : Option (List ℕ)) (xs ys : List ℕ)

@@ -13,8 +13,7 @@ use Rattle.xs_base.specs.Bytes.{zeros}
 use Rattle.xs_base.specs.File.{File, initial_file}
 use Rattle.xs_base.specs.Layout.{IsLayout}
 use Rattle.xs_base.specs.Task.{PrivateTask, root_task, start_pkru}
-use Rattle.xs_base.proofs.FileLemmas.{initial_at, initial_is_file, part_other}
-use Rattle.xs_regs.proofs.Loads.{pkru_is_file}
+use Rattle.xs_base.proofs.FileLemmas.{initial_at, initial_is_file, part_other, pkru_is_file}
 use Rattle.xs_model.specs.declared.script.BlockKind.TheVariants as kinds
 use Rattle.xs_model.specs.declared.script.Block.{Block}
 use Rattle.xs_model.specs.declared.script.Script.{Script}
@@ -128,6 +127,6 @@ engine_opens script bank old mark engine built set_up none first opened pool = r
   rest = rw (none, first) (at_opening script (initial_file script.layout) built);
   parked = opened_parked script.layout engine.tasks (length script.blocks) opened;
   machine = rw set_up (record { rows_are = refl; armed = refl });
-  held = λ t is. absurd (cc (sym none ∙ is));
+  holds = λ t is. absurd (cc (sym none ∙ is));
   pool = pool;
 }

@@ -13,7 +13,7 @@ use Rattle.xs_model.specs.Machine.{BlockState}
 use Rattle.xs_model.specs.History.{lives, IsWhole}
 use Rattle.xstate.specs.declared.parked.Parked.{Parked}
 use Rattle.xstate.specs.Turns.{SavedTask, task_at, body_at, block_at_rest, machine_at_rest, IsAtRest}
-use Rattle.xstate.specs.Engine.{has_ended, parked_at, work_of, work, body_lines, AreOpened, IsNext}
+use Rattle.xstate.specs.Engine.{has_ended, parked_at, work_of, work, body_lines, AreOpened, IsLiving}
 use Rattle.xstate.proofs.TurnLemmas.{turn_lines}
 
 -- what a task has left to do
@@ -35,7 +35,7 @@ work_exact (block ∷ blocks) (task ∷ tasks) (suc t) lines after known here =
     omega arith
 
 -- a task that lives has its end to do, and the lines that are left
-pub work_here : (script : Script) (tasks : List Parked) (t : ℕ) → length tasks ≡ length script.blocks → IsNext tasks t → (length (body_at script t) - (parked_at tasks t).place) + 1 ≤ work script.blocks tasks
+pub work_here : (script : Script) (tasks : List Parked) (t : ℕ) → length tasks ≡ length script.blocks → IsLiving tasks t → (length (body_at script t) - (parked_at tasks t).place) + 1 ≤ work script.blocks tasks
 work_here script tasks t known next =
     let lines = turn_lines script (length tasks) t known next.0 in
     let exact = work_exact script.blocks tasks t lines.0 (record { lease = None; place = 0 }) lines.1 next.0 in
@@ -43,7 +43,7 @@ work_here script tasks t known next =
 
 -- a turn that goes on leaves less to do
 pub turn_falls : (script : Script) (tasks : List Parked) (t : ℕ) (after : Parked)
-    → length tasks ≡ length script.blocks → IsNext tasks t → has_ended after.lease ≡ false → (parked_at tasks t).place < after.place → after.place ≤ length (body_at script t)
+    → length tasks ≡ length script.blocks → IsLiving tasks t → has_ended after.lease ≡ false → (parked_at tasks t).place < after.place → after.place ≤ length (body_at script t)
     → work script.blocks (set tasks t after) + after.place ≡ work script.blocks tasks + (parked_at tasks t).place
 turn_falls script tasks t after known next alive more within =
     let lines = turn_lines script (length tasks) t known next.0 in
@@ -53,7 +53,7 @@ turn_falls script tasks t after known next alive more within =
 
 -- and so does the end of a task
 pub end_falls : (script : Script) (tasks : List Parked) (t : ℕ) (after : Parked)
-    → length tasks ≡ length script.blocks → IsNext tasks t → has_ended after.lease ≡ true
+    → length tasks ≡ length script.blocks → IsLiving tasks t → has_ended after.lease ≡ true
     → work script.blocks (set tasks t after) + ((length (body_at script t) - (parked_at tasks t).place) + 1) ≡ work script.blocks tasks
 end_falls script tasks t after known next gone =
     let lines = turn_lines script (length tasks) t known next.0 in

@@ -1,7 +1,7 @@
 -- What `xstate` answers: which command lines it takes, which inputs it accepts, and what it writes for them. All of it
 -- is this project's own.
-use Rattle.std.specs.Prelude.{◌≡◌, ℕ, ◌+◌, ◌<◌, ◌≤◌, false, List, [], ◌∷◌, ◌++◌, length, codes, Option, ◌⊎◌}
-use Rattle.std.specs.Io.KnownBytes.{Appends, Consumes, IsAtEnd}
+use Rattle.std.specs.Prelude.{◌≡◌, ℕ, ◌<◌, ◌≤◌, false, List, [], ◌∷◌, ◌++◌, length, codes, slice_get, Some, ◌⊎◌}
+use Rattle.xs_bank.specs.declared.cpu.Cpu.{Cpu}
 use Rattle.xs_io.specs.Causes.{Rose}
 use Rattle.xs_model.specs.declared.script.Script.{Script}
 use Rattle.xs_model.specs.declared.event.Event.{Event}
@@ -13,7 +13,7 @@ use Rattle.xs_script.specs.Grammar.{Spells}
 use Rattle.xs_script.specs.Refusal.{Refuses}
 use Rattle.xs_script.specs.RefusalText.{refusal_text}
 use Rattle.xs_text.specs.Text.{history_text}
-use Rattle.xstate.specs.Writing.{AppendsFront}
+use Rattle.xstate.specs.Outside.{Input, Output, Outside, IsRead, TakesAtMost, AppendsFront, WritesNothing, Writes, FailsIn, limit}
 
 -- the one command line of this version, without the program's name
 abbrev pub IsRun : List (List ℕ) → Type 0
@@ -25,9 +25,7 @@ usage_text = codes "usage: xstate run [--tasks] | replay | check | gen N | demo 
 abbrev pub too_long_text : List ℕ
 too_long_text = codes "refused 0 too-long" ++ 10 ∷ []
 
--- the most bytes of a script
-abbrev pub limit : ℕ
-limit = 1048576
+-- ---- inputs
 
 -- The input is the text of this script, and no longer than a script may be.
 pub record IsAccepted (input : List ℕ) (script : Script) : Type 0 where
@@ -52,74 +50,76 @@ pub record RunsTo (input text : List ℕ) : Type 0 where
 abbrev pub IsOutput : List ℕ → List ℕ → Type 0
 IsOutput input text = RunsTo input text ⊎ IsRefused input text
 
--- The input was read: to its end, or where it is longer than a script may be until one byte more was taken.
-pub record IsRead (left left' : Option (List ℕ)) (input : List ℕ) : Type 0 where
-  pub taken : Consumes left left' input
-  pub most : length input ≤ limit + 1
-  pub whole : length input ≤ limit → IsAtEnd left'
+-- ---- how calls end, by the status
 
--- No more was taken of the source than one byte above the limit.
-pub record TakesAtMost (left left' : Option (List ℕ)) : Type 0 where
-  pub bytes : List ℕ
-  pub taken : Consumes left left' bytes
-  pub most : length bytes ≤ limit + 1
+-- A text that is told with a status was written whole, or a write failed.
+abbrev pub TellEnds : Status → List ℕ → Output → Output → Status → Type 0
+TellEnds status text before after result = ((result ≡ status) × Writes before after text) ⊎ ((result ≡ statuses.WriteFault) × FailsIn before after text)
 
--- How the answer to an input ends, by the status: what was written, and the count of the sink's faults.
-abbrev pub AnswerEnds : List ℕ → Option (List ℕ) → Option (List ℕ) → ℕ → ℕ → Status → Type 0
-AnswerEnds input written written' faults faults' statuses.Done = (faults' ≡ faults) × (text : List ℕ) × RunsTo input text × Appends written written' text
-AnswerEnds input written written' faults faults' statuses.Refused = (faults' ≡ faults) × (text : List ℕ) × IsRefused input text × Appends written written' text
-AnswerEnds input written written' faults faults' statuses.ReadFault = ⊥
-AnswerEnds input written written' faults faults' statuses.WriteFault = Rose faults faults' × (text : List ℕ) × IsOutput input text × AppendsFront written written' text
-AnswerEnds input written written' faults faults' statuses.NoMemory = (faults' ≡ faults) × (written' ≡ written)
-AnswerEnds input written written' faults faults' statuses.Usage = ⊥
+-- the run of a script
+abbrev pub WriteEnds : Script → Output → Output → Status → Type 0
+WriteEnds script before after statuses.Done = (history : List Event) × IsWhole script history × Writes before after (history_text script history)
+WriteEnds script before after statuses.Refused = ⊥
+WriteEnds script before after statuses.ReadFault = ⊥
+WriteEnds script before after statuses.WriteFault = (history : List Event) × IsWhole script history × FailsIn before after (history_text script history)
+WriteEnds script before after statuses.NoMemory = WritesNothing before after
+WriteEnds script before after statuses.Usage = ⊥
 
--- How a text ends that is told with a status.
-abbrev pub TellEnds : Status → List ℕ → Option (List ℕ) → Option (List ℕ) → ℕ → ℕ → Status → Type 0
-TellEnds status text written written' faults faults' result =
-    ((result ≡ status) × (faults' ≡ faults) × Appends written written' text) ⊎ ((result ≡ statuses.WriteFault) × Rose faults faults' × AppendsFront written written' text)
+-- the answer to an input
+abbrev pub AnswerEnds : List ℕ → Output → Output → Status → Type 0
+AnswerEnds input before after statuses.Done = (text : List ℕ) × RunsTo input text × Writes before after text
+AnswerEnds input before after statuses.Refused = (text : List ℕ) × IsRefused input text × Writes before after text
+AnswerEnds input before after statuses.ReadFault = ⊥
+AnswerEnds input before after statuses.WriteFault = (text : List ℕ) × IsOutput input text × FailsIn before after text
+AnswerEnds input before after statuses.NoMemory = WritesNothing before after
+AnswerEnds input before after statuses.Usage = ⊥
 
--- How the run of a script ends.
-abbrev pub WriteEnds : Script → Option (List ℕ) → Option (List ℕ) → ℕ → ℕ → Status → Type 0
-WriteEnds script written written' faults faults' statuses.Done = (faults' ≡ faults) × (history : List Event) × IsWhole script history × Appends written written' (history_text script history)
-WriteEnds script written written' faults faults' statuses.Refused = ⊥
-WriteEnds script written written' faults faults' statuses.ReadFault = ⊥
-WriteEnds script written written' faults faults' statuses.WriteFault = Rose faults faults' × (history : List Event) × IsWhole script history × AppendsFront written written' (history_text script history)
-WriteEnds script written written' faults faults' statuses.NoMemory = (faults' ≡ faults) × (written' ≡ written)
-WriteEnds script written written' faults faults' statuses.Usage = ⊥
+-- An input was read without a fault, and its answer ends so.
+pub record ReadAndEnds (before after : Outside) (Ends : List ℕ → Type 0) : Type 0 where
+  pub unfailed : after.input.faults ≡ before.input.faults
+  pub input : List ℕ
+  pub read : IsRead before.input after.input input
+  pub ends : Ends input
 
--- The input was read without a fault, and its answer ends so.
-abbrev pub ReadAndEnds : Option (List ℕ) → Option (List ℕ) → ℕ → ℕ → (List ℕ → Type 0) → Type 0
-ReadAndEnds left left' reads reads' Ends = (reads' ≡ reads) × (input : List ℕ) × IsRead left left' input × Ends input
+-- `run`
+abbrev pub RunEnds : Outside → Outside → Status → Type 0
+RunEnds before after statuses.Done = ReadAndEnds before after (λ input. AnswerEnds input before.output after.output statuses.Done)
+RunEnds before after statuses.Refused = ReadAndEnds before after (λ input. AnswerEnds input before.output after.output statuses.Refused)
+RunEnds before after statuses.ReadFault = Rose before.input.faults after.input.faults × TakesAtMost before.input after.input × WritesNothing before.output after.output
+RunEnds before after statuses.WriteFault = ReadAndEnds before after (λ input. AnswerEnds input before.output after.output statuses.WriteFault)
+RunEnds before after statuses.NoMemory = (after.input.faults ≡ before.input.faults) × TakesAtMost before.input after.input × WritesNothing before.output after.output
+RunEnds before after statuses.Usage = ⊥
 
--- How `run` ends.
-abbrev pub RunEnds : Option (List ℕ) → Option (List ℕ) → ℕ → ℕ → Option (List ℕ) → Option (List ℕ) → ℕ → ℕ → Status → Type 0
-RunEnds left left' reads reads' written written' writes writes' statuses.Done = ReadAndEnds left left' reads reads' (λ input. AnswerEnds input written written' writes writes' statuses.Done)
-RunEnds left left' reads reads' written written' writes writes' statuses.Refused = ReadAndEnds left left' reads reads' (λ input. AnswerEnds input written written' writes writes' statuses.Refused)
-RunEnds left left' reads reads' written written' writes writes' statuses.ReadFault = Rose reads reads' × TakesAtMost left left' × (writes' ≡ writes) × (written' ≡ written)
-RunEnds left left' reads reads' written written' writes writes' statuses.WriteFault = ReadAndEnds left left' reads reads' (λ input. AnswerEnds input written written' writes writes' statuses.WriteFault)
-RunEnds left left' reads reads' written written' writes writes' statuses.NoMemory = (reads' ≡ reads) × TakesAtMost left left' × (writes' ≡ writes) × (written' ≡ written)
-RunEnds left left' reads reads' written written' writes writes' statuses.Usage = ⊥
+-- The output is cut short: a write failed within what the words and the input ask for. Of wrong words nothing was read.
+abbrev pub IsCutShort : List (List ℕ) → Outside → Outside → Type 0
+IsCutShort words before after =
+    ((IsRun words → ⊥) × (after.input ≡ before.input) × FailsIn before.output after.output usage_text)
+    ⊎ (IsRun words × (input text : List ℕ) × IsRead before.input after.input input × IsOutput input text × FailsIn before.output after.output text)
 
--- What was written is a front of what the words and the input ask for. Of wrong words nothing was read.
-abbrev pub IsFront : List (List ℕ) → Option (List ℕ) → Option (List ℕ) → Option (List ℕ) → Option (List ℕ) → Type 0
-IsFront words left left' written written' =
-    ((IsRun words → ⊥) × (left' ≡ left) × AppendsFront written written' usage_text)
-    ⊎ (IsRun words × (input text : List ℕ) × IsRead left left' input × IsOutput input text × AppendsFront written written' text)
+-- No fault is passed over: a read failed only where the status is 4, and a write only where it is 5.
+pub record Unfailed (before after : Outside) (result : Status) : Type 0 where
+  pub reads : (result ≡ statuses.ReadFault → ⊥) → after.input.faults ≡ before.input.faults
+  pub writes : (result ≡ statuses.WriteFault → ⊥) → after.output.faults ≡ before.output.faults
 
--- Neither count of faults rose but where the status says so.
-abbrev pub Unfailed : ℕ → ℕ → ℕ → ℕ → Status → Type 0
-Unfailed reads reads' writes writes' statuses.Done = (reads' ≡ reads) × (writes' ≡ writes)
-Unfailed reads reads' writes writes' statuses.Refused = (reads' ≡ reads) × (writes' ≡ writes)
-Unfailed reads reads' writes writes' statuses.ReadFault = writes' ≡ writes
-Unfailed reads reads' writes writes' statuses.WriteFault = reads' ≡ reads
-Unfailed reads reads' writes writes' statuses.NoMemory = (reads' ≡ reads) × (writes' ≡ writes)
-Unfailed reads reads' writes writes' statuses.Usage = (reads' ≡ reads) × (writes' ≡ writes)
+-- ---- processors
 
--- The processors are as they were but where a script may have run: at its whole history, and where a write failed.
-abbrev pub KeepsProcessors : {A : Type 0} → List A → List A → Status → Type 0
-KeepsProcessors cpus cpus' statuses.Done = Unit {0}
-KeepsProcessors cpus cpus' statuses.Refused = cpus' ≡ cpus
-KeepsProcessors cpus cpus' statuses.ReadFault = cpus' ≡ cpus
-KeepsProcessors cpus cpus' statuses.WriteFault = Unit {0}
-KeepsProcessors cpus cpus' statuses.NoMemory = cpus' ≡ cpus
-KeepsProcessors cpus cpus' statuses.Usage = cpus' ≡ cpus
+-- The input is a script, and the first processor has its machine.
+pub record HasRun {B : Type 0} (input : List ℕ) (cpus : List (Cpu B)) : Type 0 where
+  pub script : Script
+  pub accepted : IsAccepted input script
+  pub layout : (cpu : Cpu B) → slice_get cpus 0 ≡ Some cpu → cpu.layout ≡ script.layout
+
+-- A script was read, and the first processor has its machine.
+pub record HasReadAndRun {B : Type 0} (before after : Input) (cpus : List (Cpu B)) : Type 0 where
+  pub input : List ℕ
+  pub read : IsRead before after input
+  pub ran : HasRun input cpus
+
+-- The processors are as they were but where a script ran: at its whole history, and where a write of it failed.
+abbrev pub KeepsProcessors : {B : Type 0} → List (Cpu B) → List (Cpu B) → Type 0 → Status → Type 0
+KeepsProcessors before after Ran statuses.Done = Ran
+KeepsProcessors before after Ran statuses.Refused = after ≡ before
+KeepsProcessors before after Ran statuses.ReadFault = after ≡ before
+KeepsProcessors before after Ran statuses.WriteFault = (after ≡ before) ⊎ Ran
+KeepsProcessors before after Ran statuses.NoMemory = after ≡ before
+KeepsProcessors before after Ran statuses.Usage = after ≡ before

@@ -14,6 +14,7 @@ use Rattle.xs_base.specs.Layout.{has_row}
 use Rattle.xs_base.specs.Register.{IsRegister}
 use Rattle.xs_area.specs.declared.area.Lease.{Lease}
 use Rattle.xs_bank.specs.Bank as banks
+use Rattle.xs_bank.specs.declared.cpu.Cpu.{Cpu}
 use Rattle.xs_bank.specs.Load.{tiles}
 use Rattle.xs_pool.specs.Pool.{Pool}
 use Rattle.xs_model.specs.declared.script.Command.{Command}
@@ -37,6 +38,11 @@ pub record IsSetUp (rows : List Row) (bank : banks.Bank) : Type 0 where
   pub rows_are : bank.file.rows ≡ rows
   pub armed : bank.armed ≡ (if has_row rows 18 then tiles else 0)
 
+-- The processor keeps its number and its machine.
+pub record IsSameProcessor {B : Type 0} (old new : Cpu B) : Type 0 where
+  pub number : new.number ≡ old.number
+  pub layout : new.layout ≡ old.layout
+
 -- What a command does to the bank, and its reply. No built register traps.
 abbrev pub BankRuns : List Row → banks.Bank → Command → Reply → banks.Bank → Type 0
 BankRuns rows old (commands.Set reg bytes) reply new = (place : Place) × IsRegister rows reg place × (is_built place ≡ true) × (reply ≡ replies.Done) × (new ≡ banks.after_write old place bytes)
@@ -51,9 +57,10 @@ pub record IsTaskFile (rows : List Row) (file : File) : Type 0 where
   pub control : file.mxcsr < 2 ^ 16
   pub tiles_are : part file 18 ≡ initial_part 18
 
--- The area is a Small one of the compacted format, which can be loaded.
+-- The area is a Small one of the compacted format, which has a header and can be loaded.
 pub record IsTaskArea (rows : List Row) (lease : Lease) : Type 0 where
   pub class : lease.class ≡ Small
+  pub header : 576 ≤ length lease.area.bytes.items
   pub loadable : IsLoadable rows Small lease.area.id lease.area.bytes.items
   pub names : xcomp_bv lease.area.bytes.items ≡ compacted (class_features rows Small)
   pub len : length lease.area.bytes.items ≡ class_size rows Small
@@ -116,7 +123,7 @@ abbrev pub HasRoom : EngineState → ℕ → Type 0
 HasRoom engine more = length engine.history + more ≤ engine.room
 
 -- The bank holds the file, which is that of block t, and a save into its area may leave out what wasn't changed.
-pub record IsHeld (rows : List Row) (bank : banks.Bank) (file : File) (tasks : List Parked) (t : ℕ) : Type 0 where
+pub record HoldsBlock (rows : List Row) (bank : banks.Bank) (file : File) (tasks : List Parked) (t : ℕ) : Type 0 where
   pub same : AreSameButPkru file bank.file
   pub ready : (lease : Lease) → (parked_at tasks t).lease ≡ Some lease → banks.IsReady bank lease.area.id (class_features rows Small) lease.area.bytes.items
 
@@ -127,7 +134,7 @@ pub record IsResting (script : Script) (bank : banks.Bank) (mark : Option ℕ) (
   pub rest : IsAtRest script file mark saved engine.history
   pub parked : AreParked script.layout engine.tasks saved
   pub machine : IsSetUp script.layout bank
-  pub held : (t : ℕ) → mark ≡ Some t → IsHeld script.layout bank file engine.tasks t
+  pub holds : (t : ℕ) → mark ≡ Some t → HoldsBlock script.layout bank file engine.tasks t
   pub pool : IsPoolOf script.layout engine.pool engine.tasks
 
 -- In a turn of block t, which has an area: the bank holds its file.
@@ -137,7 +144,7 @@ pub record IsTurning (script : Script) (bank : banks.Bank) (mark : Option ℕ) (
   pub turn : IsInTurn script file mark saved engine.history t place ran
   pub parked : AreParked script.layout engine.tasks saved
   pub machine : IsSetUp script.layout bank
-  pub held : IsHeld script.layout bank file engine.tasks t
+  pub holds : HoldsBlock script.layout bank file engine.tasks t
   pub good : IsTaskFile script.layout file
   pub pool : IsPoolOf script.layout engine.pool engine.tasks
   pub lives : has_ended (parked_at engine.tasks t).lease ≡ false
@@ -149,7 +156,7 @@ pub record IsPaused (script : Script) (bank : banks.Bank) (mark : Option ℕ) (e
   pub rest : IsAtRest script file mark (with_task saved t file place ended) engine.history
   pub parked : AreParked script.layout engine.tasks saved
   pub machine : IsSetUp script.layout bank
-  pub held : IsHeld script.layout bank file engine.tasks t
+  pub holds : HoldsBlock script.layout bank file engine.tasks t
   pub good : IsTaskFile script.layout file
   pub pool : IsPoolOf script.layout engine.pool engine.tasks
   pub lives : has_ended (parked_at engine.tasks t).lease ≡ false
@@ -176,8 +183,8 @@ EngineAfterLines script bank mark engine t from place false =
 -- ---- whose turn is next
 
 -- a task that hasn't ended
-abbrev pub IsNext : List Parked → ℕ → Type 0
-IsNext tasks t = (t < length tasks) × (has_ended (parked_at tasks t).lease ≡ false)
+abbrev pub IsLiving : List Parked → ℕ → Type 0
+IsLiving tasks t = (t < length tasks) × (has_ended (parked_at tasks t).lease ≡ false)
 
 -- no task from a place on is left
 abbrev pub NoneFrom : List Parked → ℕ → Type 0
@@ -186,7 +193,7 @@ NoneFrom tasks from = (t : ℕ) → from ≤ t → t < length tasks → has_ende
 -- the first task from a place on that hasn't ended
 pub record IsFirst (tasks : List Parked) (from t : ℕ) : Type 0 where
   pub after : from ≤ t
-  pub lives : IsNext tasks t
+  pub lives : IsLiving tasks t
   pub first : (u : ℕ) → from ≤ u → u < t → has_ended (parked_at tasks u).lease ≡ true
 
 -- the place behind the task that was started last

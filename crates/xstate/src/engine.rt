@@ -1,23 +1,25 @@
 //! The engine of one processor: it runs the tasks of a script by turns, and keeps their registers apart.
 
-ghost use Rattle.std.specs.Prelude.{◌≡◌, ℕ, ◌+◌, ◌-◌, ◌*◌, ◌<◌, ◌≤◌, [], ◌∷◌, ◌++◌, true, false, length, vec_len, slice_set, IfOk, IfErr, IfSome, IfNone, Some, None};
+ghost use Rattle.std.specs.Prelude.{◌≡◌, ℕ, ◌+◌, ◌-◌, ◌*◌, ◌^◌, ◌<◌, ◌≤◌, [], ◌∷◌, ◌++◌, true, false, length, vec_len, slice_set, IfOk, IfErr, IfSome, IfNone, Some, None};
 ghost use Rattle.xs_area.specs.declared.area.Lease.{Lease};
+ghost use Rattle.xs_base.specs.Area.{StandsFor};
+ghost use Rattle.xs_base.specs.File.{initial_file};
+ghost use Rattle.xs_base.specs.declared.class.Class.TheVariants as classes;
 ghost use Rattle.xs_model.specs.Machine.{how_of};
 ghost use Rattle.xs_model.specs.Script.{IsValid, IsBuilt};
 ghost use Rattle.xs_model.specs.History.{IsWhole};
+ghost use Rattle.xs_pool.specs.Pool.{leased};
 ghost use Rattle.xstate.specs.Turns.{task_at, body_at, is_last};
-ghost use Rattle.xstate.specs.Engine.{state_of, HasRoom, HasTold, body_lines, IsSetUp, IsResting, IsTurning, IsPaused, IsHeld, EngineAfterLine, EngineAfterLines, AreOpened, IsPoolOf, parked_at, IsFirst, IsInOrder, IsNext, NoneFrom, NoneLives, work};
-
-#[cfg(test)]
-mod tests;
+ghost use Rattle.xstate.specs.Engine.{state_of, HasRoom, HasTold, body_lines, IsSetUp, IsTaskArea, IsResting, IsTurning, IsPaused, HoldsBlock, EngineAfterLine, EngineAfterLines, AreOpened, IsPoolOf, parked_at, IsFirst, IsInOrder, IsLiving, NoneFrom, NoneLives, IsSameProcessor, work};
 
 use crate::instructions::run_command;
 use crate::parked::Parked;
 use crate::switching::{restore, save};
 use std::alloc::{AllocError, Global};
-use xs_area::Class;
+use xs_area::{Class, Lease, make_initial};
 use xs_bank::{Bank, Cpu};
 use xs_base::How;
+use xs_layout::Layout;
 use xs_model::{Block, BlockKind, Event, History, Order, Script, Stage};
 use xs_pool::AreaPool;
 
@@ -44,6 +46,8 @@ pub fn run<B: Bank>(alloc: Global, script: &Script, cpu: &mut Cpu<B>) -> Result<
     requires built { IsBuilt script.now }
     ensures whole { IfOk result (IsWhole script.now) }
     ensures untouched { IfErr result (λ _. cpu.new ≡ cpu.old) }
+    ensures layout { IfOk result (λ _. cpu.new.layout ≡ script.now.layout) }
+    ensures number { cpu.new.number ≡ cpu.old.number }
 {
     let mut engine = Engine::open(alloc, script, cpu)?;
     while let Some(task) = engine.next_task(cpu.mark) {
@@ -66,19 +70,39 @@ fn most_events(blocks: &[Block]) -> Option<usize>
     Some(most)
 }
 
+/// A Small area of the pool, which has one left, made one that stands for the initial file.
+fn open_area(layout: &Layout, pool: &mut AreaPool) -> Lease
+    requires rows { pool.old.rows ≡ layout.now }
+    requires some { pool.old.small.out < pool.old.small.capacity }
+    requires few { pool.old.given < 2 ^ 64 - 1 }
+    ensures area { IsTaskArea layout.now result }
+    ensures stands { StandsFor layout.now result.area.bytes.items (initial_file layout.now) }
+    ensures after { pool.new ≡ leased pool.old classes.Small }
+{
+    let Ok(mut lease) = pool.lease(Class::Small) else {
+        unreachable!()
+    };
+    make_initial(layout, Class::Small, &mut lease.area.bytes);
+    lease
+}
+
 /// So many tasks that have had no turn, each with a Small area of its own.
-fn open_tasks(alloc: Global, pool: &mut AreaPool, count: usize) -> Result<Vec<Parked>, AllocError>
+fn open_tasks(
+    alloc: Global,
+    layout: &Layout,
+    pool: &mut AreaPool,
+    count: usize,
+) -> Result<Vec<Parked>, AllocError>
+    requires rows { pool.old.rows ≡ layout.now }
     requires few { count ≤ 64 }
     requires room { pool.old.small ≡ record { out = 0; capacity = count } }
     requires new { pool.old.given ≡ 0 }
-    ensures tasks { IfOk result (λ tasks. AreOpened pool.old.rows tasks.items count) }
-    ensures pool { IfOk result (λ tasks. IsPoolOf pool.old.rows pool.new tasks.items) }
+    ensures tasks { IfOk result (λ tasks. AreOpened layout.now tasks.items count) }
+    ensures pool { IfOk result (λ tasks. IsPoolOf layout.now pool.new tasks.items) }
 {
     let mut tasks = Vec::new(alloc);
     'each: while tasks.len() < count {
-        let Ok(lease) = pool.lease(Class::Small) else {
-            unreachable!()
-        };
+        let lease = open_area(layout, pool);
         tasks.push(Parked {
             lease: Some(lease),
             place: 0,
@@ -96,10 +120,12 @@ impl Engine {
         ensures rest { IfOk result (λ engine. IsResting script.now (B.state cpu.new.bank) cpu.new.mark (state_of engine)) }
         ensures room { IfOk result (λ engine. HasRoom (state_of engine) (2 * work script.now.blocks engine.tasks.items)) }
         ensures untouched { IfErr result (λ _. cpu.new ≡ cpu.old) }
+        ensures layout { IfOk result (λ _. cpu.new.layout ≡ script.now.layout) }
+        ensures number { cpu.new.number ≡ cpu.old.number }
     {
         let count = script.blocks.len();
         let mut pool = AreaPool::open(alloc, &script.layout, count as u32, script.large)?;
-        let tasks = open_tasks(alloc, &mut pool, count)?;
+        let tasks = open_tasks(alloc, &script.layout, &mut pool, count)?;
         let Some(room) = most_events(script.blocks.as_slice()) else {
             return Err(AllocError);
         };
@@ -116,7 +142,7 @@ impl Engine {
     /// first of all. None where every task has ended.
     fn next_task(&self, last: Option<u32>) -> Option<u32>
         requires { vec_len self.now.tasks ≤ 64 }
-        ensures some { IfSome result (λ t. IsNext self.now.tasks.items t) }
+        ensures some { IfSome result (λ t. IsLiving self.now.tasks.items t) }
         ensures order { IfSome result (λ t. IsInOrder self.now.tasks.items last t) }
         ensures none { IfNone result (NoneLives self.now.tasks.items) }
     {
@@ -134,11 +160,12 @@ impl Engine {
     /// whose registers the bank still has.
     fn restore<B: Bank>(&self, script: &Script, cpu: &mut Cpu<B>, task: u32) -> How
         requires rest { IsResting script.now (B.state cpu.old.bank) cpu.old.mark (state_of self.now) }
-        requires next { IsNext self.now.tasks.items task }
+        requires next { IsLiving self.now.tasks.items task }
         ensures how { result ≡ how_of BlockKind.Task (is_last cpu.old.mark task) }
-        ensures held { (rest : IsResting script.now (B.state cpu.old.bank) cpu.old.mark (state_of self.now)) → IsHeld script.now.layout (B.state cpu.new.bank) (task_at rest.saved task).file self.now.tasks.items task }
+        ensures holds { (rest : IsResting script.now (B.state cpu.old.bank) cpu.old.mark (state_of self.now)) → HoldsBlock script.now.layout (B.state cpu.new.bank) (task_at rest.saved task).file self.now.tasks.items task }
         ensures machine { IsSetUp script.now.layout (B.state cpu.new.bank) }
         ensures mark { cpu.new.mark ≡ cpu.old.mark }
+        ensures same { IsSameProcessor cpu.old cpu.new }
     {
         if cpu.mark == Some(task) {
             return How::Skip;
@@ -155,11 +182,12 @@ impl Engine {
         requires valid { IsValid script.now }
         requires built { IsBuilt script.now }
         requires rest { IsResting script.now (B.state cpu.old.bank) cpu.old.mark (state_of self.old) }
-        requires next { IsNext self.old.tasks.items task }
+        requires next { IsLiving self.old.tasks.items task }
         requires room { HasRoom (state_of self.old) 1 }
         ensures turn { IsTurning script.now (B.state cpu.new.bank) cpu.new.mark (state_of self.new) task (parked_at self.old.tasks.items task).place 0 }
         ensures tasks { self.new.tasks.items ≡ self.old.tasks.items }
         ensures told { HasTold (state_of self.old) (state_of self.new) 1 }
+        ensures same { IsSameProcessor cpu.old cpu.new }
     {
         let how = self.restore(script, cpu, task);
         cpu.mark = Some(task);
@@ -201,6 +229,7 @@ impl Engine {
         ensures after { EngineAfterLine script.now (B.state cpu.new.bank) cpu.new.mark (state_of self.new) task (place + 1) ran result }
         ensures tasks { self.new.tasks.items ≡ self.old.tasks.items }
         ensures told { HasTold (state_of self.old) (state_of self.new) 1 }
+        ensures same { IsSameProcessor cpu.old cpu.new }
     {
         let order = &lines_of(script, task)[place];
         let reply = run_command(&mut cpu.bank, &script.layout, &order.command);
@@ -228,6 +257,7 @@ impl Engine {
         ensures after { EngineAfterLines script.now (B.state cpu.new.bank) cpu.new.mark (state_of self.new) task from result.place result.over }
         ensures tasks { self.new.tasks.items ≡ self.old.tasks.items }
         ensures told { HasTold (state_of self.old) (state_of self.new) (result.place - from) }
+        ensures same { IsSameProcessor cpu.old cpu.new }
     {
         let end = lines_of(script, task).len();
         let mut place = from;
@@ -253,6 +283,7 @@ impl Engine {
         ensures rest { IsResting script.now (B.state cpu.new.bank) cpu.new.mark (state_of self.new) }
         ensures tasks { (lease : Lease) × (self.new.tasks.items ≡ slice_set self.old.tasks.items task (record { lease = Some lease; place = place })) }
         ensures events { self.new.events ≡ self.old.events }
+        ensures same { IsSameProcessor cpu.old cpu.new }
     {
         let Some(mut lease) = self.tasks[task as usize].lease.take() else {
             unreachable!()
@@ -270,6 +301,7 @@ impl Engine {
         ensures rest { IsResting script.now (B.state cpu.new.bank) cpu.new.mark (state_of self.new) }
         ensures tasks { self.new.tasks.items ≡ slice_set self.old.tasks.items task (record { lease = None; place = place }) }
         ensures events { self.new.events ≡ self.old.events }
+        ensures same { IsSameProcessor cpu.old cpu.new }
     {
         let Some(mut lease) = self.tasks[task as usize].lease.take() else {
             unreachable!()
@@ -284,11 +316,12 @@ impl Engine {
         requires valid { IsValid script.now }
         requires built { IsBuilt script.now }
         requires rest { IsResting script.now (B.state cpu.old.bank) cpu.old.mark (state_of self.old) }
-        requires next { IsNext self.old.tasks.items task }
+        requires next { IsLiving self.old.tasks.items task }
         requires room { HasRoom (state_of self.old) (2 * work script.now.blocks self.old.tasks.items) }
         ensures rest { IsResting script.now (B.state cpu.new.bank) cpu.new.mark (state_of self.new) }
         ensures progress { work script.now.blocks self.new.tasks.items < work script.now.blocks self.old.tasks.items }
         ensures room { HasRoom (state_of self.new) (2 * work script.now.blocks self.new.tasks.items) }
+        ensures same { IsSameProcessor cpu.old cpu.new }
     {
         let from = self.tasks[task as usize].place;
         self.start(script, cpu, task);

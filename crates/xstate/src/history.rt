@@ -4,7 +4,7 @@ ghost use Rattle.std.specs.Prelude.{OnOk, OnErr};
 ghost use Rattle.std.specs.Io.KnownBytes.{Appends};
 ghost use Rattle.xs_io.specs.Causes.{HasCause};
 ghost use Rattle.xs_text.specs.Text.{AreTasksKnown, history_text};
-ghost use Rattle.xstate.specs.Writing.{AppendsFront};
+ghost use Rattle.xstate.specs.Outside.{AppendsFront};
 
 use crate::writing::write_all;
 use arrayvec::ArrayVec;

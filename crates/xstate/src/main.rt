@@ -6,8 +6,6 @@ mod history;
 mod instructions;
 mod parked;
 mod reading;
-#[cfg(test)]
-mod reading_tests;
 mod status;
 mod switching;
 mod top;

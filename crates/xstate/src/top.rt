@@ -1,16 +1,17 @@
 //! The top call: all that the program does, over any source and sink.
 
 ghost use Rattle.std.specs.Prelude.{◌≡◌, ℕ, ◌<◌, List, ◌⊎◌, ◌↔◌, length, map, drop, slice_get, string_bytes, IsTrue, Some};
+ghost use Rattle.std.specs.Io.KnownBytes.{Appends};
 ghost use Rattle.xs_bank.specs.declared.cpu.Cpu.{Cpu};
 ghost use Rattle.xs_bank.specs.Bank.{HasCountedNothing};
-ghost use Rattle.std.specs.Io.KnownBytes.{Appends};
 ghost use Rattle.xs_io.specs.Causes.{Rose};
 ghost use Rattle.xs_model.specs.Script.{IsValid, IsBuilt};
 ghost use Rattle.xs_model.specs.declared.script.Script.{Script};
-ghost use Rattle.xstate.specs.Answers.{IsRun, IsAccepted, IsRefused, AnswerEnds, TellEnds, RunEnds, WriteEnds, IsFront, TakesAtMost, Unfailed, KeepsProcessors, usage_text, too_long_text};
-ghost use Rattle.xstate.specs.Headline.{Headline, Refusal, MayRun, MayRefuse};
 ghost use Rattle.xs_script.specs.RefusalText.{refusal_text};
 ghost use Rattle.xs_text.specs.Text.{AreTasksKnown, history_text};
+ghost use Rattle.xstate.specs.Outside.{outside, input_of, output_of, TakesAtMost};
+ghost use Rattle.xstate.specs.Answers.{IsRun, IsAccepted, IsRefused, AnswerEnds, TellEnds, RunEnds, WriteEnds, IsCutShort, Unfailed, HasRun, HasReadAndRun, KeepsProcessors, usage_text, too_long_text};
+ghost use Rattle.xstate.specs.Headline.{Headline, Refusal, MayRun, MayRefuse};
 
 #[cfg(test)]
 mod tests;
@@ -24,7 +25,9 @@ use std::alloc::Global;
 use xs_bank::{Bank, Cpu};
 use xs_io::{Sink, Source};
 use xs_model::{Event, Script};
-use xs_script::{Kind, RefusalLine, ScriptError, read_script, write_refusal};
+use xs_script::{
+    Kind, RefusalLine, ScriptError, not_both, one_refusal, read_script, write_refusal,
+};
 
 /// The most bytes of a script.
 const LIMIT: usize = 1048576;
@@ -56,31 +59,34 @@ pub fn top<S: Source, K: Sink, B: Bank>(
     ensures no_command { (IsRun (map string_bytes words.now) → ⊥) → (result ≡ Status.Usage) ⊎ (result ≡ Status.WriteFault) }
     // 0: what was written is the text of a whole history of the script that was read.
     ensures headline { result ≡ Status.Done → IsRun (map string_bytes words.now)
-        × Headline (S.left source.old) (S.left source.new) (K.written sink.old) (K.written sink.new) }
+        × Headline (outside S.Source K.Sink source.old sink.old) (outside S.Source K.Sink source.new sink.new) }
     // 2: what was read is no script, and what was written is the line of its first refusal.
     ensures refused { result ≡ Status.Refused → IsRun (map string_bytes words.now)
-        × Refusal (S.left source.old) (S.left source.new) (K.written sink.old) (K.written sink.new) }
+        × Refusal (outside S.Source K.Sink source.old sink.old) (outside S.Source K.Sink source.new sink.new) }
     // A known input that is a script is never refused.
     ensures runs { (input : List ℕ) (script : Script) → S.left source.old ≡ Some input → IsRun (map string_bytes words.now) → IsAccepted input script → MayRun result }
     // A known input that is refused by a line is refused by no other, and never run.
-    ensures refuses { (input line : List ℕ) → S.left source.old ≡ Some input → IsRun (map string_bytes words.now) → IsRefused input line → MayRefuse (K.written sink.old) (K.written sink.new) line result }
+    ensures refuses { (input line : List ℕ) → S.left source.old ≡ Some input → IsRun (map string_bytes words.now) → IsRefused input line → MayRefuse (output_of K.Sink sink.old) (output_of K.Sink sink.new) line result }
     // 4: only where the source failed in this call, and nothing was written.
     ensures read_fault { result ≡ Status.ReadFault → Rose (S.fault_count source.old) (S.fault_count source.new)
-        × TakesAtMost (S.left source.old) (S.left source.new) × (K.written sink.new ≡ K.written sink.old) }
-    // 5: only where the sink failed in this call.
-    ensures write_fault { result ≡ Status.WriteFault → Rose (K.fault_count sink.old) (K.fault_count sink.new) }
-    // What was written before a write failed is a front of the right output.
-    ensures front { result ≡ Status.WriteFault → IsFront (map string_bytes words.now) (S.left source.old) (S.left source.new) (K.written sink.old) (K.written sink.new) }
+        × TakesAtMost (input_of S.Source source.old) (input_of S.Source source.new) × (K.written sink.new ≡ K.written sink.old) }
+    // 5: only where the sink failed in this call, and what was written by then is a front of the right output.
+    ensures write_fault { result ≡ Status.WriteFault → IsCutShort (map string_bytes words.now) (outside S.Source K.Sink source.old sink.old) (outside S.Source K.Sink source.new sink.new) }
     // 6: nothing was written. It is the answer to want of memory, for which no clause can ask.
     ensures no_memory { result ≡ Status.NoMemory → IsRun (map string_bytes words.now)
-        × TakesAtMost (S.left source.old) (S.left source.new) × (K.written sink.new ≡ K.written sink.old) }
+        × TakesAtMost (input_of S.Source source.old) (input_of S.Source source.new) × (K.written sink.new ≡ K.written sink.old) }
     // No fault is passed over: the source failed only at 4, and the sink only at 5.
-    ensures unfailed { Unfailed (S.fault_count source.old) (S.fault_count source.new) (K.fault_count sink.old) (K.fault_count sink.new) result }
-    // At 64, 2, 4 and 6 no script ran, and no processor changed.
-    ensures untouched { KeepsProcessors cpus.old cpus.new result }
+    ensures unfailed { Unfailed (outside S.Source K.Sink source.old sink.old) (outside S.Source K.Sink source.new sink.new) result }
+    // At 0 the first processor has the machine of the script that was read. At 5 it has where there was one, or no processor
+    // changed. At 64, 2, 4 and 6 no script ran, and no processor changed.
+    ensures processors { KeepsProcessors cpus.old cpus.new (HasReadAndRun (input_of S.Source source.old) (input_of S.Source source.new) cpus.new) result }
+    // Each processor keeps its number.
+    ensures numbers { map (λ (cpu : Cpu B). cpu.number) cpus.new ≡ map (λ (cpu : Cpu B). cpu.number) cpus.old }
     // No processor past the first changes, since this version's scripts have one.
     ensures others { drop 1 cpus.new ≡ drop 1 cpus.old }
 {
+    one_refusal();
+    not_both();
     if is_run(words) {
         run_command(alloc, source, sink, cpus)
     } else {
@@ -106,9 +112,9 @@ fn run_command<S: Source, K: Sink, B: Bank>(
     cpus: &mut [Cpu<B>],
 ) -> Status
     requires { 0 < length cpus.old }
-    ensures ends { RunEnds (S.left source.old) (S.left source.new) (S.fault_count source.old) (S.fault_count source.new)
-        (K.written sink.old) (K.written sink.new) (K.fault_count sink.old) (K.fault_count sink.new) result }
-    ensures untouched { KeepsProcessors cpus.old cpus.new result }
+    ensures ends { RunEnds (outside S.Source K.Sink source.old sink.old) (outside S.Source K.Sink source.new sink.new) result }
+    ensures processors { KeepsProcessors cpus.old cpus.new (HasReadAndRun (input_of S.Source source.old) (input_of S.Source source.new) cpus.new) result }
+    ensures numbers { map (λ (cpu : Cpu B). cpu.number) cpus.new ≡ map (λ (cpu : Cpu B). cpu.number) cpus.old }
     ensures others { drop 1 cpus.new ≡ drop 1 cpus.old }
 {
     match read_up_to(alloc, LIMIT, source) {
@@ -126,8 +132,9 @@ fn answer<K: Sink, B: Bank>(
     cpus: &mut [Cpu<B>],
 ) -> Status
     requires { 0 < length cpus.old }
-    ensures ends { AnswerEnds input.now (K.written sink.old) (K.written sink.new) (K.fault_count sink.old) (K.fault_count sink.new) result }
-    ensures untouched { KeepsProcessors cpus.old cpus.new result }
+    ensures ends { AnswerEnds input.now (output_of K.Sink sink.old) (output_of K.Sink sink.new) result }
+    ensures processors { KeepsProcessors cpus.old cpus.new (HasRun input.now cpus.new) result }
+    ensures numbers { map (λ (cpu : Cpu B). cpu.number) cpus.new ≡ map (λ (cpu : Cpu B). cpu.number) cpus.old }
     ensures others { drop 1 cpus.new ≡ drop 1 cpus.old }
 {
     if input.len() > LIMIT {
@@ -142,7 +149,7 @@ fn answer<K: Sink, B: Bank>(
 
 /// Writes the line of a refusal.
 fn tell_refusal<K: Sink>(line: u32, kind: Kind, sink: &mut K) -> Status
-    ensures { TellEnds Status.Refused (refusal_text line kind) (K.written sink.old) (K.written sink.new) (K.fault_count sink.old) (K.fault_count sink.new) result }
+    ensures { TellEnds Status.Refused (refusal_text line kind) (output_of K.Sink sink.old) (output_of K.Sink sink.new) result }
 {
     let mut text = RefusalLine::new();
     write_refusal(line, kind, &mut text);
@@ -158,8 +165,10 @@ fn write_run<K: Sink, B: Bank>(
 ) -> Status
     requires valid { IsValid script.now }
     requires built { IsBuilt script.now }
-    ensures ends { WriteEnds script.now (K.written sink.old) (K.written sink.new) (K.fault_count sink.old) (K.fault_count sink.new) result }
+    ensures ends { WriteEnds script.now (output_of K.Sink sink.old) (output_of K.Sink sink.new) result }
     ensures untouched { result ≡ Status.NoMemory → cpu.new ≡ cpu.old }
+    ensures layout { (result ≡ Status.NoMemory → ⊥) → cpu.new.layout ≡ script.now.layout }
+    ensures number { cpu.new.number ≡ cpu.old.number }
 {
     match run(alloc, script, cpu) {
         Ok(history) => tell_history(script, history.events(), sink),
@@ -170,7 +179,7 @@ fn write_run<K: Sink, B: Bank>(
 /// Writes a history.
 fn tell_history<K: Sink>(script: &Script, history: &[Event], sink: &mut K) -> Status
     requires { AreTasksKnown script.now history.now }
-    ensures { TellEnds Status.Done (history_text script.now history.now) (K.written sink.old) (K.written sink.new) (K.fault_count sink.old) (K.fault_count sink.new) result }
+    ensures { TellEnds Status.Done (history_text script.now history.now) (output_of K.Sink sink.old) (output_of K.Sink sink.new) result }
 {
     match write_history(script, history, sink) {
         Ok(()) => Status::Done,
@@ -180,7 +189,7 @@ fn tell_history<K: Sink>(script: &Script, history: &[Event], sink: &mut K) -> St
 
 /// Writes a text in place of a history, and answers its status.
 fn tell<K: Sink>(sink: &mut K, text: &[u8], status: Status) -> Status
-    ensures { TellEnds status text.now (K.written sink.old) (K.written sink.new) (K.fault_count sink.old) (K.fault_count sink.new) result }
+    ensures { TellEnds status text.now (output_of K.Sink sink.old) (output_of K.Sink sink.new) result }
 {
     match write_all(sink, text) {
         Ok(()) => status,

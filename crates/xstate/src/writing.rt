@@ -3,7 +3,7 @@
 ghost use Rattle.std.specs.Prelude.{OnOk, OnErr};
 ghost use Rattle.std.specs.Io.KnownBytes.{Appends};
 ghost use Rattle.xs_io.specs.Causes.{HasCause};
-ghost use Rattle.xstate.specs.Writing.{AppendsFront};
+ghost use Rattle.xstate.specs.Outside.{AppendsFront};
 
 use xs_io::{Failed, Sink};
 

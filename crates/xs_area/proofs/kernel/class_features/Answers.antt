@@ -3,7 +3,7 @@ use Rattle.std.proofs.Common.{◌≡◌, ◌==◌, ◌&&◌, Bool, true, false, 
 use Rattle.xs_base.specs.Layout.{has_row}
 use Rattle.xs_base.specs.Sets.{has}
 use Rattle.xs_base.proofs.SetLemmas.{put_out}
-use Rattle.xs_area.proofs.KernelLemmas.{class_features_are}
+use Rattle.xs_base.proofs.ClassLemmas.{class_features_are}
 use Rattle.xs_area.proofs.kernel.class_features.Goals as goal
 
 turned : (a b d : Bool) → ((a && b) && d) ≡ (a && (d && b))

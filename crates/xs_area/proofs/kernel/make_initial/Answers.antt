@@ -6,7 +6,8 @@ use Rattle.xs_base.specs.Compact.{compacted}
 use Rattle.xs_base.specs.KernelArea as kernel
 use Rattle.xs_base.proofs.ComponentLemmas.{length_zeros}
 use Rattle.xs_base.proofs.FileLemmas.{splice_whole}
-use Rattle.xs_area.proofs.KernelLemmas.{zero_is, names_are, length_is, stands_initial, loadable_initial, compacted_holds}
+use Rattle.xs_area.proofs.KernelLemmas.{zero_is, names_are, length_is, stands_initial, loadable_initial}
+use Rattle.xs_base.proofs.CompactedLemmas.{compacted_places}
 use Rattle.xs_area.proofs.kernel.make_initial.Goals as goal
 
 -- the area, and its XCOMP_BV
@@ -32,4 +33,4 @@ pub returns-clause-loadable : goal.returns-clause-loadable
 returns-clause-loadable c = loadable_initial c.args.layout.now c.args.class (length c.args.area.now) c.put_number.new.out c.len.ensures.layout c.compacted.result.0 (names_is c) c.put_number.ensures.small c.requires (area_is c)
 
 pub returns-clause-places : goal.returns-clause-places
-returns-clause-places c = λ room. compacted_holds c.args.layout.now (kernel.class_features c.args.layout.now c.args.class) c.put_number.new.out c.len.ensures.layout (returns-clause-names c) (omega (arith, returns-clause-len c))
+returns-clause-places c = λ room. compacted_places c.args.layout.now (kernel.class_features c.args.layout.now c.args.class) c.put_number.new.out c.len.ensures.layout (returns-clause-names c) (omega (arith, returns-clause-len c))

@@ -2,7 +2,7 @@
 use Rattle.std.proofs.Common.{◌≤◌, length, arith}
 use Rattle.xs_base.proofs.CompactLemmas.{compact_size_low}
 use Rattle.xs_bank.specs.Save.{IsCompactedSave}
-use Rattle.xs_area.proofs.KernelLemmas.{compact_room}
+use Rattle.xs_base.proofs.CompactedLemmas.{compact_room}
 use Rattle.xs_bank.proofs.SaveLemmas.{compacted_saved}
 use Rattle.xs_bank.proofs.StandLemmas.{compacted_stands, stands_whole}
 use Rattle.xs_bank.proofs.WholeLemmas.{class_sse, loadable_saved}

@@ -1,4 +1,4 @@
-use Rattle.std.proofs.Common.{◌≡◌, sym, ◌∙◌, arith}
+use Rattle.std.proofs.Common.{sym, ◌∙◌, arith}
 use Rattle.std.proofs.lemmas.Bool.{eqb-true, eqb-false}
 use Rattle.xs_base.proofs.ComponentLemmas.{x87_is, initial_x87_written, initial_other_written}
 use Rattle.xs_base.proofs.bytes.put_initial.Goals as goal

@@ -2,4 +2,4 @@ use Rattle.xs_base.proofs.FaultLemmas.{IsChecked}
 use Rattle.xs_layout.proofs.checks.first_row_fault.Given as goal
 
 abbrev pub invariant-each : goal.invariant-each
-invariant-each l = IsChecked l.rows l.before l.i
+invariant-each l = IsChecked l.rows l.i

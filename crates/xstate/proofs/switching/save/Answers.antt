@@ -3,25 +3,26 @@ use Rattle.std.proofs.Common.{◌≡◌, length, ap, ◌∙◌, arith}
 use Rattle.xs_base.specs.declared.class.Class.TheVariants.{Small}
 use Rattle.xs_base.specs.Compact.{compacted}
 use Rattle.xs_base.specs.KernelArea.{class_features, class_size}
-use Rattle.xs_area.proofs.KernelLemmas.{compacted_holds}
-use Rattle.xstate.proofs.SwitchLemmas.{loadable_save, initial_outside, table_of, small_sse, stands_same}
+use Rattle.xs_base.proofs.CompactedLemmas.{compacted_places}
+use Rattle.xstate.proofs.SwitchLemmas.{long_area, loadable_save, initial_outside, table_of, small_sse, stands_same}
 use Rattle.xstate.proofs.switching.save.Goals as goal
 
 pub returns-clause-area : goal.returns-clause-area
 returns-clause-area g c =
     let rows = c.args.layout.now in
     let old = g.B.Bank.state c.args.bank.now in
-    let held = c.requires.held in
+    let held = c.requires.file in
     let after = c.xsaves.new.area.bytes.items in
     let save = loadable_save rows held.0 old.file c.class_features-mask.result.0 c.args.lease.now held.1 held.2 c.class_features-mask.ensures.bits c.requires.area in
     let names = c.xsaves.ensures.area.saved.names ∙ ap compacted c.class_features-mask.ensures.bits in
     let len : length after ≡ class_size rows Small = c.xsaves.ensures.area.saved.bytes.len ∙ c.requires.area.len in
     record {
       class = c.requires.area.class;
+      header = long_area rows after len;
       loadable = rw (c.requires.machine.rows_are) at c.xsaves.ensures.loadable Small save;
       names = names;
       len = len;
-      places = compacted_holds rows (class_features rows Small) after (table_of rows c.args.lease.now c.requires.area) names (omega (arith, len));
+      places = compacted_places rows (class_features rows Small) after (table_of rows c.args.lease.now c.requires.area) names (omega (arith, len));
     }
 
 pub returns-clause-stands : goal.returns-clause-stands

@@ -6,7 +6,8 @@ use Rattle.xs_base.specs.Component.{initial_part}
 use Rattle.xs_base.specs.Layout.{has_row}
 use Rattle.xs_regs.proofs.InUse.{used_with, changed_there}
 use Rattle.xs_regs.proofs.Parts.{shown_file}
-use Rattle.xs_regs.proofs.Loads.{vector_len, vector_written, loaded, other_is_file}
+use Rattle.xs_base.proofs.FileLemmas.{other_is_file}
+use Rattle.xs_regs.proofs.Loads.{vector_len, vector_written, loaded}
 use Rattle.xs_regs.proofs.file.File.load.Goals as goal
 
 pub invariant_of-self : goal.invariant_of-self

@@ -6,10 +6,10 @@ use Rattle.xs_base.specs.Bytes.{zeros}
 use Rattle.xs_base.specs.Component.{component_count, initial_part}
 use Rattle.xs_base.specs.Layout.{has_row}
 use Rattle.xs_base.proofs.ComponentLemmas.{pkru_size}
-use Rattle.xs_base.proofs.FileLemmas.{splice_whole}
 use Rattle.xs_regs.proofs.InUse.{used_with}
 use Rattle.xs_regs.proofs.Parts.{shown_file}
-use Rattle.xs_regs.proofs.Loads.{vector_size, vector_len, vector_written, pkru_is_file, pkru_length}
+use Rattle.xs_base.proofs.FileLemmas.{splice_whole, pkru_is_file, pkru_length}
+use Rattle.xs_regs.proofs.Loads.{vector_size, vector_len, vector_written}
 use Rattle.xs_regs.proofs.file.File.set_pkru.Goals as goal
 
 pub put_register-used-requires-clause-size : goal.put_register-used-requires-clause-size

@@ -3,7 +3,8 @@ use Rattle.xs_model.specs.declared.script.Named.TheVariants.{Rows}
 use Rattle.xs_script.specs.declared.line.Line.{Line}
 use Rattle.xs_script.specs.declared.line.Line.TheVariants as lines
 use Rattle.std.proofs.lemmas.List.{map-append}
-use Rattle.xs_script.proofs.HeadRows.{rows_push, rows_few, row_fails, row_leads}
+use Rattle.xs_base.proofs.FaultLemmas.{rows_push}
+use Rattle.xs_script.proofs.HeadRows.{rows_few, row_fails, row_leads}
 use Rattle.xs_script.proofs.head.Head.add_row.Goals as goal
 
 pub returns-in-Some-clause-refused : goal.returns-in-Some-clause-refused

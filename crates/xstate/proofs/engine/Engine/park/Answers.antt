@@ -16,7 +16,7 @@ pub returns-clause-rest : goal.returns-clause-rest
 returns-clause-rest g c =
     let paused = c.requires in
     engine_parks c.args.script.now (g.B.Bank.state c.args.cpu.now.bank) (g.B.Bank.state c.save.new.bank) c.args.cpu.now.mark (state_of c.args.self.now) c.args.task c.args.place c.save.new.lease
-    paused c.save.ensures.area (c.save.ensures.stands paused.file paused.good paused.held.same)
+    paused c.save.ensures.area (c.save.ensures.stands paused.file paused.good paused.holds.same)
     (ap (λ (b : banks.Bank). b.file) c.save.ensures.bank) (ap (λ (b : banks.Bank). b.armed) c.save.ensures.bank) c.save.ensures.ready
     _ refl refl (set-set c.args.self.now.tasks.items c.args.task _ _)
 

@@ -15,4 +15,4 @@ returns-clause-turn g c =
     let same = same_state (state_of c.args.self.now) next c.tell.new.self.events.items tasks pool refl in
     subst (λ (e : EngineState). IsTurning script (g.B.Bank.state c.restore-how.new.cpu.bank) (Some c.args.task) e c.args.task (parked_at c.args.self.now.tasks.items c.args.task).place 0) same
     (engine_starts script (g.B.Bank.state c.args.cpu.now.bank) (g.B.Bank.state c.restore-how.new.cpu.bank) c.args.cpu.now.mark (state_of c.args.self.now) c.args.task c.restore-how.result c.tell.new.self.events.items next.room
-    c.requires.built rest c.requires.next c.restore-how.ensures.how (c.restore-how.ensures.held rest) c.restore-how.ensures.machine c.tell.ensures.events)
+    c.requires.built rest c.requires.next c.restore-how.ensures.how (c.restore-how.ensures.holds rest) c.restore-how.ensures.machine c.tell.ensures.events)

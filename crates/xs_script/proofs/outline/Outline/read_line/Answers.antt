@@ -1,0 +1,13 @@
+use Rattle.xs_script.specs.Refusal.{Here}
+use Rattle.xs_script.specs.Outline.{outline_stand}
+use Rattle.xs_script.proofs.Outlines.{no_table, next_explains}
+use Rattle.xs_script.proofs.outline.Outline.read_line.Goals as goal
+
+pub returns-in-Err-clause-refused : goal.returns-in-Err-clause-refused
+returns-in-Err-clause-refused c =
+    let outline = c.args.self.now in
+    Here c.in-Err.kind (no_table outline.begun outline.names c.args.text.now) (c.in-Err.ensures.refused (outline_stand outline) (λ e. absurd (c.requires.some e)))
+
+pub returns-in-Err-add-clause-refused : goal.returns-in-Err-add-clause-refused
+returns-in-Err-add-clause-refused c =
+    next_explains c.args.self.now c.args.number c.args.text.now c.in-Ok.first.0 c.in-Ok.first.1.now c.in-Err-add.e c.in-Ok.ensures.line c.in-Err-add.ensures.refused
