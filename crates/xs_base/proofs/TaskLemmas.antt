@@ -1,4 +1,4 @@
--- A task that no fork has made is a valid private task.
+-- An initial file is one that a task may have, and a task that no fork has made is a valid private task.
 use Rattle.std.proofs.Common.{ℕ, zero, suc, ◌<◌, List, [], ◌++◌, get_or, refl, ◌∙◌, inl, inr, arith, lit<}
 use Rattle.std.proofs.lemmas.Bool.{cases_lt, cases_eq}
 use Rattle.std.proofs.lemmas.List.{get_or_past}
@@ -9,7 +9,7 @@ use Rattle.xs_base.specs.Bytes.{zeros}
 use Rattle.xs_base.specs.Component.{component_count, component_size, initial_part}
 use Rattle.xs_base.specs.Layout.{IsLayout}
 use Rattle.xs_base.specs.File.{part, initial_file, with_pkru}
-use Rattle.xs_base.specs.Task.{IsPrivateTask, root_task, start_pkru}
+use Rattle.xs_base.specs.Task.{IsFileOf, IsPrivateTask, root_task, start_pkru}
 use Rattle.xs_base.proofs.ComponentLemmas.{zero_at, length_zeros, initial_x87, initial_other}
 use Rattle.xs_base.proofs.FileLemmas.{initial_at, initial_is_file, part_other, pkru_is_file}
 
@@ -31,7 +31,15 @@ file_bytes rows c k = elim (cases_lt c component_count) [
   | inr past ↦ rw (get_or_past (initial_file rows).parts c [] (omega (arith, length-map-range_with_len initial_part 0 component_count))) (lit< tt)
 ]
 
--- so is the PKRU that a task starts with
+pub initial_is_valid : (rows : List Row) → IsLayout rows → IsFileOf rows (initial_file rows)
+initial_is_valid rows table = record {
+  is_file = initial_is_file rows table;
+  rows_are = refl;
+  bytes = file_bytes rows;
+  control = lit< tt;
+}
+
+-- the PKRU that a task starts with is of bytes
 pkru_bytes : (k : ℕ) → get_or (to_le_bytes w32 start_pkru ++ zeros 4) k 0 < 256
 pkru_bytes zero = lit< tt
 pkru_bytes (suc zero) = lit< tt
