@@ -1,6 +1,6 @@
 -- The fields of a layout: its rows first, and then rows of nothing.
 use Rattle.std.specs.Prelude.{◌≡◌, ℕ, ◌-◌, ◌≤◌, List, ◌++◌, length, take, replicate}
-use Rattle.std.proofs.Common.{sym, ap, subst}
+use Rattle.std.proofs.Common.{sym}
 use Rattle.std.proofs.Math.Seq.{take-append_seam}
 use Rattle.xs_base.specs.declared.component.Row.{Row}
 use Rattle.xs_base.specs.Layout.{IsLayout, row, most_rows}
@@ -16,7 +16,7 @@ padded rows = rows ++ replicate (most_rows - length rows) no_row
 -- The first `count` rows are a machine's table, and the others are rows of nothing.
 pub record AreRows (rows : List Row) (count : ℕ) : Type 0 where
   pub few : count ≤ most_rows
-  pub counted : length (take count rows) ≡ count
+  pub len : length (take count rows) ≡ count
   pub layout : IsLayout (take count rows)
   pub rest : rows ≡ padded (take count rows)
 
@@ -29,17 +29,9 @@ same_inside a b m n rows count = cc
 -- the table gives the fields back
 pub fields_back : (l : Inside) → AreRows l.rows l.count → record { rows = padded (take l.count l.rows); count = length (take l.count l.rows) } ≡ l
 unfolding inside
-fields_back l h = same_inside (padded (take l.count l.rows)) l.rows (length (take l.count l.rows)) l.count (sym h.rest) h.counted
+fields_back l h = same_inside (padded (take l.count l.rows)) l.rows (length (take l.count l.rows)) l.count (sym h.rest) h.len
 
 -- the rows come back from the fields
 pub take_padded : (rows : List Row) → take (length rows) (padded rows) ≡ rows
 unfolding padded
 take_padded rows = take-append_seam rows (replicate (most_rows - length rows) no_row)
-
-pub are_rows : (rows : List Row) → IsLayout rows → length rows ≤ most_rows → AreRows (padded rows) (length rows)
-are_rows rows h few = record {
-  few = few;
-  counted = ap length (take_padded rows);
-  layout = subst (λ (x : List Row). IsLayout x) (sym (take_padded rows)) h;
-  rest = ap padded (sym (take_padded rows));
-}

@@ -3,4 +3,4 @@ use Rattle.std.proofs.Common.{sym}
 use Rattle.xs_layout.proofs.layout.Layout.len.Goals as goal
 
 pub returns-clause-len : goal.returns-clause-len
-returns-clause-len c = rw (← c.self.view_is) (sym c.self.invariant.counted)
+returns-clause-len c = rw (← c.self.view_is) (sym c.self.invariant.len)

@@ -1,6 +1,7 @@
 -- A machine's table is what its fields give back.
 use Rattle.xs_base.proofs.LayoutLemmas.{few_rows}
-use Rattle.xs_layout.specs.Rows.{take_padded, are_rows}
+use Rattle.xs_layout.specs.Rows.{take_padded}
+use Rattle.xs_layout.proofs.FieldLemmas.{are_rows}
 use Rattle.xs_layout.proofs.layout.Layout.of_table.Goals as goal
 
 pub padded-padded_rows-requires : goal.padded-padded_rows-requires
