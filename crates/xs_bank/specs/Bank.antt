@@ -7,7 +7,7 @@ use Rattle.xs_bank.specs.declared.instruction.Trap.{Trap}
 use Rattle.xs_bank.specs.declared.instruction.Trap.TheVariants.{Nm}
 use Rattle.xs_bank.specs.declared.instruction.Execs.{Execs}
 use Rattle.xs_base.specs.Sets.{has}
-use Rattle.xs_base.specs.Component.{component_numbers, initial_part}
+use Rattle.xs_base.specs.Component.{component_numbers, initial_part, sse_number, pkru_number, tilecfg_number, tiledata_number}
 use Rattle.xs_base.specs.Layout.{has_row, set_of}
 use Rattle.xs_base.specs.Compact.{place, is_compacted, compacted}
 use Rattle.xs_base.specs.File.{File, part, with_part, with_pkru, initial_file, write_place, in_use, is_saved}
@@ -60,30 +60,30 @@ after_write bank place bytes = executed (changed bank (write_place bank.file pla
 
 -- TILECFG and TILEDATA are initial.
 abbrev pub after_release : Bank → Bank
-after_release bank = executed (changed bank (with_part (with_part bank.file 17 (initial_part 17)) 18 (initial_part 18)) 0x60000) release_numbers
+after_release bank = executed (changed bank (with_part (with_part bank.file tilecfg_number (initial_part tilecfg_number)) tiledata_number (initial_part tiledata_number)) 0x60000) release_numbers
 
 abbrev pub after_wrpkru : Bank → ℕ → Bank
-after_wrpkru bank value = changed bank (with_pkru bank.file value) (2 ^ 9)
+after_wrpkru bank value = changed bank (with_pkru bank.file value) (2 ^ pkru_number)
 
 -- Arming TILEDATA makes it initial: this is the project's own.
 abbrev pub disarmed_file : File → ℕ → File
-disarmed_file file armed = if has armed 18 then with_part file 18 (initial_part 18) else file
+disarmed_file file armed = if has armed tiledata_number then with_part file tiledata_number (initial_part tiledata_number) else file
 
 abbrev pub after_xfd : Bank → ℕ → Bank
 after_xfd bank armed = record (changed bank (disarmed_file bank.file armed) armed) { armed = armed }
 
 -- the bank set up for the machine with these rows: the counts stay
 abbrev pub set_up : Bank → List Row → Bank
-set_up bank rows = record bank { file = initial_file rows; armed = if has_row rows 18 then tiles else 0; tracked = None }
+set_up bank rows = record bank { file = initial_file rows; armed = if has_row rows tiledata_number then tiles else 0; tracked = None }
 
 -- ---- #NM of an instruction on registers where these components are armed (SDM volume 1, 13.14; that a write of TILECFG
 -- traps is this project's own)
 
 abbrev pub read_trap : ℕ → Place → Option Trap
-read_trap armed place = if has armed 18 && (place.comp.0 == 18) then Some (Nm (record { 0 = tiles })) else None
+read_trap armed place = if has armed tiledata_number && (place.comp.0 == tiledata_number) then Some (Nm (record { 0 = tiles })) else None
 
 abbrev pub write_trap : ℕ → Place → Option Trap
-write_trap armed place = if has armed 18 && ((place.comp.0 == 17) || (place.comp.0 == 18)) then Some (Nm (record { 0 = tiles })) else None
+write_trap armed place = if has armed tiledata_number && ((place.comp.0 == tilecfg_number) || (place.comp.0 == tiledata_number)) then Some (Nm (record { 0 = tiles })) else None
 
 -- ---- the tracked area (SDM volume 1, 13.6: XRSTOR_INFO and XMODIFIED; that an area is known by its number, and not by its
 -- address, is this project's own)
@@ -102,7 +102,7 @@ is_unmodified (Some t) id names c = (t.id == id) && (t.names == names) && not (h
 pub record IsKept (file : File) (area : List ℕ) (r : Row) : Type 0 where
   pub present : has (xstate_bv area) r.comp.0 ≡ true → StandsAt area (place file.rows (xcomp_bv area) r) file r.comp.0
   pub absent : has (xstate_bv area) r.comp.0 ≡ false → part file r.comp.0 ≡ initial_part r.comp.0
-  pub control : r.comp.0 ≡ 1 → is_compacted (xcomp_bv area) ≡ true → file.mxcsr ≡ control_in area
+  pub control : r.comp.0 ≡ sse_number → is_compacted (xcomp_bv area) ≡ true → file.mxcsr ≡ control_in area
 
 -- Each component of the mask that wasn't changed since this area was loaded stands in it for the file's.
 abbrev pub StandsUnmodified : File → Option Tracked → ℕ → ℕ → List ℕ → Type 0

@@ -8,9 +8,9 @@ use Rattle.xs_bank.specs.declared.instruction.Trap.{Trap}
 use Rattle.xs_bank.specs.declared.instruction.Trap.TheVariants.{Gp, Nm}
 use Rattle.xs_base.specs.First.{first_of}
 use Rattle.xs_base.specs.Sets.{has}
-use Rattle.xs_base.specs.Component.{initial_part, initial_mxcsr}
+use Rattle.xs_base.specs.Component.{initial_part, initial_mxcsr, sse_number, pkru_number, tiledata_number}
 use Rattle.xs_base.specs.Layout.{features, has_row}
-use Rattle.xs_base.specs.Compact.{is_compacted, place}
+use Rattle.xs_base.specs.Compact.{compacted_bit, is_compacted, place}
 use Rattle.xs_base.specs.File.{File, IsFile, AreSameButPkru, part}
 use Rattle.xs_base.specs.Standard.{has_control}
 use Rattle.xs_base.specs.Header.{xstate_bv, xcomp_bv, mxcsr}
@@ -23,7 +23,7 @@ tiles = 0x40000
 
 -- XFD stops a load of TILEDATA.
 abbrev pub stops_tiles : ℕ → ℕ → List ℕ → Bool
-stops_tiles armed mask area = has armed 18 && has mask 18 && has (xstate_bv area) 18
+stops_tiles armed mask area = has armed tiledata_number && has mask tiledata_number && has (xstate_bv area) tiledata_number
 
 -- The trap is #NM for tiles that the load would give.
 abbrev pub IsStopped : ℕ → ℕ → List ℕ → Trap → Type 0
@@ -41,7 +41,7 @@ standard_trap rows armed mask area = first_of (
 
 -- the components that XCOMP_BV names
 abbrev pub named_in : List ℕ → ℕ
-named_in area = bit_and (xcomp_bv area) (2 ^ 63 - 1)
+named_in area = bit_and (xcomp_bv area) (2 ^ compacted_bit - 1)
 
 -- the same of XRSTORS
 unfoldable pub compacted_trap : List Row → ℕ → ℕ → List ℕ → Option Trap
@@ -49,7 +49,7 @@ compacted_trap rows armed mask area = first_of (
     (has_outside (xstate_bv area) (features rows) || has_outside (named_in area) (features rows) || has_outside (xstate_bv area) (xcomp_bv area), Gp errors.Features)
     ∷ (not (is_compacted (xcomp_bv area)), Gp errors.Compacted)
     ∷ (has_reserved area, Gp errors.Reserved)
-    ∷ (has mask 1 && has (xstate_bv area) 1 && is_wrong_mxcsr (mxcsr area), Gp errors.Mxcsr)
+    ∷ (has mask sse_number && has (xstate_bv area) sse_number && is_wrong_mxcsr (mxcsr area), Gp errors.Mxcsr)
     ∷ (stops_tiles armed mask area, Nm (record { 0 = tiles }))
     ∷ [])
 
@@ -58,7 +58,7 @@ abbrev pub standard_control : ℕ → List ℕ → ℕ → ℕ
 standard_control mask area old = if has_control mask then mxcsr area else old
 
 abbrev pub compacted_control : ℕ → List ℕ → ℕ → ℕ
-compacted_control mask area old = if has mask 1 then (if has (xstate_bv area) 1 then mxcsr area else initial_mxcsr) else old
+compacted_control mask area old = if has mask sse_number then (if has (xstate_bv area) sse_number then mxcsr area else initial_mxcsr) else old
 
 -- Each component of the mask comes from its place in the area where its bit in XSTATE_BV is 1, and is initial where it
 -- is 0; every other component stays. What belongs to no register isn't taken.
@@ -72,9 +72,9 @@ pub record IsLoaded (mask : ℕ) (area : List ℕ) (control : ℕ) (before after
 -- What a load takes of a file: each component of the mask but PKRU is that file's, and so is MXCSR where the load takes it.
 -- Where the mask leaves out PKRU alone, the whole file is that one, PKRU aside: what the area has no state of is initial.
 pub record IsTakenFrom (file : File) (rows : List Row) (mask : ℕ) (takes_control : Bool) (after : File) : Type 0 where
-  pub parts : (c : ℕ) → (c ≡ 9 → ⊥) → has mask c ≡ true → part after c ≡ part file c
+  pub parts : (c : ℕ) → (c ≡ pkru_number → ⊥) → has mask c ≡ true → part after c ≡ part file c
   pub control : takes_control ≡ true → after.mxcsr ≡ file.mxcsr
-  pub all : ((c : ℕ) → has_row rows c ≡ true → (c ≡ 9 → ⊥) → has mask c ≡ true) → AreSameButPkru file after
+  pub all : ((c : ℕ) → has_row rows c ≡ true → (c ≡ pkru_number → ⊥) → has mask c ≡ true) → AreSameButPkru file after
 
 -- A load from an area that stands for a file takes it of that file.
 abbrev pub IsWholeLoad : ℕ → Bool → List ℕ → List Row → File → Type 0

@@ -5,7 +5,7 @@ use Rattle.xs_base.specs.declared.class.Class.{Class}
 use Rattle.xs_base.specs.declared.component.Row.{Row}
 use Rattle.xs_base.specs.Bytes.{is_within}
 use Rattle.xs_base.specs.Sets.{has}
-use Rattle.xs_base.specs.Component.{initial_part}
+use Rattle.xs_base.specs.Component.{initial_part, sse_number, pkru_number}
 use Rattle.xs_base.specs.Compact.{place, has_place, compacted}
 use Rattle.xs_base.specs.File.{File, part, in_use, is_saved}
 use Rattle.xs_base.specs.Standard.{saved_byte, component_byte, control_bytes, has_control}
@@ -36,7 +36,7 @@ pub record IsStandardSave (file : File) (mask written : ℕ) (before after : Lis
 pub record IsCompactedSave (file : File) (mask written : ℕ) (before after : List ℕ) : Type 0 where
   pub bits : (c : ℕ) → has (xstate_bv after) c ≡ (has mask c && is_saved file c)
   pub names : xcomp_bv after ≡ compacted mask
-  pub bytes : IsWrittenArea file (compacted mask) (has written 1) written before after
+  pub bytes : IsWrittenArea file (compacted mask) (has written sse_number) written before after
 
 -- ---- what a save leaves
 
@@ -46,11 +46,11 @@ pub record StandsWithin (mask : ℕ) (area : List ℕ) (file : File) : Type 0 wh
   pub placed : (c : ℕ) → has mask c ≡ true → has (xstate_bv area) c ≡ true → has_place file.rows (xcomp_bv area) c ≡ true
   pub present : (i : ℕ) (r : Row) → slice_get file.rows i ≡ Some r → has mask r.comp.0 ≡ true → has (xstate_bv area) r.comp.0 ≡ true → StandsAt area (place file.rows (xcomp_bv area) r) file r.comp.0
   pub absent : (i : ℕ) (r : Row) → slice_get file.rows i ≡ Some r → has mask r.comp.0 ≡ true → has (xstate_bv area) r.comp.0 ≡ false → part file r.comp.0 ≡ initial_part r.comp.0
-  pub control : has mask 1 ≡ true → file.mxcsr ≡ control_in area
+  pub control : has mask sse_number ≡ true → file.mxcsr ≡ control_in area
 
 -- The file is initial outside the mask, PKRU aside.
 abbrev pub IsInitialOutside : ℕ → File → Type 0
-IsInitialOutside mask file = (i : ℕ) (r : Row) → slice_get file.rows i ≡ Some r → (r.comp.0 ≡ 9 → ⊥) → has mask r.comp.0 ≡ false → part file r.comp.0 ≡ initial_part r.comp.0
+IsInitialOutside mask file = (i : ℕ) (r : Row) → slice_get file.rows i ≡ Some r → (r.comp.0 ≡ pkru_number → ⊥) → has mask r.comp.0 ≡ false → part file r.comp.0 ≡ initial_part r.comp.0
 
 -- A save of a mask into an area of a class that can be loaded after it: the mask has the components of the class, outside it the
 -- file is initial, its MXCSR has no bit above 15, and the area's reserved bytes are zero and its number is one that a pool gives.

@@ -6,6 +6,7 @@ ghost use Rattle.xs_base.specs.declared.component.Row.{Row};
 ghost use Rattle.xs_bank.specs.Bank as banks;
 ghost use Rattle.xs_base.specs.Area.{StandsFor, HasPlaces};
 ghost use Rattle.xs_base.specs.Compact.{is_compacted, compact_size};
+ghost use Rattle.xs_base.specs.Component.{sse_number, tiledata_number};
 ghost use Rattle.xs_base.specs.File.{IsFile, pkru_of, with_pkru, read_place, is_mxcsr};
 ghost use Rattle.xs_base.specs.Header.{xstate_bv, xcomp_bv};
 ghost use Rattle.xs_base.specs.KernelArea.{IsLoadable};
@@ -93,7 +94,7 @@ pub trait Bank: Drop {
         ensures area { banks.SavesCompacted (state self.old) area.old.id mask.0 area.old.bytes.items area.new.bytes.items }
         ensures id { area.new.id ≡ area.old.id }
         ensures stands { save.StandsWithin mask.0 area.new.bytes.items (state self.old).file }
-        ensures whole { has mask.0 1 ≡ true → save.IsInitialOutside mask.0 (state self.old).file → StandsFor (state self.old).file.rows area.new.bytes.items (state self.old).file }
+        ensures whole { has mask.0 sse_number ≡ true → save.IsInitialOutside mask.0 (state self.old).file → StandsFor (state self.old).file.rows area.new.bytes.items (state self.old).file }
         ensures loadable { (class : Class) → save.IsLoadableSave (state self.old).file mask.0 class area.old.id area.old.bytes.items → IsLoadable (state self.old).file.rows class area.new.id area.new.bytes.items }
         ensures ready { banks.IsReady (state self.new) area.new.id mask.0 area.new.bytes.items };
 
@@ -126,7 +127,7 @@ pub trait Bank: Drop {
         ensures bank { IfOk result (λ _. state self.new ≡ record (state self.old) { file = (state self.new).file; tracked = (state self.new).tracked; loads = trail.counted (state self.old).loads }) }
         ensures kept { IfErr result (λ _. state self.new ≡ state self.old) }
         ensures ready { IfOk result (λ _. (m : ℕ) → banks.IsReady (state self.new) area.now.id m area.now.bytes.items) }
-        ensures whole { IfOk result (λ _. load.IsWholeLoad mask.0 (has mask.0 1) area.now.bytes.items (state self.old).file.rows (state self.new).file) }
+        ensures whole { IfOk result (λ _. load.IsWholeLoad mask.0 (has mask.0 sse_number) area.now.bytes.items (state self.old).file.rows (state self.new).file) }
         ensures accepted { IfErr result (λ t. (class : Class) (id : ℕ) → IsLoadable (state self.old).file.rows class id area.now.bytes.items → is_compacted (xcomp_bv area.now.bytes.items) ≡ true → load.IsStopped (state self.old).armed mask.0 area.now.bytes.items t) };
 
     /// PKRU (SDM volume 2, RDPKRU). A write of what is read changes no register. It isn't counted.
@@ -142,7 +143,7 @@ pub trait Bank: Drop {
     /// Writes IA32_XFD (SDM volume 1, 13.14): none, or TILEDATA alone on a machine that has it, which becomes initial. It
     /// isn't counted.
     fn set_xfd(&mut self, armed: Features)
-        requires { (armed.0 ≡ 0) ⊎ ((armed.0 ≡ load.tiles) × (has_row (state self.old).file.rows 18 ≡ true)) }
+        requires { (armed.0 ≡ 0) ⊎ ((armed.0 ≡ load.tiles) × (has_row (state self.old).file.rows tiledata_number ≡ true)) }
         ensures after { state self.new ≡ banks.after_xfd (state self.old) armed.0 }
         ensures ready { (id m : ℕ) (area : List ℕ) → banks.IsReady (state self.old) id m area → banks.IsReady (state self.new) id m area };
 

@@ -3,6 +3,8 @@
 ghost use Rattle.std.specs.Prelude.{◌≡◌, ◌≤◌, ◌&&◌, ◌||◌, ◌==◌, not, length, Some, None, if◌then◌else◌, bit_and, ◌-◌, ◌^◌};
 ghost use Rattle.std.specs.List.{list_any};
 ghost use Rattle.xs_bank.specs.Bank as banks;
+ghost use Rattle.xs_base.specs.Compact.{compacted_bit};
+ghost use Rattle.xs_base.specs.Component.{sse_number, tiledata_number};
 ghost use Rattle.xs_base.specs.HeaderCheck as check;
 ghost use Rattle.xs_bank.specs.Load as load;
 ghost use Rattle.xs_base.specs.Sets.{has};
@@ -80,7 +82,7 @@ pub fn compacted_trap(layout: &Layout, armed: Features, mask: Features, area: &[
 
 /// Whether XSTATE_BV or XCOMP_BV names what the machine lacks, or XSTATE_BV what XCOMP_BV doesn't name.
 fn has_unknown(bits: Features, names: Features, features: Features) -> bool
-    ensures { result ≡ (check.has_outside bits.0 features.0 || check.has_outside (bit_and names.0 (2 ^ 63 - 1)) features.0 || check.has_outside bits.0 names.0) }
+    ensures { result ≡ (check.has_outside bits.0 features.0 || check.has_outside (bit_and names.0 (2 ^ compacted_bit - 1)) features.0 || check.has_outside bits.0 names.0) }
 {
     bits.has_outside(features)
         || Features(names.0 & 0x7fff_ffff_ffff_ffff).has_outside(features)
@@ -96,14 +98,14 @@ fn has_byte(bytes: &[u8]) -> bool
 
 /// Whether MXCSR comes from a compacted area with this XSTATE_BV.
 fn takes_control(mask: Features, bits: Features) -> bool
-    ensures { result ≡ (has mask.0 1 && has bits.0 1) }
+    ensures { result ≡ (has mask.0 sse_number && has bits.0 sse_number) }
 {
     mask.has(Comp::SSE) && bits.has(Comp::SSE)
 }
 
 /// #NM where TILEDATA is armed and would be loaded (SDM volume 1, 13.14).
 fn tiles_trap(armed: Features, mask: Features, bits: Features) -> Option<Trap>
-    ensures { result ≡ (if has armed.0 18 && has mask.0 18 && has bits.0 18 then Some (Nm (record { 0 = load.tiles })) else None) }
+    ensures { result ≡ (if has armed.0 tiledata_number && has mask.0 tiledata_number && has bits.0 tiledata_number then Some (Nm (record { 0 = load.tiles })) else None) }
 {
     if armed.has(Comp::TILEDATA) && mask.has(Comp::TILEDATA) && bits.has(Comp::TILEDATA) {
         return Some(Trap::Nm(Features::TILEDATA));

@@ -4,7 +4,7 @@ ghost use Rattle.std.specs.Prelude.{◌≡◌, ℕ, ◌+◌, ◌^◌, ◌<◌, �
 ghost use Rattle.xs_base.specs.declared.component.Row.{Row};
 ghost use Rattle.xs_base.specs.Area.{HasPlaces};
 ghost use Rattle.xs_base.specs.Compact.{is_compacted};
-ghost use Rattle.xs_base.specs.Component.{initial_part};
+ghost use Rattle.xs_base.specs.Component.{initial_part, pkru_number, tilecfg_number, tiledata_number};
 ghost use Rattle.xs_base.specs.File.{IsFile, initial_file, pkru_of, with_part, with_pkru, read_place, write_place, is_mxcsr};
 ghost use Rattle.xs_base.specs.Header as header;
 ghost use Rattle.xs_base.specs.Layout.{avx_rows, has_row};
@@ -79,7 +79,7 @@ impl Registers {
 
     /// Makes every register initial, on another machine, arms TILEDATA where that has it, and forgets the tracked area.
     pub fn set_up(&mut self, layout: &Layout)
-        ensures { self.new ≡ record { file = initial_file layout.now; armed = if has_row layout.now 18 then load.tiles else 0; tracked = None } }
+        ensures { self.new ≡ record { file = initial_file layout.now; armed = if has_row layout.now tiledata_number then load.tiles else 0; tracked = None } }
     {
         self.file.set_up(layout);
         self.armed = if layout.has_row(Comp::TILEDATA) {
@@ -123,7 +123,7 @@ impl Registers {
 
     /// Makes TILECFG and TILEDATA initial (SDM volume 2, TILERELEASE).
     pub fn release(&mut self)
-        ensures released { self.new ≡ record self.old { file = with_part (with_part self.old.file 17 (initial_part 17)) 18 (initial_part 18); tracked = banks.touch 0x60000 self.old.tracked } }
+        ensures released { self.new ≡ record self.old { file = with_part (with_part self.old.file tilecfg_number (initial_part tilecfg_number)) tiledata_number (initial_part tiledata_number); tracked = banks.touch 0x60000 self.old.tracked } }
         ensures ready { (id m : ℕ) (area : List ℕ) → banks.StandsUnmodified self.old.file self.old.tracked id m area → banks.StandsUnmodified self.new.file self.new.tracked id m area }
     {
         self.file.reset(Comp::TILECFG);
@@ -186,7 +186,7 @@ impl Registers {
 
     /// Writes PKRU.
     pub fn set_pkru(&mut self, value: u32)
-        ensures written { self.new ≡ record self.old { file = with_pkru self.old.file value; tracked = banks.touch (2 ^ 9) self.old.tracked } }
+        ensures written { self.new ≡ record self.old { file = with_pkru self.old.file value; tracked = banks.touch (2 ^ pkru_number) self.old.tracked } }
         ensures ready { (id m : ℕ) (area : List ℕ) → banks.StandsUnmodified self.old.file self.old.tracked id m area → banks.StandsUnmodified self.new.file self.new.tracked id m area }
     {
         self.file.set_pkru(value);
@@ -195,7 +195,7 @@ impl Registers {
 
     /// Arms nothing, or TILEDATA of a machine that has it, which becomes initial (SDM volume 1, 13.14).
     pub fn arm(&mut self, armed: Features)
-        requires { (armed.0 ≡ 0) ⊎ ((armed.0 ≡ load.tiles) × (has_row self.old.file.rows 18 ≡ true)) }
+        requires { (armed.0 ≡ 0) ⊎ ((armed.0 ≡ load.tiles) × (has_row self.old.file.rows tiledata_number ≡ true)) }
         ensures armed { self.new ≡ record { file = banks.disarmed_file self.old.file armed.0; armed = armed.0; tracked = banks.touch armed.0 self.old.tracked } }
         ensures ready { (id m : ℕ) (area : List ℕ) → banks.StandsUnmodified self.old.file self.old.tracked id m area → banks.StandsUnmodified self.new.file self.new.tracked id m area }
     {

@@ -5,6 +5,7 @@ ghost use Rattle.std.specs.Int.{to_le_bytes, w64};
 ghost use Rattle.xs_base.specs.declared.component.Row.{Row};
 ghost use Rattle.xs_base.specs.Bytes.{splice, is_within};
 ghost use Rattle.xs_base.specs.Compact.{place, compact_size, compacted};
+ghost use Rattle.xs_base.specs.Component.{sse_number};
 ghost use Rattle.xs_base.specs.File.{in_use, is_saved};
 ghost use Rattle.xs_base.specs.Layout.{standard_size, has_row};
 ghost use Rattle.xs_bank.specs.Bank.{IsKept};
@@ -43,7 +44,7 @@ pub fn save_compacted(file: &File, mask: Features, written: Features, into: &mut
     requires room { compact_size file.now.rows mask.0 ≤ length into.old }
     ensures saved { IsCompactedSave file.now mask.0 written.0 into.old into.new }
     ensures stands { ((i : ℕ) (r : Row) → slice_get file.now.rows i ≡ Some r → has mask.0 r.comp.0 ≡ true → is_saved file.now r.comp.0 ≡ true → has written.0 r.comp.0 ≡ false → IsKept file.now into.old r × (xcomp_bv into.old ≡ compacted mask.0)) → StandsWithin mask.0 into.new file.now }
-    ensures whole { StandsWithin mask.0 into.new file.now → has mask.0 1 ≡ true → IsInitialOutside mask.0 file.now → StandsFor file.now.rows into.new file.now }
+    ensures whole { StandsWithin mask.0 into.new file.now → has mask.0 sse_number ≡ true → IsInitialOutside mask.0 file.now → StandsFor file.now.rows into.new file.now }
     ensures loadable { (class : Class) (id : ℕ) → IsLoadableSave file.now mask.0 class id into.old → StandsWithin mask.0 into.new file.now → IsLoadable file.now.rows class id into.new }
 {
     // The rows pass every test of a table.
