@@ -5,7 +5,7 @@ ghost use Rattle.std.specs.Prelude.{◌≡◌, ◌≤◌, length};
 use arrayvec::ArrayVec;
 use std::marker::Model;
 
-/// The name of a block or of a register: at most 16 bytes, held inline. Contracts see the list of the bytes.
+/// The name of a block or of a register: at most 16 bytes, in the value itself. Contracts see the list of the bytes.
 #[derive(Drop)]
 pub struct Name {
     bytes: ArrayVec<u8, 16>,
