@@ -12,7 +12,6 @@ abbrev pub ReadsAs : {A B : Type 0} → (A → List ℕ) → (A → Type 0) → 
 ReadsAs {A} text Fits keep None bytes = (x : A) → Fits x → bytes ≡ text x → ⊥
 ReadsAs {A} text Fits keep (Some y) bytes = (x : A) × Fits x × (bytes ≡ text x) × (y ≡ keep x)
 
-
 -- the byte is nowhere among the bytes
 abbrev pub Lacks : ℕ → List ℕ → Type 0
 Lacks byte bytes = AllByRecursion (λ b. b ≡ byte → ⊥) bytes

@@ -9,8 +9,8 @@ ghost use Rattle.xs_script.specs.Parts.{is_unbuilt_line};
 ghost use Rattle.xs_script.specs.Refusal.{NoLine, is_unbuilt, first_word, unbuilt_words, unbuilt_cpus};
 
 use crate::line::Line;
-use crate::words::{after, before, cut_at, read_bytes, read_name, read_number, read_register};
-use xs_base::{Comp, Row};
+use crate::words::{before, cut_at, read_bytes, read_name, read_number, read_register};
+use xs_base::{Comp, Row, after};
 use xs_model::{Command, Named};
 
 /// The first words of the forms that this version doesn't have.

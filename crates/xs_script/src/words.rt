@@ -37,13 +37,6 @@ pub fn before(byte: u8, bytes: &[u8]) -> &[u8]
     }
 }
 
-/// The bytes after the prefix, if they begin with it.
-pub fn after<'a>(prefix: &[u8], bytes: &'a [u8]) -> Option<&'a [u8]>
-    ensures { MatchOption result ((rest : List ℕ) → bytes.now ≡ prefix.now ++ rest → ⊥) (λ x. bytes.now ≡ prefix.now ++ x.now) }
-{
-    bytes.strip_prefix(prefix)
-}
-
 /// The number below 2 ^ 32 that the bytes spell in decimal, with no needless zero in front.
 pub fn read_number(bytes: &[u8]) -> Option<u32>
     ensures { Reads decimal (λ n. n < 2 ^ 32) result bytes.now }
