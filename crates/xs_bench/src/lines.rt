@@ -4,7 +4,7 @@ ghost use Rattle.std.specs.Prelude.{◌≡◌, length, IfOk};
 ghost use Rattle.xs_text.specs.Text.{task_of};
 
 use crate::command::LineCall;
-use crate::repeats::next_sum;
+use crate::repeats::{hidden, next_sum};
 use std::alloc::{AllocError, Global};
 use xs_base::Lane;
 use xs_layout::Layout;
@@ -16,9 +16,6 @@ const LINE: usize = 51;
 
 /// The byte of a line that goes into the sum: a digit of the number that the turn changes.
 const LOOKED_AT: usize = 20;
-
-/// Half of the numbers of 64 bits.
-const HALF: u64 = 0x8000_0000_0000_0000;
 
 /// Makes a call so many times, and answers the sum.
 pub fn repeat_line_call(alloc: Global, call: LineCall, turns: u64) -> Result<u64, AllocError> {
@@ -74,13 +71,13 @@ fn write_events(script: &Script, turns: u64) -> u64
     sum
 }
 
-/// Copies a line of which each turn changes a byte. Its length hangs on the turn's highest bit, so that the compiler can't know it.
+/// Copies a line of which each turn changes a byte.
 fn copy_lines(turns: u64) -> u64 {
     let mut from = [b'0'; LINE + 1];
     let mut to = [0; LINE + 1];
     let mut sum = 0;
     'turns: for turn in 0..turns {
-        let len = LINE + (turn / HALF) as usize;
+        let len = hidden(LINE, turn);
         from[LOOKED_AT] = (turn % 256) as u8;
         to[..len].copy_from_slice(&from[..len]);
         sum = next_sum(sum, &to, LOOKED_AT);

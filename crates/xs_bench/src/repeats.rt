@@ -1,7 +1,7 @@
 //! The calls, each made many times. Each turn changes eight bytes of what the call reads, and takes a byte of what it
 //! wrote into a sum, so that no compiler leaves a call out.
 
-ghost use Rattle.std.specs.Prelude.{◌≡◌, ◌≤◌, length};
+ghost use Rattle.std.specs.Prelude.{◌≡◌, ◌+◌, ◌≤◌, length};
 ghost use Rattle.xs_base.specs.Header as header;
 
 use crate::banks::repeat_bank_call;
@@ -20,6 +20,9 @@ const CHANGED: usize = 160;
 
 /// How many bytes of an output are looked at in turn.
 const LOOKED_AT: u64 = 8192;
+
+/// Half of the numbers of 64 bits.
+const HALF: u64 = 0x8000_0000_0000_0000;
 
 /// Makes a call so many times over the machine `amx`, and answers the sum; None where its inputs don't meet its
 /// conditions.
@@ -62,6 +65,15 @@ fn repeat_layer_call(inputs: &mut Inputs, call: LayerCall, turns: u64) -> Option
         LayerCall::CopyHeader => repeat_copy_part(image, out, 64, turns),
         LayerCall::Nothing => repeat_nothing(image, out, turns),
     }
+}
+
+/// A length with the turn's highest bit added, so that the compiler can't know it and copies as for any length.
+pub fn hidden(len: usize, turn: u64) -> usize
+    requires { len ≤ 1024 }
+    ensures low { len ≤ result }
+    ensures high { result ≤ len + 1 }
+{
+    len + (turn / HALF) as usize
 }
 
 /// The sum with the byte of an output at a place, or 0 past its end.
@@ -181,7 +193,8 @@ fn repeat_copy_part(from: &mut [u8], to: &mut [u8], len: usize, turns: u64) -> O
     let mut sum = 0;
     'turns: for turn in 0..turns {
         change(from, turn);
-        to[128..128 + len].copy_from_slice(&from[128..128 + len]);
+        let end = 128 + hidden(len, turn);
+        to[128..end].copy_from_slice(&from[128..end]);
         sum = sum_with(sum, to, turn);
     }
     Some(sum)
