@@ -8,3 +8,4 @@ pub mod ReadyLemmas
 pub mod ChangeLemmas
 pub mod WholeLemmas
 pub mod RegisterLemmas
+pub mod PkruLemmas

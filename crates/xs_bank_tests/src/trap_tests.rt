@@ -181,7 +181,7 @@ fn answers_first<B: Bank>(
     );
 }
 
-/// Every set of reasons against a load.
+/// Every set of reasons against a load. Bits of a set past the last reason name none.
 fn every_set<B: Bank>(rt: &impl Abort, bank: &mut B, format: Format, mask: u64, area: &mut Area) {
     let causes: &[Cause] = match format {
         Format::Standard => &STANDARD_CAUSES,

@@ -5,7 +5,7 @@ use Rattle.xs_base.specs.declared.component.Row.{Row}
 use Rattle.xs_base.specs.Bytes.{zeros}
 use Rattle.xs_base.specs.Component.{component_numbers, initial_part, pkru_number, tiledata_number}
 use Rattle.xs_base.specs.Sets.{has}
-use Rattle.xs_base.specs.Layout.{features, default_features, full_size, default_size, set_of}
+use Rattle.xs_base.specs.Layout.{features, default_features, set_of}
 use Rattle.xs_base.specs.File.{File, IsFile, part, initial_file, pkru_of, with_pkru, is_saved}
 
 pub record PrivateTask : Type 0 where
@@ -25,13 +25,9 @@ pub record PrivateTask : Type 0 where
   -- the place to go back to after the handler
   pub back : ℕ
 
--- The components that the task may use, and the size of its standard format (Linux 6.6,
--- arch/x86/include/asm/fpu/types.h, struct fpstate: user_xfeatures, user_size).
+-- The components that the task may use (Linux 6.6, arch/x86/include/asm/fpu/types.h, struct fpstate: user_xfeatures).
 abbrev pub user_features : PrivateTask → ℕ
 user_features task = if task.large then features task.file.rows else default_features task.file.rows
-
-abbrev pub user_size : PrivateTask → ℕ
-user_size task = if task.large then full_size task.file.rows else default_size task.file.rows
 
 -- Bit c of the marks after a turn: a saved component within the user features. The bit of PKRU goes by its value alone,
 -- on a machine without component 9 too, where nothing shows it.

@@ -21,3 +21,4 @@ pub mod Numbering
 pub mod WholeScripts
 pub mod OneRefusal
 pub mod SpelledLines
+pub mod EveryText

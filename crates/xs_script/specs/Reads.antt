@@ -12,13 +12,6 @@ abbrev pub ReadsAs : {A B : Type 0} → (A → List ℕ) → (A → Type 0) → 
 ReadsAs {A} text Fits keep None bytes = (x : A) → Fits x → bytes ≡ text x → ⊥
 ReadsAs {A} text Fits keep (Some y) bytes = (x : A) × Fits x × (bytes ≡ text x) × (y ≡ keep x)
 
--- The first line of the bytes is the text of a value that fits, and the rest comes after its line feed.
-abbrev pub IsFirstLine : {A : Type 0} → (A → List ℕ) → (A → Type 0) → A → List ℕ → List ℕ → Type 0
-IsFirstLine text Fits x bytes rest = Fits x × (bytes ≡ text x ++ 10 ∷ rest)
-
--- The first line of the bytes is the text of no such value.
-abbrev pub NoLine : {A : Type 0} → (A → List ℕ) → (A → Type 0) → List ℕ → Type 0
-NoLine {A} text Fits bytes = (x : A) (rest : List ℕ) → Fits x → bytes ≡ text x ++ 10 ∷ rest → ⊥
 
 -- the byte is nowhere among the bytes
 abbrev pub Lacks : ℕ → List ℕ → Type 0

@@ -105,6 +105,4 @@ fn read_blocks(alloc: Global, first: u32, text: &[u8]) -> Result<Items<Block>, S
 }
 
 #[cfg(test)]
-mod refusal_tests;
-#[cfg(test)]
 mod tests;

@@ -123,7 +123,7 @@ fn put_digits(out: &mut Line, n: u32)
     put_fours(out, n);
 }
 
-/// Appends the number's digits. Digits whose count is known go out as one piece, and the last four of a longer number do.
+/// Appends the number's digits in pieces of one, two or four, so that the line's length is written once a piece.
 fn put_fours(out: &mut Line, n: u32)
     requires { array_vec_len out.old + length (decimal n) ≤ 192 }
     ensures { out.new.items ≡ out.old.items ++ decimal n }

@@ -12,9 +12,6 @@ ghost use Rattle.xs_pool.specs.Pool.{leased};
 ghost use Rattle.xstate.specs.Turns.{task_at, body_at, is_last};
 ghost use Rattle.xstate.specs.Engine.{state_of, HasRoom, HasTold, body_lines, IsSetUp, IsTaskArea, IsResting, IsTurning, IsPaused, HoldsBlock, EngineAfterLine, EngineAfterLines, AreOpened, IsPoolOf, parked_at, IsFirst, IsInOrder, IsLiving, NoneFrom, NoneLives, IsSameProcessor, work};
 
-#[cfg(test)]
-mod tests;
-
 use crate::instructions::run_command;
 use crate::parked::Parked;
 use crate::switching::{restore, save};
