@@ -48,7 +48,7 @@ any_name name [] = refl
 any_name name (b ∷ blocks) = ap (λ (r : Bool). bytes_eq b.name name || r) (any_name name blocks)
 
 -- one more distinct name
-distinct_push : (names : List (List ℕ)) (name : List ℕ) → AreDistinct names → list_any (λ other. bytes_eq other name) names ≡ false → AreDistinct (names ++ name ∷ [])
+pub distinct_push : (names : List (List ℕ)) (name : List ℕ) → AreDistinct names → list_any (λ other. bytes_eq other name) names ≡ false → AreDistinct (names ++ name ∷ [])
 distinct_push [] name h none = (tt, tt)
 distinct_push (n ∷ names) name h none =
     let parts = parts_or (bytes_eq n name) (list_any (λ other. bytes_eq other name) names) none in
