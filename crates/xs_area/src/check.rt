@@ -35,8 +35,8 @@ fn header_error(bytes: &[u8], allowed: Features, origin: Origin) -> Option<Heade
     requires { 576 ≤ length bytes.now }
     ensures { result ≡ check.header_error origin allowed.0 bytes.now }
 {
-    let bits = xstate_bv(bytes);
-    if bits & allowed.0 != bits {
+    let bits = Features(xstate_bv(bytes));
+    if bits.has_outside(allowed) {
         return Some(HeaderError::Features);
     }
     if xcomp_bv(bytes) != 0 {
@@ -45,7 +45,7 @@ fn header_error(bytes: &[u8], allowed: Features, origin: Origin) -> Option<Heade
     if has_reserved(bytes) {
         return Some(HeaderError::Reserved);
     }
-    if checks_mxcsr(origin, Features(bits)) && mxcsr(bytes) > MOST_MXCSR {
+    if checks_mxcsr(origin, bits) && mxcsr(bytes) > MOST_MXCSR {
         return Some(HeaderError::Mxcsr);
     }
     None
@@ -64,8 +64,8 @@ fn checks_mxcsr(origin: Origin, bits: Features) -> bool
     ensures { result ≡ check.checks_mxcsr origin bits.0 }
 {
     match origin {
-        Origin::Frame(wanted) => wanted.has(Comp(1)),
-        Origin::Regset => bits.has(Comp(0)) || bits.has(Comp(1)) || bits.has(Comp(2)),
+        Origin::Frame(wanted) => wanted.has(Comp::SSE),
+        Origin::Regset => bits.has(Comp::X87) || bits.has(Comp::SSE) || bits.has(Comp::AVX),
     }
 }
 
@@ -112,8 +112,8 @@ fn takes_mxcsr(origin: Origin, bits: Features) -> bool
     ensures { result ≡ check.takes_mxcsr origin bits.0 }
 {
     match origin {
-        Origin::Frame(wanted) => wanted.has(Comp(1)),
-        Origin::Regset => bits.has(Comp(1)) || bits.has(Comp(2)),
+        Origin::Frame(wanted) => wanted.has(Comp::SSE),
+        Origin::Regset => bits.has(Comp::SSE) || bits.has(Comp::AVX),
     }
 }
 
@@ -122,10 +122,10 @@ fn pkru_of(layout: &Layout, bytes: &[u8], bits: Features) -> u32
     requires { table.full_size layout.now ≤ length bytes.now }
     ensures { result ≡ check.pkru_in layout.now bits.0 bytes.now }
 {
-    if !bits.has(Comp(9)) {
+    if !bits.has(Comp::PKRU) {
         return 0;
     }
-    let Some(row) = layout.row(Comp(9)) else {
+    let Some(row) = layout.row(Comp::PKRU) else {
         return 0;
     };
     number_at(bytes, row.offset as usize)

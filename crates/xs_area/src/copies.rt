@@ -106,7 +106,7 @@ pub fn copied_of(layout: &Layout, to: &[u8], set: Features) -> Features
 fn is_copied(set: Features, c: Comp, room: bool) -> bool
     ensures { result ≡ (has set.0 c.0 && not (c.0 == 9) && room) }
 {
-    set.has(c) && c.0 != 9 && room
+    set.has(c) && c != Comp::PKRU && room
 }
 
 /// Copies components to their places.
@@ -145,10 +145,10 @@ fn finish(to: &mut [u8], copied: Features, control: u32)
     ensures { IsFinished copied.0 control (copy.is_alone to.old copied.0 control) to.old to.new }
 {
     let alone = is_alone(to, copied, control);
-    let sse = copied.has(Comp(1)) | alone;
+    let sse = copied.has(Comp::SSE) | alone;
     clear_sse(to, alone);
     put_control(to, control);
-    put_number(to, 512, copied.with(Comp(1), sse).0);
+    put_number(to, 512, copied.with(Comp::SSE, sse).0);
 }
 
 /// Whether the area needs bit 1 of XSTATE_BV for MXCSR alone.
@@ -157,7 +157,10 @@ fn is_alone(to: &[u8], copied: Features, control: u32) -> bool
     ensures { result ≡ copy.is_alone to.now copied.0 control }
 {
     let names = Features(xcomp_bv(to));
-    names.has(Comp(63)) && names.has(Comp(1)) && !copied.has(Comp(1)) && control != INITIAL_MXCSR
+    names.is_compacted()
+        && names.has(Comp::SSE)
+        && !copied.has(Comp::SSE)
+        && control != INITIAL_MXCSR
 }
 
 /// Makes the XMM registers zero, where this is wanted.

@@ -1,134 +1,114 @@
 //! Copies into areas that lack room, and what a copy leaves out.
 
-use crate::Area;
-use crate::fixtures::{area_of, compact, copy, filled, holds, keeps_form, poke, standard};
+use crate::fixtures::{
+    Run, blank, compacts, copies, copy, filled, first, gives, put_runs, shows, stored,
+};
 use std::alloc::{AllocError, Global};
-use std::test::Fail;
 use xs_base::{Features, Parts};
 use xs_layout::Layout;
 
-/// An area of the machine `amx` with this XCOMP_BV and XSTATE_BV, and MXCSR 1FA0H.
-fn source(alloc: Global, layout: &Layout, names: u64, bits: u64) -> Result<Area, AllocError> {
-    let mut area = area_of(alloc, layout, 1, names, 0)?;
-    poke(&mut area.bytes, 24, &[0xa0, 0x1f, 0, 0]);
-    poke(&mut area.bytes, 512, &bits.to_le_bytes());
-    Ok(area)
-}
-
 #[test]
-fn a_standard_area_too_short_for_a_component(rt: HostRuntime) -> Result<(), Fail> {
-    let layout = Layout::amx();
+fn a_standard_area_too_short_for_a_component(rt: HostRuntime) -> Result<(), AllocError> {
+    let amx = Layout::amx();
     // OPMASK at 832, TILECFG at 2,432 and TILEDATA at 2,496.
-    let mut from = source(rt.alloc(), &layout, 0x8000_0000_0006_00e7, 0x60022)?;
-    poke(&mut from.bytes, 160, &[0x11; 256]);
-    poke(&mut from.bytes, 832, &[5; 64]);
-    poke(&mut from.bytes, 2432, &[0x17; 64]);
-    poke(&mut from.bytes, 2496, &[0x18; 64]);
-    for (len, bits) in [
-        (11008, 0x60022u64),
-        (11007, 0x20022),
-        (2816, 0x20022),
-        (2815, 0x22),
-        (1152, 0x22),
-        (1151, 2),
-        (576, 2),
+    let names = 0x8000_0000_0006_00e7;
+    let runs = [
+        (160, 0x11, 256),
+        (832, 5, 64),
+        (2432, 0x17, 64),
+        (2496, 0x18, 64),
+    ];
+    let from = stored(rt.alloc(), names, 10688, 0x60022, &runs)?;
+    let runs = [
+        (160, 0x11, 256),
+        (1088, 5, 64),
+        (2752, 0x17, 64),
+        (2816, 0x18, 64),
+    ];
+    for (len, bits, many) in [
+        (11008, 0x60022u64, 4),
+        (11007, 0x20022, 3),
+        (2816, 0x20022, 3),
+        (2815, 0x22, 2),
+        (1152, 0x22, 2),
+        (1151, 2, 1),
+        (576, 2, 1),
     ] {
-        let mut bytes = filled(rt.alloc(), len, 0x55)?;
-        poke(&mut bytes, 520, &[0; 8]);
-        let mut to = Area { id: 2, bytes };
-        assert!(rt; copy(&layout, &from, &mut to));
-        assert!(rt; keeps_form(&to, 2, len, 0, 0x55), "at {len}");
-        assert!(rt; holds(&to.bytes, 512, &bits.to_le_bytes()), "at {len}");
-        assert!(rt; holds(&to.bytes, 24, &[0xa0, 0x1f, 0, 0]), "at {len}");
-        assert!(rt; holds(&to.bytes, 160, &[0x11; 256]), "at {len}");
-        assert!(rt; len < 1152 || holds(&to.bytes, 1088, &[5; 64]), "at {len}");
-        assert!(rt;
-            len < 2816 || holds(&to.bytes, 2752, &[0x17; 64]),
-            "at {len}"
-        );
-        assert!(rt;
-            len < 11008 || holds(&to.bytes, 2816, &[0x18; 64]),
-            "at {len}"
-        );
+        let runs = first(&runs, many);
+        assert!(rt; copies(rt.alloc(), &amx, &from, (0, len), bits, 0x1fa0, runs)?);
     }
     Ok(())
 }
 
-#[test]
-fn a_compacted_area_without_sse(rt: HostRuntime) -> Result<(), Fail> {
-    let layout = Layout::amx();
+/// Whether a copy into a compacted area without SSE has these bits and runs. What the area has no room for is initial: the
+/// XMM registers, and MXCSR with them.
+fn leaves_sse(alloc: Global, bits: u64, want: u64, kept: &[Run]) -> Result<bool, AllocError> {
+    let amx = Layout::amx();
     let names = 0x8000_0000_0000_0024;
-    for (bits, want) in [(0x26, 0x24), (0x22, 0x20), (2, 0), (0, 0)] {
-        let mut from = source(rt.alloc(), &layout, 0, bits)?;
-        poke(&mut from.bytes, 160, &[0x11; 256]);
-        poke(&mut from.bytes, 576, &[0x22; 256]);
-        poke(&mut from.bytes, 1088, &[5; 64]);
-        let mut to = area_of(rt.alloc(), &layout, 2, names, 0x55)?;
-        assert!(rt; copy(&layout, &from, &mut to));
-        assert!(rt; keeps_form(&to, 2, 896, names, 0x55));
-        assert!(rt;
-            holds(&to.bytes, 512, &[want, 0, 0, 0, 0, 0, 0, 0]),
-            "at {bits}"
-        );
-        assert!(rt; want < 0x24 || holds(&to.bytes, 576, &[0x22; 256]));
-        assert!(rt; want < 0x20 || holds(&to.bytes, 832, &[5; 64]));
-        // What the area has no room for is initial: the XMM registers, and MXCSR with them.
-        let mut out = filled(rt.alloc(), 576, 0xee)?;
-        assert!(rt; standard(&layout, &to, 0, Features(2), &mut out));
-        assert!(rt; holds(&out, 24, &[0x80, 0x1f, 0, 0]));
-        assert!(rt; holds(&out, 160, &[0; 256]));
+    let runs = [(160, 0x11, 256), (576, 0x22, 256), (1088, 5, 64)];
+    let from = stored(alloc, 0, 11008, bits, &runs)?;
+    let mut to = blank(alloc, names, 896)?;
+    let copied = copy(&amx, &from, &mut to) && shows(&to, names, 896, want, 0x1fa0, kept);
+    let initial = [(24, 0x80, 1), (25, 0x1f, 1), (26, 0, 2), (160, 0, 256)];
+    Ok(copied && gives(alloc, &amx, &to, 0, Features(2), 576, &initial)?)
+}
+
+#[test]
+fn a_compacted_area_without_sse(rt: HostRuntime) -> Result<(), AllocError> {
+    let kept = [(832, 5, 64), (576, 0x22, 256)];
+    for (bits, want, many) in [(0x26, 0x24, 2), (0x22, 0x20, 1), (2, 0, 0), (0, 0, 0)] {
+        assert!(rt; leaves_sse(rt.alloc(), bits, want, first(&kept, many))?);
     }
     Ok(())
 }
 
 #[test]
-fn pkru_stays_behind(rt: HostRuntime) -> Result<(), Fail> {
-    let layout = Layout::amx();
+fn pkru_stays_behind(rt: HostRuntime) -> Result<(), AllocError> {
+    let amx = Layout::amx();
     // OPMASK at 576 and PKRU at 640.
     let names = 0x8000_0000_0000_0220;
-    for (from_names, from_at) in [(0, 2688), (names, 640)] {
-        let mut from = source(rt.alloc(), &layout, from_names, 0x220)?;
-        poke(&mut from.bytes, from_at, &[1, 2, 3, 4, 0, 0, 0, 0]);
-        for (to_names, to_len, to_at) in [(0, 11008, 2688), (names, 648, 640)] {
-            let mut to = area_of(rt.alloc(), &layout, 2, to_names, 0x55)?;
-            assert!(rt; copy(&layout, &from, &mut to));
-            assert!(rt; keeps_form(&to, 2, to_len, to_names, 0x55));
-            assert!(rt; holds(&to.bytes, 512, &[0x20, 0, 0, 0, 0, 0, 0, 0]));
-            assert!(rt; holds(&to.bytes, to_at, &[0x55; 8]));
-        }
+    for (from_names, from_len, from_at, to_names, to_len, to_at, control) in [
+        (0, 11008, 2688, 0, 11008, 2688, 0x1fa0),
+        (0, 11008, 2688, names, 648, 640, 0x1fa0),
+        (names, 648, 640, 0, 11008, 2688, 0x1f80),
+        (names, 648, 640, names, 648, 640, 0x1f80),
+    ] {
+        let from = stored(rt.alloc(), from_names, from_len, 0x220, &[(from_at, 3, 4)])?;
+        let runs = [(to_at, 0x55, 8)];
+        assert!(rt;
+            copies(
+                rt.alloc(),
+                &amx,
+                &from,
+                (to_names, to_len),
+                0x20,
+                control,
+                &runs
+            )?
+        );
     }
     Ok(())
 }
 
 #[test]
-fn a_standard_area_needs_no_bit_for_mxcsr(rt: HostRuntime) -> Result<(), Fail> {
-    let layout = Layout::amx();
+fn a_standard_area_needs_no_bit_for_mxcsr(rt: HostRuntime) -> Result<(), AllocError> {
+    let amx = Layout::amx();
     let mut bytes = filled(rt.alloc(), 11008, 0)?;
-    poke(&mut bytes, 160, &[0x11; 256]);
-    poke(&mut bytes, 1088, &[5; 64]);
-    poke(&mut bytes, 2688, &[1, 2, 3, 4]);
-    for (bits, control, want) in [
-        (0x220, 0x1f81u32, 0x20),
-        (0x220, 0x1f80, 0x20),
-        (0x200, 0x1f81, 0),
-        (0x222, 0x1f81, 0x22),
+    put_runs(&mut bytes, &[(160, 0x11, 256), (1088, 5, 64), (2688, 9, 4)]);
+    let kept = [(2688, 0x55, 8), (1088, 5, 64), (160, 0x11, 256)];
+    for (bits, mxcsr, want, many) in [
+        (0x220, 0x1f81u32, 0x20, 2),
+        (0x220, 0x1f80, 0x20, 2),
+        (0x200, 0x1f81, 0, 1),
+        (0x222, 0x1f81, 0x22, 3),
     ] {
         let parts = Parts {
             bits: Features(bits),
-            mxcsr: control,
+            mxcsr,
             pkru: 0x0403_0201,
         };
-        let mut area = area_of(rt.alloc(), &layout, 7, 0, 0x55)?;
-        assert!(rt; compact(&layout, &bytes, &parts, &mut area));
-        assert!(rt; keeps_form(&area, 7, 11008, 0, 0x55));
-        assert!(rt;
-            holds(&area.bytes, 512, &[want, 0, 0, 0, 0, 0, 0, 0]),
-            "at {bits}"
-        );
-        assert!(rt; holds(&area.bytes, 24, &control.to_le_bytes()), "at {bits}");
-        assert!(rt; want < 0x20 || holds(&area.bytes, 1088, &[5; 64]));
-        assert!(rt; want < 0x22 || holds(&area.bytes, 160, &[0x11; 256]));
-        assert!(rt; holds(&area.bytes, 2688, &[0x55; 8]));
+        let kept = first(&kept, many);
+        assert!(rt; compacts(rt.alloc(), &amx, &bytes, &parts, (0, 11008), want, kept)?);
     }
     Ok(())
 }

@@ -1,15 +1,17 @@
-//! Images and areas for tests, and calls that first look whether what they require holds.
+//! Images and areas for tests, and calls that first look whether what they require is so.
 
-ghost use Rattle.std.specs.Prelude.{◌≡◌, ◌+◌, ◌<◌, ◌≤◌, ◌^◌, ℕ, true, false, length};
-ghost use Rattle.xs_base.specs.Area.{HasPlaces, has_room};
-ghost use Rattle.xs_base.specs.Header as header;
+ghost use Rattle.std.specs.Prelude.{◌≡◌, ◌≤◌, ℕ, true, length};
+ghost use Rattle.xs_base.specs.Area.{has_room};
 ghost use Rattle.xs_base.specs.Sets.{has};
 
 use crate::copies::copied_of;
-use crate::{Area, compact_of, copy_area, read_standard, standard_of, xcomp_bv, xstate_bv};
+use crate::{Area, compact_of, copy_area, read_standard, standard_of, stands};
 use std::alloc::{AllocError, Global};
-use xs_base::{Comp, Features, HeaderError, Origin, Parts, Row, put};
+use xs_base::{Comp, Features, HeaderError, Origin, Parts, put};
 use xs_layout::Layout;
+
+/// A run of bytes: where it begins, its value and its length.
+pub type Run = (usize, u8, usize);
 
 /// Bytes of one value.
 pub fn filled(alloc: Global, len: usize, value: u8) -> Result<Vec<u8>, AllocError> {
@@ -23,39 +25,81 @@ pub fn poke(bytes: &mut [u8], at: usize, new: &[u8]) {
     }
 }
 
-/// An area of these bytes, with this XCOMP_BV and an empty XSTATE_BV: as long as its format wants.
-pub fn area_of(
-    alloc: Global,
-    layout: &Layout,
-    id: u64,
-    names: u64,
-    value: u8,
-) -> Result<Area, AllocError> {
-    let len = if Features(names).has(Comp(63)) {
-        layout.compact_size(Features(names))
-    } else {
-        layout.full_size()
-    };
-    let mut bytes = filled(alloc, len as usize, value)?;
-    poke(&mut bytes, 512, &[0; 8]);
-    poke(&mut bytes, 520, &names.to_le_bytes());
-    Ok(Area { id, bytes })
+/// Writes runs, each where there is room.
+pub fn put_runs(bytes: &mut [u8], runs: &[Run]) {
+    for (at, value, many) in runs {
+        if *at <= bytes.len() && *many <= bytes.len() - *at {
+            bytes[*at..*at + *many].fill(*value);
+        }
+    }
 }
 
 /// Whether the bytes from `at` on are these.
-pub fn holds(bytes: &[u8], at: usize, want: &[u8]) -> bool {
+pub fn reads(bytes: &[u8], at: usize, want: &[u8]) -> bool {
     match bytes.get(at..) {
         Some(rest) => rest.starts_with(want),
         None => false,
     }
 }
 
-/// Whether the form of an area is that which `area_of` gave it.
-pub fn keeps_form(area: &Area, id: u64, len: usize, names: u64, value: u8) -> bool {
-    area.id == id
-        && area.bytes.len() == len
-        && holds(&area.bytes, 520, &names.to_le_bytes())
-        && holds(&area.bytes, 528, &[value; 48])
+/// Whether each run is there.
+pub fn has_runs(bytes: &[u8], runs: &[Run]) -> bool {
+    for (at, value, many) in runs {
+        if !has_run(bytes, *at, *value, *many) {
+            return false;
+        }
+    }
+    true
+}
+
+/// Whether so many bytes from `at` on have this value.
+fn has_run(bytes: &[u8], at: usize, value: u8, many: usize) -> bool {
+    if at > bytes.len() || many > bytes.len() - at {
+        return false;
+    }
+    for byte in &bytes[at..at + many] {
+        if *byte != value {
+            return false;
+        }
+    }
+    true
+}
+
+/// The first runs, so many of them.
+pub fn first(runs: &[Run], many: usize) -> &[Run] {
+    &runs[..many.min(runs.len())]
+}
+
+/// An area of 55H with this XCOMP_BV and an empty XSTATE_BV.
+pub fn blank(alloc: Global, names: u64, len: usize) -> Result<Area, AllocError> {
+    let mut bytes = filled(alloc, len, 0x55)?;
+    poke(&mut bytes, 512, &[0; 8]);
+    poke(&mut bytes, 520, &names.to_le_bytes());
+    Ok(Area { id: 7, bytes })
+}
+
+/// An area of zeros with this XCOMP_BV and XSTATE_BV, MXCSR 1FA0H and these runs.
+pub fn stored(
+    alloc: Global,
+    names: u64,
+    len: usize,
+    bits: u64,
+    runs: &[Run],
+) -> Result<Area, AllocError> {
+    let mut bytes = filled(alloc, len, 0)?;
+    poke(&mut bytes, 24, &[0xa0, 0x1f]);
+    poke(&mut bytes, 512, &bits.to_le_bytes());
+    poke(&mut bytes, 520, &names.to_le_bytes());
+    put_runs(&mut bytes, runs);
+    Ok(Area { id: 1, bytes })
+}
+
+/// Whether an area has the form of a blank one, these bits, this MXCSR and these runs.
+pub fn shows(area: &Area, names: u64, len: usize, bits: u64, control: u32, runs: &[Run]) -> bool {
+    let bytes = area.bytes.as_slice();
+    let form = area.id == 7 && bytes.len() == len && has_run(bytes, 528, 0x55, 48);
+    let header = reads(bytes, 512, &bits.to_le_bytes()) && reads(bytes, 520, &names.to_le_bytes());
+    form && header && reads(bytes, 24, &control.to_le_bytes()) && has_runs(bytes, runs)
 }
 
 /// `read_standard`, where the image is long enough.
@@ -71,6 +115,21 @@ pub fn read(
     Some(read_standard(layout, bytes, allowed, origin))
 }
 
+/// Whether `compact_of` makes a blank area of this form one with these bits and runs.
+pub fn compacts(
+    alloc: Global,
+    layout: &Layout,
+    bytes: &[u8],
+    parts: &Parts,
+    (names, len): (u64, usize),
+    bits: u64,
+    runs: &[Run],
+) -> Result<bool, AllocError> {
+    let mut area = blank(alloc, names, len)?;
+    let made = compact(layout, bytes, parts, &mut area);
+    Ok(made && shows(&area, names, len, bits, parts.mxcsr, runs))
+}
+
 /// `compact_of`, where the area has room.
 pub fn compact(layout: &Layout, bytes: &[u8], parts: &Parts, area: &mut Area) -> bool {
     if area.bytes.len() < 576 || bytes.len() < layout.full_size() as usize {
@@ -84,63 +143,60 @@ pub fn compact(layout: &Layout, bytes: &[u8], parts: &Parts, area: &mut Area) ->
 }
 
 /// The area has room for SSE and for each component of the set but PKRU.
-pub fn has_room_for(layout: &Layout, area: &[u8], set: Features) -> bool
+fn has_room_for(layout: &Layout, area: &[u8], set: Features) -> bool
     requires { 576 ≤ length area.now }
     ensures sse { result ≡ true → has_room layout.now area.now 1 ≡ true }
     ensures each { result ≡ true → (c : ℕ) → (c ≡ 9 → ⊥) → has set.0 c ≡ true → has_room layout.now area.now c ≡ true }
 {
-    let wanted = set.with(Comp(1), true).with(Comp(9), true);
+    let wanted = set.with(Comp::SSE, true).with(Comp::PKRU, true);
     let copied = copied_of(layout, area, wanted);
-    copied.with(Comp(9), true).0 == wanted.0
+    copied.with(Comp::PKRU, true).0 == wanted.0
 }
 
-/// `standard_of`, where the area holds its components and `out` is long enough.
-pub fn standard(layout: &Layout, area: &Area, pkru: u32, mask: Features, out: &mut [u8]) -> bool {
-    if area.bytes.len() < 576 || !holds_places(layout, &area.bytes) {
-        return false;
-    }
-    if out.len() < layout.standard_size(mask) as usize {
-        return false;
-    }
-    standard_of(layout, area, pkru, mask, out);
-    true
+/// Whether `copy_area` makes a blank area of this form one with these bits, this MXCSR and these runs.
+pub fn copies(
+    alloc: Global,
+    layout: &Layout,
+    from: &Area,
+    (names, len): (u64, usize),
+    bits: u64,
+    control: u32,
+    runs: &[Run],
+) -> Result<bool, AllocError> {
+    let mut to = blank(alloc, names, len)?;
+    let made = copy(layout, from, &mut to);
+    Ok(made && shows(&to, names, len, bits, control, runs))
 }
 
-/// `copy_area`, where the first area holds its components.
+/// `copy_area`, where both areas have what it wants.
 pub fn copy(layout: &Layout, from: &Area, to: &mut Area) -> bool {
-    if from.bytes.len() < 576 || to.bytes.len() < 576 {
-        return false;
-    }
-    if !holds_places(layout, &from.bytes) {
+    if to.bytes.len() < 576 || !stands(layout, from) {
         return false;
     }
     copy_area(layout, from, to);
     true
 }
 
-/// The area holds the place of each component whose bit in XSTATE_BV is 1.
-pub fn holds_places(layout: &Layout, area: &[u8]) -> bool
-    requires { 576 ≤ length area.now }
-    ensures { result ≡ true → HasPlaces layout.now area.now (header.xstate_bv area.now) }
-{
-    let bits = Features(xstate_bv(area));
-    let names = Features(xcomp_bv(area));
-    'each: for i in 0..layout.len() {
-        let row = layout.row_at(i);
-        if !is_held(bits, row, layout.place(names, row) as usize, area.len()) {
-            return false;
-        }
-    }
-    true
+/// Whether `standard_of` over so many bytes of EEH gives these runs.
+pub fn gives(
+    alloc: Global,
+    layout: &Layout,
+    area: &Area,
+    pkru: u32,
+    mask: Features,
+    len: usize,
+    runs: &[Run],
+) -> Result<bool, AllocError> {
+    let mut out = filled(alloc, len, 0xee)?;
+    let made = standard(layout, area, pkru, mask, &mut out);
+    Ok(made && has_runs(&out, runs))
 }
 
-/// A component of the set that stands from byte `at` on ends by byte `len`.
-fn is_held(bits: Features, row: Row, at: usize, len: usize) -> bool
-    requires { at < 2 ^ 33 }
-    ensures { result ≡ true → has bits.0 row.comp.0 ≡ true → at + row.size ≤ len }
-{
-    if !bits.has(row.comp) {
-        return true;
+/// `standard_of`, where the area can be read and `out` is long enough.
+pub fn standard(layout: &Layout, area: &Area, pkru: u32, mask: Features, out: &mut [u8]) -> bool {
+    if out.len() < layout.standard_size(mask) as usize || !stands(layout, area) {
+        return false;
     }
-    at + row.size as usize <= len
+    standard_of(layout, area, pkru, mask, out);
+    true
 }

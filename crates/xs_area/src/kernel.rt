@@ -23,8 +23,8 @@ pub fn class_features(layout: &Layout, class: Class) -> Features
     // The rows pass every test of a table.
     let _ = layout.len();
     match class {
-        Class::Small => layout.default_features().with(Comp(9), false),
-        Class::Large => layout.features().with(Comp(9), false),
+        Class::Small => layout.default_features().with(Comp::PKRU, false),
+        Class::Large => layout.features().with(Comp::PKRU, false),
     }
 }
 

@@ -1,54 +1,55 @@
 //! Areas that can be read, and areas that lack a byte, a place or a component.
 
-use crate::{Area, stands};
+use crate::fixtures::stored;
+use crate::stands;
 use std::alloc::{AllocError, Global};
 use xs_layout::Layout;
 
-/// An area of so many bytes with this XSTATE_BV and XCOMP_BV.
-fn area(alloc: Global, len: usize, bits: u64, names: u64) -> Result<Area, AllocError> {
-    let mut bytes = vec![in alloc; 0u8; len]?;
-    if len >= 576 {
-        bytes[512..520].copy_from_slice(&bits.to_le_bytes());
-        bytes[520..528].copy_from_slice(&names.to_le_bytes());
+/// XCOMP_BV with every component but PKRU: TILECFG at 2,432 and TILEDATA at 2,496.
+const NAMES: u64 = 0x8000_0000_0006_00e7;
+
+/// XCOMP_BV with ZMM_Hi256 alone, which follows the legacy region and the header.
+const ZMM: u64 = 0x8000_0000_0000_0040;
+
+/// Whether an area of the machine `amx` or `avx` can be read.
+fn can_be_read(
+    alloc: Global,
+    amx: bool,
+    len: usize,
+    bits: u64,
+    names: u64,
+) -> Result<bool, AllocError> {
+    let layout = if amx { Layout::amx() } else { Layout::avx() };
+    let area = stored(alloc, names, len, bits, &[])?;
+    Ok(stands(&layout, &area))
+}
+
+#[test]
+fn an_area_has_the_places_that_it_needs(rt: HostRuntime) -> Result<(), AllocError> {
+    let (amx, avx) = (true, false);
+    for (machine, len, bits, names, want) in [
+        // A header.
+        (amx, 0, 0, 0, false),
+        (amx, 575, 0, 0, false),
+        (amx, 576, 0, 0, true),
+        // The standard format has every place.
+        (amx, 11008, 0x602e7, 0, true),
+        (amx, 11007, 0x602e7, 0, false),
+        (amx, 2816, 0x202e7, 0, true),
+        (amx, 11008, 0x8, 0, false),
+        (amx, 11008, 1 << 63, 0, false),
+        (avx, 832, 7, 0, true),
+        (avx, 11008, 0x27, 0, false),
+        // The compacted format has the places that it names, the legacy ones too.
+        (amx, 10688, 0x600e7, NAMES, true),
+        (amx, 10687, 0x600e7, NAMES, false),
+        (amx, 2496, 0x200e7, NAMES, true),
+        (amx, 10688, 0x602e7, NAMES, false),
+        (amx, 1088, 0x40, ZMM, true),
+        (amx, 1087, 0x40, ZMM, false),
+        (amx, 1088, 0x42, ZMM, false),
+    ] {
+        assert!(rt; can_be_read(rt.alloc(), machine, len, bits, names)? == want);
     }
-    Ok(Area { id: 1, bytes })
-}
-
-#[test]
-fn an_area_needs_a_header(rt: HostRuntime) -> Result<(), AllocError> {
-    let amx = Layout::amx();
-    assert!(rt; !stands(&amx, &area(rt.alloc(), 0, 0, 0)?));
-    assert!(rt; !stands(&amx, &area(rt.alloc(), 575, 0, 0)?));
-    assert!(rt; stands(&amx, &area(rt.alloc(), 576, 0, 0)?));
-    Ok(())
-}
-
-#[test]
-fn the_standard_format_has_every_place(rt: HostRuntime) -> Result<(), AllocError> {
-    let amx = Layout::amx();
-    assert!(rt; stands(&amx, &area(rt.alloc(), 11008, 0x602e7, 0)?));
-    assert!(rt; !stands(&amx, &area(rt.alloc(), 11007, 0x602e7, 0)?));
-    assert!(rt; stands(&amx, &area(rt.alloc(), 2816, 0x202e7, 0)?));
-    assert!(rt; !stands(&amx, &area(rt.alloc(), 11008, 0x8, 0)?));
-    assert!(rt; !stands(&amx, &area(rt.alloc(), 11008, 1 << 63, 0)?));
-    assert!(rt; stands(&Layout::avx(), &area(rt.alloc(), 832, 7, 0)?));
-    assert!(rt; !stands(&Layout::avx(), &area(rt.alloc(), 11008, 0x27, 0)?));
-    Ok(())
-}
-
-#[test]
-fn the_compacted_format_has_the_places_that_it_names(rt: HostRuntime) -> Result<(), AllocError> {
-    let amx = Layout::amx();
-    // Every component but PKRU: TILECFG at 2,432 and TILEDATA at 2,496.
-    let names = 0x8000_0000_0006_00e7;
-    assert!(rt; stands(&amx, &area(rt.alloc(), 10688, 0x600e7, names)?));
-    assert!(rt; !stands(&amx, &area(rt.alloc(), 10687, 0x600e7, names)?));
-    assert!(rt; stands(&amx, &area(rt.alloc(), 2496, 0x200e7, names)?));
-    assert!(rt; !stands(&amx, &area(rt.alloc(), 10688, 0x602e7, names)?));
-    // The ZMM_Hi256 registers follow the legacy region and the header where nothing before them is named.
-    assert!(rt; stands(&amx, &area(rt.alloc(), 1088, 0x40, 0x8000_0000_0000_0040)?));
-    assert!(rt; !stands(&amx, &area(rt.alloc(), 1087, 0x40, 0x8000_0000_0000_0040)?));
-    // The legacy registers have no place where they aren't named.
-    assert!(rt; !stands(&amx, &area(rt.alloc(), 1088, 0x42, 0x8000_0000_0000_0040)?));
     Ok(())
 }

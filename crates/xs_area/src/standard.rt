@@ -60,7 +60,7 @@ fn put_stored(area: &[u8], at: usize, bits: Features, pkru: u32, row: Row, out: 
 {
     let to = row.offset as usize;
     let size = row.size as usize;
-    if row.comp.0 == 9 {
+    if row.comp == Comp::PKRU {
         put_component(out, to, row.comp, &pkru_bytes(pkru));
     } else if bits.has(row.comp) {
         put_component(out, to, row.comp, &area[at..at + size]);
@@ -83,7 +83,7 @@ pub fn control_in(area: &[u8]) -> u32
     requires { 576 ≤ length area.now }
     ensures { result ≡ control_in area.now }
 {
-    if Features(xcomp_bv(area)).has(Comp(63)) && !Features(xstate_bv(area)).has(Comp(1)) {
+    if Features(xcomp_bv(area)).is_compacted() && !Features(xstate_bv(area)).has(Comp::SSE) {
         INITIAL_MXCSR
     } else {
         mxcsr(area)

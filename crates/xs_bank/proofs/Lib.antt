@@ -7,5 +7,5 @@ pub mod TrapLemmas
 pub mod ReadyLemmas
 pub mod ChangeLemmas
 pub mod WholeLemmas
-pub mod TurnLemmas
 pub mod RegisterLemmas
+pub mod PkruLemmas

@@ -25,15 +25,6 @@ use Rattle.xs_bank.proofs.SetBits.{bit_cases}
 
 -- ---- sets
 
-pub has_and : (a b c : ℕ) → has (bit_and a b) c ≡ (has a c && has b c)
-has_and a b c = ap (λ n. n == 1) (bit_at_and a b c) ∙ here (bit_at a c) (bit_at b c) (bit_cases a c) (bit_cases b c)
-  where
-    here : (x y : ℕ) → (x ≡ 0) ⊎ (x ≡ 1) → (y ≡ 0) ⊎ (y ≡ 1) → (min x y == 1) ≡ ((x == 1) && (y == 1))
-    here x y (inl a) (inl b) = rw (a, b) refl
-    here x y (inl a) (inr b) = rw (a, b) refl
-    here x y (inr a) (inl b) = rw (a, b) refl
-    here x y (inr a) (inr b) = rw (a, b) refl
-
 -- one set without another
 pub has_but : (all mask c : ℕ) → has (bit_and all (bit_xor all mask)) c ≡ (has all c && not (has mask c))
 has_but all mask c =

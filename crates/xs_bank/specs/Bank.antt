@@ -1,7 +1,6 @@
 -- A bank: the extended registers of one processor, and what its instructions do (SDM volume 1, chapter 13). The counts and
 -- the trail are this project's own, as is that a trap changes nothing.
-use Rattle.std.specs.Prelude.{◌≡◌, ℕ, ◌^◌, Bool, true, false, not, ◌&&◌, ◌||◌, ◌==◌, List, slice_get, take, Option, Some, None, if◌then◌else◌, bit_or}
-use Rattle.std.specs.Int.{from_le_bytes, w32}
+use Rattle.std.specs.Prelude.{◌≡◌, ℕ, ◌^◌, Bool, true, false, not, ◌&&◌, ◌||◌, ◌==◌, List, slice_get, Option, Some, None, if◌then◌else◌, bit_or}
 use Rattle.xs_base.specs.declared.component.Row.{Row}
 use Rattle.xs_base.specs.declared.component.Place.{Place}
 use Rattle.xs_bank.specs.declared.instruction.Trap.{Trap}
@@ -62,9 +61,6 @@ after_write bank place bytes = executed (changed bank (write_place bank.file pla
 -- TILECFG and TILEDATA are initial.
 abbrev pub after_release : Bank → Bank
 after_release bank = executed (changed bank (with_part (with_part bank.file 17 (initial_part 17)) 18 (initial_part 18)) 0x60000) release_numbers
-
-abbrev pub pkru_of : Bank → ℕ
-pkru_of bank = from_le_bytes w32 (take 4 (part bank.file 9))
 
 abbrev pub after_wrpkru : Bank → ℕ → Bank
 after_wrpkru bank value = changed bank (with_pkru bank.file value) (2 ^ 9)

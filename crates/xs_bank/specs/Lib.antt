@@ -7,4 +7,3 @@ pub mod Rows
 pub mod Tracking
 pub mod Holds
 pub mod SetUp
-pub mod Turn

@@ -6,7 +6,7 @@ ghost use Rattle.xs_base.specs.declared.component.Row.{Row};
 ghost use Rattle.xs_bank.specs.Bank as banks;
 ghost use Rattle.xs_base.specs.Area.{StandsFor, HasPlaces};
 ghost use Rattle.xs_base.specs.Compact.{is_compacted, compact_size};
-ghost use Rattle.xs_base.specs.File.{IsFile, read_place, is_mxcsr};
+ghost use Rattle.xs_base.specs.File.{IsFile, pkru_of, with_pkru, read_place, is_mxcsr};
 ghost use Rattle.xs_base.specs.Header.{xstate_bv, xcomp_bv};
 ghost use Rattle.xs_base.specs.KernelArea.{IsLoadable};
 ghost use Rattle.xs_base.specs.Layout.{has_row, standard_size};
@@ -129,9 +129,10 @@ pub trait Bank: Drop {
         ensures whole { IfOk result (λ _. load.IsWholeLoad mask.0 (has mask.0 1) area.now.bytes.items (state self.old).file.rows (state self.new).file) }
         ensures accepted { IfErr result (λ t. (class : Class) (id : ℕ) → IsLoadable (state self.old).file.rows class id area.now.bytes.items → is_compacted (xcomp_bv area.now.bytes.items) ≡ true → load.IsStopped (state self.old).armed mask.0 area.now.bytes.items t) };
 
-    /// PKRU (SDM volume 2, RDPKRU). It isn't counted.
+    /// PKRU (SDM volume 2, RDPKRU). A write of what is read changes no register. It isn't counted.
     fn rdpkru(&self) -> u32
-        ensures { result ≡ banks.pkru_of (state self.now) };
+        ensures pkru { result ≡ pkru_of (state self.now).file }
+        ensures kept { with_pkru (state self.now).file result ≡ (state self.now).file };
 
     /// Writes PKRU (SDM volume 2, WRPKRU). It isn't counted.
     fn wrpkru(&mut self, value: u32)

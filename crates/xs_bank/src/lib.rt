@@ -4,33 +4,17 @@
 
 mod bank;
 mod bank_of;
-#[cfg(test)]
-mod bank_tests;
 mod checks;
 mod choice;
 mod cpu;
-#[cfg(test)]
-mod fixtures;
 mod initial_area;
 mod instruction;
 mod laws;
 mod loading;
-#[cfg(test)]
-mod log;
-#[cfg(test)]
-mod optimisation_tests;
-#[cfg(test)]
-mod random;
 mod registers;
 mod saving;
 mod tracking;
 mod trail;
-#[cfg(test)]
-mod trap_tests;
-#[cfg(test)]
-mod turn_tests;
-#[cfg(test)]
-mod turns;
 
 pub use bank::Bank;
 pub use bank_of::{BankOf, PlainBank, TrackBank};

@@ -1,12 +1,11 @@
 //! The registers of any bank, what XFD is armed for, and the area that was loaded last.
 
 ghost use Rattle.std.specs.Prelude.{◌≡◌, ℕ, ◌+◌, ◌^◌, ◌<◌, ◌≤◌, ◌⊎◌, true, List, length, take, slice_index, slice_get, Some, None, IfOk, IfErr, MatchResult, if◌then◌else◌};
-ghost use Rattle.std.specs.Int.{from_le_bytes, w32};
 ghost use Rattle.xs_base.specs.declared.component.Row.{Row};
 ghost use Rattle.xs_base.specs.Area.{HasPlaces};
 ghost use Rattle.xs_base.specs.Compact.{is_compacted};
 ghost use Rattle.xs_base.specs.Component.{initial_part};
-ghost use Rattle.xs_base.specs.File.{IsFile, initial_file, part, with_part, with_pkru, read_place, write_place, is_mxcsr};
+ghost use Rattle.xs_base.specs.File.{IsFile, initial_file, pkru_of, with_part, with_pkru, read_place, write_place, is_mxcsr};
 ghost use Rattle.xs_base.specs.Header as header;
 ghost use Rattle.xs_base.specs.Layout.{avx_rows, has_row};
 ghost use Rattle.xs_base.specs.Register.{IsRegister};
@@ -174,10 +173,14 @@ impl Registers {
         Ok(())
     }
 
-    /// PKRU.
+    /// PKRU. A file with its own PKRU is that file.
     pub fn pkru(&self) -> u32
-        ensures { result ≡ from_le_bytes w32 (take 4 (part self.now.file 9)) }
+        ensures pkru { result ≡ pkru_of self.now.file }
+        ensures kept { with_pkru self.now.file result ≡ self.now.file }
     {
+        // The file is one of its machine.
+        let _ = self.file.layout();
+        are_bytes(self.file.part(Comp::PKRU));
         self.file.pkru()
     }
 

@@ -1,18 +1,13 @@
-//! The area that was loaded last, and what a save may leave out for it.
+//! The area that was loaded last, and what was changed since.
 
-ghost use Rattle.std.specs.Prelude.{◌≡◌, ℕ, ◌≤◌, ◌<◌, ◌^◌, ◌&&◌, ◌==◌, true, false, not, length, Some, []};
+ghost use Rattle.std.specs.Prelude.{◌≡◌, ℕ, ◌≤◌, ◌<◌, ◌^◌, ◌&&◌, not, length, Some, []};
 ghost use Rattle.xs_bank.specs.Bank as banks;
-ghost use Rattle.xs_base.specs.Header as header;
-ghost use Rattle.xs_base.specs.Compact.{compacted};
-ghost use Rattle.xs_base.specs.File.{in_use, is_saved};
 ghost use Rattle.xs_base.specs.Sets.{has};
 ghost use Rattle.xs_bank.specs.Tracking.{shown};
 
-use crate::saving::saved_bits;
-use xs_area::{compacted, xcomp_bv};
+use xs_area::xcomp_bv;
 use xs_base::{Comp, Features};
 use xs_layout::Layout;
-use xs_regs::File;
 
 /// The area that was loaded last, by its number and its XCOMP_BV, and the components that were changed since.
 #[derive(Clone, Copy)]
@@ -69,48 +64,8 @@ fn others(layout: &Layout, mask: Features) -> Features
     Features(all & (all ^ mask.0))
 }
 
-/// The components that a save in the standard format into the area has to write: those of the mask that are in use, but
-/// for those that weren't changed since this area was loaded.
-pub fn to_save_standard(
-    file: &File,
-    mask: Features,
-    tracked: Option<LoadedArea>,
-    id: u64,
-    area: &[u8],
-) -> Features
-    requires { 576 ≤ length area.now }
-    ensures within { (c : ℕ) → has result.0 c ≡ true → has mask.0 c ≡ true }
-    ensures each { (c : ℕ) → has result.0 c ≡ (has mask.0 c && in_use file.now c && not (banks.is_unmodified (shown tracked) id (header.xcomp_bv area.now) c)) }
-    ensures left { (c : ℕ) → has mask.0 c ≡ true → in_use file.now c ≡ true → has result.0 c ≡ false → banks.is_unmodified (shown tracked) id (header.xcomp_bv area.now) c ≡ true }
-{
-    changed_of(file.in_use_of(mask), tracked, id, xcomp_bv(area))
-}
-
-/// The same of a save in the compacted format, where SSE goes with MXCSR, and an area whose XCOMP_BV changes has nothing that can
-/// be left out.
-pub fn to_save_compacted(
-    file: &File,
-    mask: Features,
-    tracked: Option<LoadedArea>,
-    id: u64,
-    area: &[u8],
-) -> Features
-    requires { 576 ≤ length area.now }
-    ensures within { (c : ℕ) → has result.0 c ≡ true → has mask.0 c ≡ true }
-    ensures saved { (c : ℕ) → has result.0 c ≡ true → is_saved file.now c ≡ true }
-    ensures each { (c : ℕ) → has result.0 c ≡ (has mask.0 c && is_saved file.now c && not ((header.xcomp_bv area.now == compacted mask.0) && banks.is_unmodified (shown tracked) id (header.xcomp_bv area.now) c)) }
-    ensures left { (c : ℕ) → has mask.0 c ≡ true → is_saved file.now c ≡ true → has result.0 c ≡ false → (banks.is_unmodified (shown tracked) id (header.xcomp_bv area.now) c ≡ true) × (header.xcomp_bv area.now ≡ compacted mask.0) }
-{
-    let saved = saved_bits(file, mask);
-    let names = xcomp_bv(area);
-    if names != compacted(mask).0 {
-        return saved;
-    }
-    changed_of(saved, tracked, id, names)
-}
-
 /// The components of the set, but for those that weren't changed since the area of this number and XCOMP_BV was loaded.
-fn changed_of(set: Features, tracked: Option<LoadedArea>, id: u64, names: u64) -> Features
+pub fn changed_of(set: Features, tracked: Option<LoadedArea>, id: u64, names: u64) -> Features
     ensures { (c : ℕ) → has result.0 c ≡ (has set.0 c && not (banks.is_unmodified (shown tracked) id names c)) }
 {
     let Some(loaded) = tracked else {

@@ -1,5 +1,5 @@
 -- Places in the compacted format.
-use Rattle.std.proofs.Common.{◌≡◌, ◌≢◌, ◌⊎◌, inl, inr, ℕ, zero, suc, ◌+◌, ◌*◌, ◌/◌, ◌^◌, ◌<◌, ◌≤◌, Bool, true, false, ◌&&◌, ◌||◌, ◌==◌, nat_le, List, [], ◌∷◌, length, get_or, drop, if◌then◌else◌, refl, sym, ap, subst, ◌∙◌, arith}
+use Rattle.std.proofs.Common.{◌≡◌, ◌≢◌, ◌⊎◌, inl, inr, ℕ, zero, suc, ◌+◌, ◌*◌, ◌/◌, ◌<◌, ◌≤◌, Bool, true, false, ◌&&◌, ◌||◌, ◌==◌, nat_le, List, [], ◌∷◌, length, get_or, drop, if◌then◌else◌, refl, sym, ap, subst, ◌∙◌, arith}
 use Rattle.std.proofs.lemmas.Bool.{cases_order, eq-eqb, ne_eqb, eqb-true}
 use Rattle.std.proofs.lemmas.Bool.Decides.{nat_tests}
 use Rattle.std.specs.List.{list_any}
@@ -7,7 +7,7 @@ use Rattle.std.proofs.lemmas.List.{at_drop_more, at_drop_all}
 use Rattle.xs_base.specs.declared.component.Row.{Row}
 use Rattle.xs_base.specs.Sets.{has}
 use Rattle.xs_base.specs.Component.{component_numbers, component_size, sizes}
-use Rattle.xs_base.specs.Layout.{IsLayout, IsSound, most_rows}
+use Rattle.xs_base.specs.Layout.{IsLayout, IsSound}
 use Rattle.xs_base.specs.Compact.{aligned, is_extended, compact_after, compact_end, compact_from, compact_size, compact_offset}
 use Rattle.xs_base.proofs.LayoutLemmas.{AreApart, AreRising, rising, rising_rest, sound_at}
 
@@ -192,19 +192,10 @@ along_more mask i end r s h =
     let size : r.size ≤ 16384 = omega (arith, s.ends) in
     record { low = omega arith; few = omega arith }
 
-pub along_fits : (i end : ℕ) (r : Row) → i ≤ most_rows → IsSound r → IsAlong i end → end + 63 + r.size < 2 ^ 32
-along_fits i end r le s h =
-    let few = h.few in
-    let size : r.size ≤ 16384 = omega (arith, s.ends) in
-    omega arith
-
 -- The components of the mask before place i end at `end`.
 pub record IsEnded (mask : ℕ) (rows : List Row) (i end : ℕ) : Type 0 where
   pub rest : compact_end mask 576 rows ≡ compact_end mask end (drop i rows)
   pub along : IsAlong i end
-
-pub ended_none : (mask : ℕ) (rows : List Row) → IsEnded mask rows 0 576
-ended_none mask rows = record { rest = refl; along = along_none }
 
 pub ended_more : (mask : ℕ) (rows : List Row) (i end : ℕ) (r : Row) → i < length rows → r ≡ get_or rows i r → IsSound r → IsEnded mask rows i end → IsEnded mask rows (i + 1) (compact_after mask end r)
 ended_more mask rows i end r lt is s h = record { rest = h.rest ∙ compact_end_more mask end rows i r lt is; along = along_more mask i end r s h.along }
@@ -216,9 +207,6 @@ ended_all mask rows i end le h = sym (h.rest ∙ compact_end_all mask end rows i
 pub record IsSought (mask c : ℕ) (rows : List Row) (i end : ℕ) : Type 0 where
   pub rest : compact_from mask c 576 rows ≡ compact_from mask c end (drop i rows)
   pub along : IsAlong i end
-
-pub sought_none : (mask c : ℕ) (rows : List Row) → IsSought mask c rows 0 576
-sought_none mask c rows = record { rest = refl; along = along_none }
 
 pub sought_more : (mask c : ℕ) (rows : List Row) (i end : ℕ) (r : Row) → i < length rows → r ≡ get_or rows i r → IsSound r → r.comp.0 ≢ c → IsSought mask c rows i end → IsSought mask c rows (i + 1) (compact_after mask end r)
 sought_more mask c rows i end r lt is s other h = record { rest = h.rest ∙ compact_from_more mask c end rows i r lt is other; along = along_more mask i end r s h.along }

@@ -109,14 +109,6 @@ cleaned_pkru at old fits = record {
     same : (i : ℕ) → (if is_within (at + 4) 4 i then 0 else get_or old i 0) ≡ (if is_within at 8 i && not (is_own 9 (i - at)) then 0 else get_or old i 0)
     same i = grind (arith, nat_tests)
 
--- every other component
-pub cleaned_other : (at c : ℕ) (old : List ℕ) → (c ≡ 0 → ⊥) → (c ≡ 9 → ⊥) → IsCleaned at c old old
-cleaned_other at c old x87 pkru = record { len = refl; each = λ i. rw (ne_eqb c 0 x87, ne_eqb c 9 pkru) (none (is_within at (component_size c) i) (get_or old i 0)) }
-  where
-    none : (b : Bool) (x : ℕ) → x ≡ (if b && not true then 0 else x)
-    none true x = refl
-    none false x = refl
-
 -- ---- bytes 24 to 31 stay
 
 -- what stands there before is put back

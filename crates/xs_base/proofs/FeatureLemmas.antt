@@ -8,15 +8,12 @@ use Rattle.xs_base.specs.declared.component.Row.{Row}
 use Rattle.xs_base.specs.Sets.{has}
 use Rattle.xs_base.specs.Component.{component_numbers}
 use Rattle.xs_base.specs.Layout.{IsLayout, is_known, has_row, features, default_features}
-use Rattle.xs_base.proofs.SetLemmas.{has_none, has_or, has_set_of, same_set}
+use Rattle.xs_base.proofs.SetLemmas.{has_or, has_set_of, same_set}
 use Rattle.xs_base.proofs.LayoutLemmas.{has_features}
 
 -- The set has the components of the rows before place i.
 pub record IsGathered (rows : List Row) (i set : ℕ) : Type 0 where
   pub each : (c : ℕ) → (has set c || has_row (drop i rows) c) ≡ has_row rows c
-
-pub gathered_none : (rows : List Row) → IsGathered rows 0 0
-gathered_none rows = record { each = λ c. ap (λ b. b || has_row rows c) (has_none c) }
 
 pub row_more : (rows : List Row) (i : ℕ) (r : Row) (c : ℕ) → i < length rows → r ≡ get_or rows i r → has_row (drop i rows) c ≡ ((r.comp.0 == c) || has_row (drop (i + 1) rows) c)
 unfolding has_row

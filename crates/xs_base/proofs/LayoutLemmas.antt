@@ -1,5 +1,5 @@
 -- What the tests of a machine's table tell of its rows.
-use Rattle.std.proofs.Common.{◌≡◌, ◌⊎◌, inl, inr, ℕ, zero, suc, ◌+◌, ◌<◌, ◌≤◌, Bool, true, false, not, ◌&&◌, ◌||◌, ◌==◌, nat_le, nat_lt, List, [], ◌∷◌, ◌++◌, length, take, get_or, append_assoc, Option, Some, None, if◌then◌else◌, refl, sym, ap, subst, ◌∙◌, arith}
+use Rattle.std.proofs.Common.{◌≡◌, ◌⊎◌, inl, inr, ℕ, zero, suc, ◌+◌, ◌<◌, ◌≤◌, Bool, true, false, ◌&&◌, ◌||◌, ◌==◌, nat_le, nat_lt, List, [], ◌∷◌, ◌++◌, length, take, get_or, append_assoc, Option, Some, None, if◌then◌else◌, refl, sym, ap, subst, ◌∙◌, arith}
 use Rattle.std.proofs.lemmas.Bool.{cases_order, cases_Bool, false≢true, eq-eqb, eqb-true}
 use Rattle.std.proofs.lemmas.List.{append-nil, get_or-take, get_or_default, length-take}
 use Rattle.std.proofs.lemmas.Bool.Decides.{nat_tests}
@@ -12,7 +12,7 @@ use Rattle.xs_base.specs.declared.layout_error.LayoutError.TheVariants as errors
 use Rattle.xs_base.specs.declared.layout_error.LayoutFault.{LayoutFault}
 use Rattle.xs_base.specs.Sets.{has}
 use Rattle.xs_base.specs.Component.{component_numbers, component_count, component_size, sizes}
-use Rattle.xs_base.specs.Layout.{is_known, is_unknown, is_repeated, has_wrong_size, has_wrong_flags, is_too_large, overlaps, row_error, first_row_fault, fault_or, fault_else, layout_fault, table_error, IsLayout, IsSound, IsRowOf, most_rows, amx_rows, avx_rows, has_row, row_end, features, default_features}
+use Rattle.xs_base.specs.Layout.{is_known, is_unknown, is_repeated, has_wrong_size, has_wrong_flags, is_too_large, overlaps, row_error, first_row_fault, fault_or, fault_else, layout_fault, table_error, IsLayout, IsSound, IsRowOf, most_rows, amx_rows, avx_rows, has_row, row_end, features}
 
 -- two runs of bytes have no byte in common
 abbrev pub AreApart : ℕ → ℕ → ℕ → ℕ → Type 0
@@ -268,12 +268,3 @@ set_known false k h = refl
 -- the features are the components of the rows
 pub has_features : (rows : List Row) → IsLayout rows → (c : ℕ) → has (features rows) c ≡ has_row rows c
 has_features rows h c = has_set_of (has_row rows) component_numbers refl c ∙ set_known (has_row rows c) (is_known c) (has_row_known rows h c)
-
-pub has_default_features : (rows : List Row) → IsLayout rows → (c : ℕ) → has (default_features rows) c ≡ (has_row rows c && not (c == 18))
-has_default_features rows h c =
-    has_set_of (λ k. has_row rows k && not (k == 18)) component_numbers refl c
-    ∙ set_known (has_row rows c && not (c == 18)) (is_known c) (λ on. has_row_known rows h c (first (has_row rows c) (not (c == 18)) on))
-  where
-    first : (a b : Bool) → (a && b) ≡ true → a ≡ true
-    first true b h = refl
-    first false b h = h

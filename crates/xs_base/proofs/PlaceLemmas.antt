@@ -1,5 +1,5 @@
 -- Where the components of a machine stand, in the standard format and by XCOMP_BV in either.
-use Rattle.std.proofs.Common.{◌≡◌, ◌≢◌, ◌⊎◌, inl, inr, ℕ, zero, suc, ◌+◌, ◌%◌, ◌<◌, ◌≤◌, ◌==◌, Bool, true, false, true≢false, not, ◌&&◌, ◌||◌, nat_le, List, [], ◌∷◌, length, get_or, Option, Some, None, if◌then◌else◌, refl, sym, ap, subst, ◌∙◌, arith, nat_lt, take}
+use Rattle.std.proofs.Common.{◌≡◌, ◌≢◌, ◌⊎◌, inl, inr, ℕ, ◌+◌, ◌%◌, ◌<◌, ◌≤◌, ◌==◌, Bool, true, false, true≢false, not, ◌&&◌, ◌||◌, nat_le, List, length, get_or, if◌then◌else◌, refl, sym, ap, subst, ◌∙◌, arith, nat_lt, take}
 use Rattle.std.proofs.lemmas.Bool.{cases_order, cases_lt, cases_eq, cases_Bool, le-leb}
 use Rattle.std.proofs.lemmas.Bool.Decides.{nat_tests}
 use Rattle.std.specs.List.{list_any}
@@ -7,12 +7,11 @@ use Rattle.xs_base.specs.declared.component.Row.{Row}
 use Rattle.xs_base.specs.Bytes.{is_within}
 use Rattle.xs_base.specs.File.{is_own}
 use Rattle.xs_base.specs.Sets.{has}
-use Rattle.xs_base.specs.Layout.{IsLayout, IsSound, has_row, row_end, standard_size}
+use Rattle.xs_base.specs.Layout.{IsLayout, IsSound, has_row, row_end}
 use Rattle.xs_base.specs.Compact.{is_extended, is_compacted, compact_offset, compact_size, place, has_place}
 use Rattle.std.specs.Cmp.Derive.{both_true}
 use Rattle.xs_base.proofs.ByteLemmas.{within_below, within_above, within_tells}
 use Rattle.xs_base.proofs.CompactLemmas.{compact_offset_low, compact_size_low, compact_size_covers, compact_apart}
-use Rattle.xs_base.proofs.SizeLemmas.{end_covers}
 use Rattle.xs_base.proofs.LayoutLemmas.{AreApart, Passes, passes_in, rising, none_before, layout_parts, sound_at}
 
 -- ---- places in the standard format
@@ -135,10 +134,6 @@ compacted_within rows h xcomp i r lt is on placed = here (cases_lt r.comp.0 2)
         let low = compact_size_low rows xcomp in
         rw (place_legacy rows xcomp r legacy) (omega arith)
     here (inr two) = rw (place_compacted rows xcomp r on two) (compact_size_covers rows h xcomp i r lt is (extended_of rows xcomp r on placed two))
-
--- and a component of a mask by the mask's standard size in the standard format
-pub standard_within : (rows : List Row) (xcomp mask i : ℕ) (r : Row) → i < length rows → r ≡ get_or rows i r → is_compacted xcomp ≡ false → has mask r.comp.0 ≡ true → place rows xcomp r + r.size ≤ standard_size rows mask
-standard_within rows xcomp mask i r lt is off on = rw (place_standard rows xcomp r off) (end_covers (has mask) rows i r lt is on)
 
 -- ---- bytes of no row's place
 

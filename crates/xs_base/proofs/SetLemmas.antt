@@ -6,19 +6,11 @@ use Rattle.std.proofs.lemmas.Nat.{shr_split}
 use Rattle.std.proofs.Math.Nat.{suc-mul}
 use Rattle.std.proofs.Math.Nat.{mod-lt}
 use Rattle.std.proofs.lemmas.Nat.{pow_pos}
-use Rattle.std.proofs.lemmas.Bool.{cases_eq, cases_lt, ne_eqb, eqb-true, and_parts}
+use Rattle.std.proofs.lemmas.Bool.{cases_eq, cases_lt, ne_eqb, and_parts}
 use Rattle.std.proofs.lemmas.Bool.Decides.{nat_tests}
 use Rattle.std.proofs.lemmas.Nat.Bits.{bit_at_above, bit_at_and, bit_at-zero, bit_at-lt, same_from_bits, bit_at-suc, bit_at_cat_low, bit_at_cat_high, bit_at_set_same, bit_at_set_other, bit_at_clear_same, bit_at_clear_other}
 use Rattle.xs_base.specs.Sets.{has}
 use Rattle.xs_base.specs.Layout.{set_of}
-
--- a member is below the width of the set
-pub has_below : (set n c : ℕ) → set < 2 ^ n → has set c ≡ true → c < n
-has_below set n c fits h = below (cases_lt c n)
-  where
-    below : (c < n) ⊎ (n ≤ c) → c < n
-    below (inl lt) = lt
-    below (inr ge) = let z = bit_at_above set n c fits ge in let one = eqb-true (bit_at set c) 1 h in absurd (omega (arith, z, one))
 
 -- nothing is in the empty set
 pub has_none : (c : ℕ) → has 0 c ≡ false

@@ -5,7 +5,7 @@
 use Rattle.std.specs.Prelude.{ℕ, List, [], ◌∷◌, slice_index, if◌then◌else◌, ◌==◌}
 use Rattle.xs_base.specs.Bytes.{zeros}
 
--- The number of a component that a definition speaks of.
+-- The numbers of the components that definitions speak of by name.
 abbrev pub x87_number : ℕ
 x87_number = 0
 

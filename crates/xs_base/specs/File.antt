@@ -1,7 +1,7 @@
 -- A register file: the bytes of every component, by its number, and MXCSR beside component 1.
 -- A number that the machine doesn't have keeps its initial bytes, but for PKRU, which every task has: this is the project's
 -- own.
-use Rattle.std.specs.Prelude.{◌≡◌, ℕ, ◌+◌, ◌%◌, ◌^◌, ◌<◌, Bool, true, false, not, ◌&&◌, ◌||◌, ◌==◌, nat_le, nat_lt, List, [], ◌++◌, length, map, bytes_eq, slice_index, slice_index_or, slice_range, slice_set, if◌then◌else◌}
+use Rattle.std.specs.Prelude.{◌≡◌, ℕ, ◌+◌, ◌%◌, ◌^◌, ◌<◌, Bool, true, false, not, ◌&&◌, ◌||◌, ◌==◌, nat_le, nat_lt, List, [], ◌++◌, length, map, take, bytes_eq, slice_index, slice_index_or, slice_range, slice_set, if◌then◌else◌}
 use Rattle.std.specs.List.{range_with_len}
 use Rattle.std.specs.Int.{from_le_bytes, to_le_bytes, w32}
 use Rattle.xs_base.specs.declared.component.Row.{Row}
@@ -30,6 +30,10 @@ initial_file rows = record { rows = rows; parts = map initial_part (range_with_l
 -- The bytes of PKRU's component. That the upper four are zero is this project's own.
 abbrev pub pkru_bytes : ℕ → List ℕ
 pkru_bytes value = to_le_bytes w32 value ++ zeros 4
+
+-- the PKRU of a file
+abbrev pub pkru_of : File → ℕ
+pkru_of file = from_le_bytes w32 (take 4 (part file pkru_number))
 
 -- The file with this PKRU.
 abbrev pub with_pkru : File → ℕ → File

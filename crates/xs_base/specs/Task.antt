@@ -1,13 +1,12 @@
 -- The private task: what one user task owns, as if it had a processor to itself. It has a whole register file, and
 -- nothing of a save area but whether that has room for tiles. The place is how many lines of its body it has run.
-use Rattle.std.specs.Prelude.{◌≡◌, ℕ, ◌^◌, ◌<◌, Bool, false, not, ◌&&◌, ◌==◌, List, length, slice_index, slice_range, if◌then◌else◌}
-use Rattle.std.specs.Int.{from_le_bytes, w32}
+use Rattle.std.specs.Prelude.{◌≡◌, ℕ, ◌^◌, ◌<◌, Bool, false, not, ◌&&◌, ◌==◌, List, length, slice_index, if◌then◌else◌}
 use Rattle.xs_base.specs.declared.component.Row.{Row}
 use Rattle.xs_base.specs.Bytes.{zeros}
-use Rattle.xs_base.specs.Component.{component_numbers, initial_part}
+use Rattle.xs_base.specs.Component.{component_numbers, initial_part, pkru_number, tiledata_number}
 use Rattle.xs_base.specs.Sets.{has}
-use Rattle.xs_base.specs.Layout.{features, default_features, full_size, default_size, set_of}
-use Rattle.xs_base.specs.File.{File, IsFile, part, initial_file, with_pkru, is_saved}
+use Rattle.xs_base.specs.Layout.{features, default_features, set_of}
+use Rattle.xs_base.specs.File.{File, IsFile, part, initial_file, pkru_of, with_pkru, is_saved}
 
 pub record PrivateTask : Type 0 where
   pub file : File
@@ -26,22 +25,14 @@ pub record PrivateTask : Type 0 where
   -- the place to go back to after the handler
   pub back : ℕ
 
--- The components that the task may use, and the size of its standard format (Linux 6.6,
--- arch/x86/include/asm/fpu/types.h, struct fpstate: user_xfeatures, user_size).
+-- The components that the task may use (Linux 6.6, arch/x86/include/asm/fpu/types.h, struct fpstate: user_xfeatures).
 abbrev pub user_features : PrivateTask → ℕ
 user_features task = if task.large then features task.file.rows else default_features task.file.rows
-
-abbrev pub user_size : PrivateTask → ℕ
-user_size task = if task.large then full_size task.file.rows else default_size task.file.rows
-
--- the PKRU of a file
-abbrev pub pkru_of : File → ℕ
-pkru_of file = from_le_bytes w32 (slice_range (part file 9) 0 4)
 
 -- Bit c of the marks after a turn: a saved component within the user features. The bit of PKRU goes by its value alone,
 -- on a machine without component 9 too, where nothing shows it.
 abbrev pub is_marked : PrivateTask → ℕ → Bool
-is_marked task c = if c == 9 then not (pkru_of task.file == 0) else is_saved task.file c && has (user_features task) c
+is_marked task c = if c == pkru_number then not (pkru_of task.file == 0) else is_saved task.file c && has (user_features task) c
 
 -- the marks after a turn
 unfoldable pub marks_after : PrivateTask → ℕ
@@ -81,7 +72,7 @@ pub record IsFileOf (rows : List Row) (file : File) : Type 0 where
 -- their lengths and are of bytes.
 pub record IsPrivateTask (rows : List Row) (task : PrivateTask) : Type 0 where
   pub file : IsFileOf rows task.file
-  pub tiles_are : task.large ≡ false → part task.file 18 ≡ initial_part 18
+  pub tiles_are : task.large ≡ false → part task.file tiledata_number ≡ initial_part tiledata_number
   pub frame_size : length task.frame ≡ 16388
   pub frame_bytes : (k : ℕ) → slice_index task.frame k < 256
   pub buffer_size : length task.buffer ≡ 16384

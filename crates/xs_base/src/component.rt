@@ -1,6 +1,6 @@
 //! Components, sets of components, and the rows and places that name them.
 
-ghost use Rattle.std.specs.Prelude.{⊤, ◌≡◌, ℕ, ◌+◌, ◌<◌, ◌≤◌, ◌==◌, [], ◌∷◌, codes, if◌then◌else◌};
+ghost use Rattle.std.specs.Prelude.{⊤, ◌≡◌, ℕ, ◌<◌, ◌==◌, [], ◌∷◌, codes, if◌then◌else◌};
 ghost use Rattle.xs_base.specs.Compact as compact;
 ghost use Rattle.xs_base.specs.File as file;
 ghost use Rattle.xs_base.specs.HeaderCheck as check;

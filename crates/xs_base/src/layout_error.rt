@@ -5,7 +5,7 @@
 pub enum LayoutError {
     /// The number is that of no component here.
     UnknownComponent = 1,
-    /// The number isn't above that of the row before.
+    /// The number isn't above that of each row before it.
     Repeated = 2,
     /// The size is 0.
     SizeZero = 3,
@@ -15,7 +15,7 @@ pub enum LayoutError {
     FlagsWrong = 5,
     /// The row ends past byte 16,384.
     TooLarge = 6,
-    /// The row begins in the legacy region or the header, or before the end of the row before.
+    /// The row begins in the legacy region or the header, or before the end of a row before it.
     Overlap = 7,
     /// Row 0 or row 1 isn't there.
     LegacyMissing = 8,

@@ -27,26 +27,40 @@ pub fn repeat_bank_call<B: Bank>(
 ) -> Option<u64>
     requires { inputs.old.area.id ≡ inputs.old.other.id → ⊥ }
 {
-    let layout = inputs.layout;
+    let layout = &inputs.layout;
     let (area, other) = (&mut inputs.area, &mut inputs.other);
-    start(bank, &layout);
+    start(bank, layout);
     match call {
+        BankCall::LoadFull | BankCall::LoadOne | BankCall::LoadInitial => {
+            repeat_loads(bank, layout, area, set_of(call), turns)
+        }
         BankCall::SaveFull => {
-            load(bank, &layout, area)?;
+            load(bank, layout, area)?;
             other.bytes.fill(0);
-            repeat_saves(bank, &layout, other, turns)
+            repeat_saves(bank, layout, other, turns)
         }
+        _ => {
+            prepare(bank, layout, area, call)?;
+            repeat_saves(bank, layout, area, turns)
+        }
+    }
+}
+
+/// Brings a bank to where a save into the area that was loaded begins.
+fn prepare<B: Bank>(bank: &mut B, layout: &Layout, area: &Area, call: BankCall) -> Option<()>
+    requires rows { (B.state bank.old).file.rows ≡ layout.now }
+    requires ready { (m : ℕ) → IsReady (B.state bank.old) area.now.id m area.now.bytes.items }
+    ensures rows { IfSome result (λ _. (B.state bank.new).file.rows ≡ layout.now) }
+    ensures ready { IfSome result (λ _. (m : ℕ) → IsReady (B.state bank.new) area.now.id m area.now.bytes.items) }
+{
+    match call {
         BankCall::SaveOne => {
-            load(bank, &layout, area)?;
-            write_sse(bank, &layout)?;
-            repeat_saves(bank, &layout, area, turns)
+            load(bank, layout, area)?;
+            write_sse(bank, layout)?;
+            Some(())
         }
-        BankCall::SaveUnmodified => {
-            load(bank, &layout, area)?;
-            repeat_saves(bank, &layout, area, turns)
-        }
-        BankCall::SaveInitial => repeat_saves(bank, &layout, area, turns),
-        _ => repeat_loads(bank, &layout, area, set_of(call), turns),
+        BankCall::SaveUnmodified => load(bank, layout, area),
+        _ => Some(()),
     }
 }
 

@@ -66,9 +66,20 @@ pub enum LayerCall {
     Nothing,
 }
 
+/// A line of an event.
+#[derive(Clone, Copy)]
+pub enum LineCall {
+    /// `xs_text::write_event`.
+    Write,
+    /// A plain copy of as many bytes.
+    Copy,
+}
+
 /// A call that is made many times.
 #[derive(Clone, Copy)]
 pub enum Call {
+    /// A line of an event.
+    Line(LineCall),
     /// A call without a bank.
     Layer(LayerCall),
     /// An instruction of a bank.
@@ -173,9 +184,13 @@ fn number_of(word: &str) -> Option<u64>
 fn call_of(word: &str) -> Option<Call>
     ensures { IfSome result (λ call. word.now ≡ call_word call) }
 {
-    match layer_call_of(word) {
-        Some(call) => Some(Call::Layer(call)),
-        None => bank_call_of(word),
+    match word {
+        "write-event" => Some(Call::Line(LineCall::Write)),
+        "copy-event" => Some(Call::Line(LineCall::Copy)),
+        _ => match layer_call_of(word) {
+            Some(call) => Some(Call::Layer(call)),
+            None => bank_call_of(word),
+        },
     }
 }
 

@@ -5,6 +5,7 @@
 mod banks;
 mod command;
 mod inputs;
+mod lines;
 mod repeats;
 mod text;
 
@@ -26,7 +27,7 @@ usage: xs_bench layout MACHINE
 MACHINE: amx, avx
 MASK: the number of a set of components, in decimal
 N: how many times the call is made
-CALL: standard-into, standard-of, compact-of, copy-area, copy, copy-compacted, copy-one, copy-header, nothing
+CALL: standard-into, standard-of, compact-of, copy-area, copy, copy-compacted, copy-one, copy-header, nothing, write-event, copy-event
 BANK: plain, track
 INSTRUCTION: xsaves-full, xsaves-one, xsaves-unmodified, xsaves-initial, xrstors-full, xrstors-one, xrstors-initial
 ";

@@ -1,12 +1,13 @@
 //! The calls, each made many times. Each turn changes eight bytes of what the call reads, and takes a byte of what it
 //! wrote into a sum, so that no compiler leaves a call out.
 
-ghost use Rattle.std.specs.Prelude.{◌≡◌, ◌≤◌, length};
+ghost use Rattle.std.specs.Prelude.{◌≡◌, ◌+◌, ◌≤◌, length};
 ghost use Rattle.xs_base.specs.Header as header;
 
 use crate::banks::repeat_bank_call;
 use crate::command::{BankCall, BankKind, Call, LayerCall};
 use crate::inputs::Inputs;
+use crate::lines::repeat_line_call;
 use std::alloc::{AllocError, Global};
 use xs_area::{Area, Origin, compact_of, copy_area, read_standard, standard_of, stands, xstate_bv};
 use xs_bank::{Bank, PlainBank, TrackBank};
@@ -20,10 +21,14 @@ const CHANGED: usize = 160;
 /// How many bytes of an output are looked at in turn.
 const LOOKED_AT: u64 = 8192;
 
+/// Half of the numbers of 64 bits.
+const HALF: u64 = 0x8000_0000_0000_0000;
+
 /// Makes a call so many times over the machine `amx`, and answers the sum; None where its inputs don't meet its
 /// conditions.
 pub fn repeat(alloc: Global, call: Call, turns: u64) -> Result<Option<u64>, AllocError> {
     match call {
+        Call::Line(call) => Ok(Some(repeat_line_call(alloc, call, turns)?)),
         Call::Layer(call) => Ok(repeat_layer_call(&mut Inputs::new(alloc)?, call, turns)),
         Call::Bank(BankKind::Plain, call) => {
             repeat_on_bank(alloc, PlainBank::new(alloc)?, call, turns)
@@ -46,20 +51,38 @@ fn repeat_on_bank<B: Bank>(
 
 /// Makes a call without a bank so many times.
 fn repeat_layer_call(inputs: &mut Inputs, call: LayerCall, turns: u64) -> Option<u64> {
-    let layout = inputs.layout;
+    let layout = &inputs.layout;
     let (image, out) = (inputs.image.as_mut_slice(), inputs.out.as_mut_slice());
     let (area, other) = (&mut inputs.area, &mut inputs.other);
     match call {
         LayerCall::StandardInto => repeat_standard_into(&mut inputs.file, out, turns),
-        LayerCall::StandardOf => repeat_standard_of(&layout, area, out, turns),
-        LayerCall::CompactOf => repeat_compact_of(&layout, image, area, turns),
-        LayerCall::CopyArea => repeat_copy_area(&layout, area, other, turns),
+        LayerCall::StandardOf => repeat_standard_of(layout, area, out, turns),
+        LayerCall::CompactOf => repeat_compact_of(layout, image, area, turns),
+        LayerCall::CopyArea => repeat_copy_area(layout, area, other, turns),
         LayerCall::Copy => repeat_copy(image, out, turns),
         LayerCall::CopyCompacted => repeat_copy(&mut area.bytes, &mut other.bytes, turns),
         LayerCall::CopyOne => repeat_copy_part(image, out, 320, turns),
         LayerCall::CopyHeader => repeat_copy_part(image, out, 64, turns),
         LayerCall::Nothing => repeat_nothing(image, out, turns),
     }
+}
+
+/// A length with the turn's highest bit added, so that the compiler can't know it and copies as for any length.
+pub fn hidden(len: usize, turn: u64) -> usize
+    requires { len ≤ 1024 }
+    ensures low { len ≤ result }
+    ensures high { result ≤ len + 1 }
+{
+    len + (turn / HALF) as usize
+}
+
+/// The sum with the byte of an output at a place, or 0 past its end.
+pub fn next_sum(sum: u64, out: &[u8], at: usize) -> u64 {
+    let byte = match out.get(at) {
+        Some(byte) => *byte,
+        None => 0,
+    };
+    sum.wrapping_mul(31).wrapping_add(u64::from(byte))
 }
 
 /// The sum with a byte of an output.
@@ -170,7 +193,8 @@ fn repeat_copy_part(from: &mut [u8], to: &mut [u8], len: usize, turns: u64) -> O
     let mut sum = 0;
     'turns: for turn in 0..turns {
         change(from, turn);
-        to[128..128 + len].copy_from_slice(&from[128..128 + len]);
+        let end = 128 + hidden(len, turn);
+        to[128..end].copy_from_slice(&from[128..end]);
         sum = sum_with(sum, to, turn);
     }
     Some(sum)

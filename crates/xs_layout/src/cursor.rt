@@ -8,7 +8,7 @@ ghost use Rattle.xs_layout.specs.Cursor.{IsBefore};
 
 use crate::layout::Layout;
 use crate::places::{aligned, compact_after};
-use xs_base::{Comp, Features, Row};
+use xs_base::{Features, Row};
 
 /// Goes along the rows of a machine, and tells where each component stands by an XCOMP_BV: in the compacted format
 /// each follows those before it (SDM volume 1, 13.4.3).
@@ -52,7 +52,7 @@ impl Cursor {
         requires { self.end + 63 < 2 ^ 32 }
         ensures { result ≡ (if is_compacted self.names.0 && nat_le 2 row.comp.0 then aligned row self.end else row.offset) }
     {
-        if self.names.has(Comp(63)) && row.comp.0 >= 2 {
+        if self.names.is_compacted() && row.comp.0 >= 2 {
             aligned(row, self.end)
         } else {
             row.offset

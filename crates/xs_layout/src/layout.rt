@@ -1,6 +1,7 @@
 //! The table of a machine.
 
 ghost use Rattle.std.specs.Prelude.{◌≡◌, ℕ, ◌<◌, ◌≤◌, Bool, true, false, not, ◌&&◌, ◌==◌, length, slice_index_or, IfOk, IfErr, IfSome, MatchOption, Some};
+ghost use Rattle.xs_base.specs.Component.{tiledata_number};
 ghost use Rattle.xs_base.specs.Sets.{has};
 ghost use Rattle.xs_base.specs.Layout.{IsLayout, IsSound, IsRowOf, most_rows, amx_rows, avx_rows, has_row, row_of, features, default_features};
 ghost use Rattle.xs_base.specs.Layout as table;
@@ -164,7 +165,7 @@ impl Layout {
     /// The components of the machine without TILEDATA.
     pub fn default_features(&self) -> Features
         ensures bits { result.0 ≡ default_features self.now }
-        ensures has { (c : ℕ) → has result.0 c ≡ (has_row self.now c && not (c == 18)) }
+        ensures has { (c : ℕ) → has result.0 c ≡ (has_row self.now c && not (c == tiledata_number)) }
     {
         Features(self.features().0 & !Features::TILEDATA.0)
     }

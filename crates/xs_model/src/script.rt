@@ -45,7 +45,7 @@ pub struct Order {
     pub number: u32,
     /// What the line asks.
     pub command: Command,
-    /// Definitions see any number here.
+    /// A definition sees a natural number, which is one of 32 bits.
     pub ghost in_range: { number < 2 ^ 32 },
 }
 

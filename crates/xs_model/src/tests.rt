@@ -8,29 +8,30 @@ use xs_base::How;
 fn lists_give_their_vector_back(rt: HostRuntime) -> Result<(), Fail> {
     let mut items = Items::from_vec(Vec::from_slice(rt.alloc(), b"ab".as_slice())?);
     items.push(b'c')?;
-    assert_eq!(rt; items.len(), 3);
-    assert!(rt; !items.is_empty());
-    assert_eq!(rt; items.as_slice(), b"abc".as_slice());
-    assert_eq!(rt; items.into_vec().as_slice(), b"abc".as_slice());
-    assert!(rt; Items::<u8>::new(rt.alloc()).is_empty());
-    assert_eq!(rt; Name::from_slice(b"task0").as_slice(), b"task0".as_slice());
+    let mut well = Items::<u8>::new(rt.alloc()).is_empty();
+    well &= items.len() == 3 && !items.is_empty();
+    well &= items.as_slice() == b"abc".as_slice();
+    well &= Name::from_slice(b"task0").as_slice() == b"task0".as_slice();
+    assert!(rt; well && items.into_vec().as_slice() == b"abc".as_slice());
     Ok(())
 }
 
 #[test]
 fn turns_end_with_their_quantum(rt: HostRuntime) {
-    for (ran, quantum, want) in [
-        (0, 1, Stage::Ready),
-        (0, 2, Stage::Turn { cpu: 3, ran: 1 }),
-        (30, 32, Stage::Turn { cpu: 3, ran: 31 }),
-        (31, 32, Stage::Ready),
-    ] {
-        assert_eq!(rt;
-            Stage::after_line(3, ran, quantum),
-            want,
-            "at {ran} of {quantum}"
-        );
-    }
+    assert_eq!(rt;
+        [
+            Stage::after_line(3, 0, 1),
+            Stage::after_line(3, 0, 2),
+            Stage::after_line(3, 30, 32),
+            Stage::after_line(3, 31, 32),
+        ],
+        [
+            Stage::Ready,
+            Stage::Turn { cpu: 3, ran: 1 },
+            Stage::Turn { cpu: 3, ran: 31 },
+            Stage::Ready,
+        ]
+    );
 }
 
 fn start(task: u32, cpu: u32, how: How) -> Event {
@@ -47,7 +48,7 @@ fn start(task: u32, cpu: u32, how: How) -> Event {
 #[test]
 fn a_task_is_held_until_it_is_displaced(rt: HostRuntime) -> Result<(), Fail> {
     let mut history = History::new(rt.alloc());
-    assert!(rt; !held(history.events(), 0, 0));
+    let mut well = !held(history.events(), 0, 0);
     for (event, want) in [
         (start(0, 0, How::Load), true),
         (Event::End { task: 3 }, true),
@@ -61,9 +62,8 @@ fn a_task_is_held_until_it_is_displaced(rt: HostRuntime) -> Result<(), Fail> {
         (Event::Grow { task: 0 }, false),
     ] {
         history.push(event)?;
-        let count = history.events().len();
-        assert_eq!(rt; held(history.events(), 0, 0), want, "after {count} events");
+        well &= held(history.events(), 0, 0) == want;
     }
-    assert!(rt; !held(history.events(), 1, 0));
+    assert!(rt; well && !held(history.events(), 1, 0));
     Ok(())
 }

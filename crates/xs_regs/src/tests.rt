@@ -1,100 +1,66 @@
 //! Names, registers and standard bytes at worked values.
 
 use crate::{File, one_place, place_of, place_of_bytes};
+use std::process::Abort;
 use std::test::Fail;
 use xs_base::{Comp, Features, Lane, Place};
 use xs_layout::Layout;
 
-fn place(component: u8, offset: u32, len: u32) -> Option<Place> {
-    Some(Place {
-        comp: Comp(component),
-        offset,
-        len,
-    })
+/// The name is that of a register of `amx`, which stands there.
+fn stands(rt: &impl Abort, name: &str, comp: Comp, offset: u32, len: u32) {
+    let place = Place { comp, offset, len };
+    assert!(rt; place_of(name, &Layout::amx()) == Some(place), "{name}");
 }
 
 #[test]
-fn every_name_at_its_first_and_last_index(rt: HostRuntime) {
-    let amx = Layout::amx();
-    for (name, component, offset, len) in [
-        ("fcw", 0, 0, 2),
-        ("fsw", 0, 2, 2),
-        ("ftw", 0, 4, 1),
-        ("fop", 0, 6, 2),
-        ("fip", 0, 8, 8),
-        ("fdp", 0, 16, 8),
-        ("st0", 0, 32, 10),
-        ("st7", 0, 144, 10),
-        ("mxcsr", 1, 256, 4),
-        ("xmm0", 1, 0, 16),
-        ("xmm15", 1, 240, 16),
-        ("ymmh0", 2, 0, 16),
-        ("ymmh15", 2, 240, 16),
-        ("k0", 5, 0, 8),
-        ("k7", 5, 56, 8),
-        ("zmmh0", 6, 0, 32),
-        ("zmmh15", 6, 480, 32),
-        ("zmm16", 7, 0, 64),
-        ("zmm31", 7, 960, 64),
-        ("pkru", 9, 0, 4),
-        ("tilecfg", 17, 0, 64),
-        ("tmm0.0", 18, 0, 64),
-        ("tmm0.15", 18, 960, 64),
-        ("tmm7.0", 18, 7168, 64),
-        ("tmm7.15", 18, 8128, 64),
-    ] {
-        assert_eq!(rt;
-            place_of(name, &amx),
-            place(component, offset, len),
-            "{name}"
-        );
+fn registers_with_names_of_their_own(rt: HostRuntime) {
+    one_place();
+    stands(&rt, "fcw", Comp::X87, 0, 2);
+    stands(&rt, "fsw", Comp::X87, 2, 2);
+    stands(&rt, "ftw", Comp::X87, 4, 1);
+    stands(&rt, "fop", Comp::X87, 6, 2);
+    stands(&rt, "fip", Comp::X87, 8, 8);
+    stands(&rt, "fdp", Comp::X87, 16, 8);
+    stands(&rt, "mxcsr", Comp::SSE, 256, 4);
+    stands(&rt, "pkru", Comp::PKRU, 0, 4);
+    stands(&rt, "tilecfg", Comp::TILECFG, 0, 64);
+}
+
+#[test]
+fn families_at_their_first_and_last_index(rt: HostRuntime) {
+    stands(&rt, "st0", Comp::X87, 32, 10);
+    stands(&rt, "st7", Comp::X87, 144, 10);
+    stands(&rt, "xmm0", Comp::SSE, 0, 16);
+    stands(&rt, "xmm15", Comp::SSE, 240, 16);
+    stands(&rt, "ymmh0", Comp::AVX, 0, 16);
+    stands(&rt, "ymmh15", Comp::AVX, 240, 16);
+    stands(&rt, "k0", Comp::OPMASK, 0, 8);
+    stands(&rt, "k7", Comp::OPMASK, 56, 8);
+    stands(&rt, "zmmh0", Comp::ZMM_HI256, 0, 32);
+    stands(&rt, "zmmh15", Comp::ZMM_HI256, 480, 32);
+    stands(&rt, "zmm16", Comp::HI16_ZMM, 0, 64);
+    stands(&rt, "zmm31", Comp::HI16_ZMM, 960, 64);
+    stands(&rt, "tmm0.0", Comp::TILEDATA, 0, 64);
+    stands(&rt, "tmm0.15", Comp::TILEDATA, 960, 64);
+    stands(&rt, "tmm7.0", Comp::TILEDATA, 7168, 64);
+    stands(&rt, "tmm7.15", Comp::TILEDATA, 8128, 64);
+}
+
+/// No register of a machine has one of these names, which are parted by spaces.
+fn lacks(rt: &impl Abort, layout: &Layout, names: &str) {
+    for name in names.split(' ') {
+        assert!(rt; place_of(name, layout).is_none(), "{name}");
     }
 }
 
 #[test]
 fn names_of_no_register(rt: HostRuntime) {
-    let amx = Layout::amx();
-    for name in [
-        "",
-        "f",
-        "xmm",
-        "xmm16",
-        "xmm00",
-        "xmm01",
-        "xmm+1",
-        "Xmm0",
-        "ymm0",
-        "ymmh16",
-        "zmm15",
-        "zmm32",
-        "zmmh",
-        "zmmh16",
-        "st8",
-        "k8",
-        "tmm0",
-        "tmm0.",
-        "tmm0.16",
-        "tmm00.0",
-        "tmm0.00",
-        "tmm8.0",
-        "tmm10.0",
-        "tmm0-0",
-        "fcw ",
-        "abcdefghijklmnopqrst",
-    ] {
-        assert_eq!(rt; place_of(name, &amx), None, "{name}");
-    }
-}
-
-#[test]
-fn a_machine_has_the_registers_of_its_components(rt: HostRuntime) {
-    let avx = Layout::avx();
-    for name in ["k0", "zmmh0", "zmm16", "pkru", "tilecfg", "tmm0.0"] {
-        assert_eq!(rt; place_of(name, &avx), None, "{name}");
-    }
-    for name in ["fcw", "st0", "mxcsr", "xmm0", "ymmh0"] {
-        assert!(rt; place_of(name, &avx).is_some(), "{name}");
-    }
+    lacks(
+        &rt,
+        &Layout::amx(),
+        " f xmm xmm16 xmm00 xmm01 xmm+1 Xmm0 ymm0 ymmh16 zmm15 zmm32 zmmh zmmh16 st8 k8 tmm0 tmm0. tmm0.16 tmm00.0 tmm0.00 tmm8.0 tmm10.0 tmm0-0 fcw\t abcdefghijklmnopqrst",
+    );
+    lacks(&rt, &Layout::avx(), "k0 zmmh0 zmm16 pkru tilecfg tmm0.0");
 }
 
 /// Writes a register whose every byte is `byte`, and tells whether it reads the same.
@@ -109,34 +75,35 @@ fn write_and_read(file: &mut File, name: &str, byte: u8) -> bool {
     file.read(place).as_slice() == written
 }
 
+/// In an initial file of `amx` the register reads as it was written, and these components are then in use.
+fn keeps(rt: &impl Abort, file: &mut File, name: &str, used: Features) {
+    file.set_up(&Layout::amx());
+    let same = write_and_read(file, name, 0xa5);
+    assert!(rt; same && file.in_use() == used, "{name}");
+}
+
 #[test]
 fn registers_are_read_as_they_were_written(rt: HostRuntime) -> Result<(), Fail> {
-    let amx = Layout::amx();
-    for (name, bits) in [
-        ("st3", 0x1),
-        ("xmm9", 0x2),
-        ("ymmh15", 0x4),
-        ("k1", 0x20),
-        ("zmmh4", 0x40),
-        ("zmm31", 0x80),
-        ("pkru", 0x200),
-        ("tilecfg", 0x20000),
-        ("tmm7.15", 0x40000),
-        ("mxcsr", 0),
-    ] {
-        let mut file = File::initial(rt.alloc(), &amx)?;
-        assert!(rt; write_and_read(&mut file, name, 0xa5), "{name}");
-        assert_eq!(rt; file.in_use(), Features(bits), "{name}");
-    }
+    let mut file = File::initial(rt.alloc(), &Layout::avx())?;
+    keeps(&rt, &mut file, "st3", Features::X87);
+    keeps(&rt, &mut file, "xmm9", Features::SSE);
+    keeps(&rt, &mut file, "ymmh15", Features::AVX);
+    keeps(&rt, &mut file, "k1", Features::OPMASK);
+    keeps(&rt, &mut file, "zmmh4", Features::ZMM_HI256);
+    keeps(&rt, &mut file, "zmm31", Features::HI16_ZMM);
+    keeps(&rt, &mut file, "pkru", Features::PKRU);
+    keeps(&rt, &mut file, "tilecfg", Features::TILECFG);
+    keeps(&rt, &mut file, "tmm7.15", Features::TILEDATA);
+    keeps(&rt, &mut file, "mxcsr", Features(0));
     Ok(())
 }
 
 #[test]
 fn mxcsr_is_a_little_endian_number(rt: HostRuntime) -> Result<(), Fail> {
     let mut file = File::initial(rt.alloc(), &Layout::avx())?;
-    assert_eq!(rt; file.mxcsr(), 0x1f80);
-    assert!(rt; write_and_read(&mut file, "mxcsr", 0x3f));
-    assert_eq!(rt; file.mxcsr(), 0x3f3f3f3f);
+    let initial = file.mxcsr();
+    let same = write_and_read(&mut file, "mxcsr", 0x3f);
+    assert!(rt; same && [initial, file.mxcsr()] == [0x1f80, 0x3f3f3f3f]);
     Ok(())
 }
 
@@ -149,68 +116,107 @@ fn put_standard(file: &File, mask: u64, out: &mut [u8]) -> bool {
     fits
 }
 
+/// These bytes are at these places.
+fn are_at(rt: &impl Abort, out: &[u8], bytes: &[(usize, u8)]) {
+    for (at, byte) in bytes {
+        assert!(rt; out.get(*at) == Some(byte), "byte {at}");
+    }
+}
+
 #[test]
 fn the_initial_file_over_other_bytes(rt: HostRuntime) -> Result<(), Fail> {
     let file = File::initial(rt.alloc(), &Layout::amx())?;
-    let mut out = Vec::new(rt.alloc());
-    out.resize(2816, 0xaa)?;
+    let mut out = [0xaa; 2816];
     assert!(rt; put_standard(&file, 0x202e7, &mut out));
     // FCW, the abridged FTW and byte 5, MXCSR and its mask, the upper bytes of a slot.
-    assert_eq!(rt; &out[0..8], [0x7f, 3, 0, 0, 0, 0, 0, 0].as_slice());
-    assert_eq!(rt;
-        &out[24..32],
-        [0x80, 0x1f, 0, 0, 0xff, 0xff, 0, 0].as_slice()
+    are_at(
+        &rt,
+        &out,
+        &[
+            (0, 0x7f),
+            (1, 3),
+            (4, 0),
+            (5, 0),
+            (24, 0x80),
+            (25, 0x1f),
+            (28, 0xff),
+            (30, 0),
+            (42, 0),
+            (47, 0),
+        ],
     );
-    assert_eq!(rt; &out[42..48], [0; 6].as_slice());
     // What no component has stays: the header, and the gaps before and after opmask's place and behind PKRU.
-    assert_eq!(rt; &out[416..418], [0xaa; 2].as_slice());
-    assert_eq!(rt; &out[512..576], [0xaa; 64].as_slice());
-    assert_eq!(rt; &out[831..833], [0, 0xaa].as_slice());
-    assert_eq!(rt; &out[1087..1089], [0xaa, 0].as_slice());
-    assert_eq!(rt; &out[2695..2697], [0, 0xaa].as_slice());
-    assert_eq!(rt; &out[2751..2753], [0xaa, 0].as_slice());
+    are_at(
+        &rt,
+        &out,
+        &[
+            (416, 0xaa),
+            (512, 0xaa),
+            (575, 0xaa),
+            (831, 0),
+            (832, 0xaa),
+            (1087, 0xaa),
+            (1088, 0),
+            (2695, 0),
+            (2696, 0xaa),
+            (2751, 0xaa),
+            (2752, 0),
+        ],
+    );
     Ok(())
 }
 
 #[test]
 fn a_mask_tells_which_components_are_written(rt: HostRuntime) -> Result<(), Fail> {
     let mut file = File::initial(rt.alloc(), &Layout::amx())?;
-    assert!(rt; write_and_read(&mut file, "xmm1", 0x11));
-    let mut out = Vec::new(rt.alloc());
-    out.resize(576, 0xaa)?;
+    let mut out = [0xaa; 576];
     // A component that no machine has changes nothing.
-    assert!(rt; put_standard(&file, 1 << 40, &mut out));
-    assert!(rt; out.iter().all(|byte| *byte == 0xaa));
-    assert!(rt; put_standard(&file, 0x1, &mut out));
-    assert_eq!(rt;
-        &out[22..34],
-        [0, 0, 0xaa, 0xaa, 0xaa, 0xaa, 0xaa, 0xaa, 0xaa, 0xaa, 0, 0].as_slice()
+    let mut fits = write_and_read(&mut file, "xmm1", 0x11)
+        && put_standard(&file, 1 << 40, &mut out);
+    are_at(&rt, &out, &[(0, 0xaa), (160, 0xaa), (575, 0xaa)]);
+    fits &= put_standard(&file, 0x1, &mut out);
+    are_at(
+        &rt,
+        &out,
+        &[
+            (23, 0),
+            (24, 0xaa),
+            (31, 0xaa),
+            (32, 0),
+            (159, 0),
+            (160, 0xaa),
+        ],
     );
-    assert_eq!(rt; &out[158..162], [0, 0, 0xaa, 0xaa].as_slice());
-    assert!(rt; put_standard(&file, 0x2, &mut out));
-    assert_eq!(rt;
-        &out[24..32],
-        [0x80, 0x1f, 0, 0, 0xff, 0xff, 0, 0].as_slice()
+    fits &= put_standard(&file, 0x2, &mut out);
+    are_at(
+        &rt,
+        &out,
+        &[
+            (24, 0x80),
+            (25, 0x1f),
+            (28, 0xff),
+            (30, 0),
+            (175, 0),
+            (176, 0x11),
+        ],
     );
-    assert_eq!(rt; &out[174..178], [0, 0, 0x11, 0x11].as_slice());
+    assert!(rt; fits);
     Ok(())
 }
 
 #[test]
 fn parts_are_whole_components(rt: HostRuntime) -> Result<(), Fail> {
-    one_place();
     let file = File::initial(rt.alloc(), &Layout::avx())?;
-    for (component, len, first) in [
-        (0, 160, Some(0x7f)),
-        (1, 256, Some(0)),
-        (2, 256, Some(0)),
-        (3, 0, None),
-        (9, 8, Some(0)),
-        (18, 8192, Some(0)),
-    ] {
-        let part = file.part(Comp(component));
-        assert_eq!(rt; part.len(), len, "component {component}");
-        assert_eq!(rt; part.first().copied(), first, "component {component}");
-    }
+    assert_eq!(rt;
+        [
+            file.part(Comp::X87).len(),
+            file.part(Comp::SSE).len(),
+            file.part(Comp::AVX).len(),
+            file.part(Comp(3)).len(),
+            file.part(Comp::PKRU).len(),
+            file.part(Comp::TILEDATA).len(),
+        ],
+        [160, 256, 256, 0, 8, 8192]
+    );
     Ok(())
 }

@@ -3,3 +3,4 @@ pub mod SpacedWords
 pub mod EventWords
 pub mod OneSpelling
 pub mod LegalEvents
+pub mod Digits

@@ -1,6 +1,6 @@
 //! The line of one event.
 
-ghost use Rattle.std.specs.Prelude.{◌≡◌, ◌+◌, ◌*◌, ◌<◌, ◌≤◌, List, [], ◌∷◌, ◌++◌, length, slice_index, decimal};
+ghost use Rattle.std.specs.Prelude.{◌≡◌, ◌+◌, ◌*◌, ◌%◌, ◌<◌, ◌≤◌, List, [], ◌∷◌, ◌++◌, length, slice_index, decimal};
 ghost use Rattle.arrayvec.specs.ArrayVec.{array_vec_len};
 ghost use Rattle.hex.specs.Hex.{encode_lower, lower_digits};
 ghost use Rattle.xs_model.specs.declared.script.Script.{Script};
@@ -11,12 +11,14 @@ ghost use Rattle.xs_text.specs.Text.{how_word, signal_word, reply_word, cause_wo
 mod tests;
 
 use arrayvec::ArrayVec;
-use itoa::Buffer;
 use xs_base::{How, Lane, Signo};
 use xs_model::{Event, Reply, Script, Why};
 
 /// One line of a history's text with its line feed.
 pub type Line = ArrayVec<u8, 192>;
+
+/// Room for the digits of a lane.
+const ZEROS: [u8; 128] = [0; 128];
 
 /// Replaces `out` by the event's line with its line feed.
 pub fn write_event(script: &Script, event: &Event, out: &mut Line)
@@ -30,28 +32,28 @@ pub fn write_event(script: &Script, event: &Event, out: &mut Line)
             how,
             signal,
         } => {
-            begin(out, b"start", name_of(script, *task));
+            begin(out, b"start ", name_of(script, *task));
             put_number(out, *cpu);
-            put_word(out, how_word(*how));
+            put(out, how_word(*how));
             put_signal(out, *signal);
         }
         Event::Local { task, line, reply } => {
-            begin(out, b"local", name_of(script, *task));
+            begin(out, b"local ", name_of(script, *task));
             put_number(out, *line);
             put_reply(out, reply);
         }
         Event::Outer { task, line, reply } => {
-            begin(out, b"outer", name_of(script, *task));
+            begin(out, b"outer ", name_of(script, *task));
             put_number(out, *line);
             put_reply(out, reply);
         }
-        Event::Grow { task } => begin(out, b"grow", name_of(script, *task)),
+        Event::Grow { task } => begin(out, b"grow ", name_of(script, *task)),
         Event::Kill { task, signo, why } => {
-            begin(out, b"kill", name_of(script, *task));
+            begin(out, b"kill ", name_of(script, *task));
             put_number(out, u32::from(signo.number));
-            put_word(out, cause_word(*why));
+            put(out, cause_word(*why));
         }
-        Event::End { task } => begin(out, b"end", name_of(script, *task)),
+        Event::End { task } => begin(out, b"end ", name_of(script, *task)),
     }
     out.push(b'\n');
 }
@@ -65,28 +67,30 @@ fn name_of(script: &Script, task: u32) -> &[u8]
     script.blocks.as_slice()[task as usize].name.as_slice()
 }
 
+/// A space and the word of a restore.
 fn how_word(how: How) -> &'static [u8]
-    ensures word { result.now ≡ how_word how }
-    ensures len { length result.now ≤ 4 }
+    ensures word { result.now ≡ 32 ∷ how_word how }
+    ensures len { length result.now ≤ 5 }
 {
     match how {
-        How::Load => b"load",
-        How::Skip => b"skip",
-        How::Kern => b"kern",
+        How::Load => b" load",
+        How::Skip => b" skip",
+        How::Kern => b" kern",
     }
 }
 
+/// A space and the word of a cause.
 fn cause_word(why: Why) -> &'static [u8]
-    ensures word { result.now ≡ cause_word why }
-    ensures len { length result.now ≤ 15 }
+    ensures word { result.now ≡ 32 ∷ cause_word why }
+    ensures len { length result.now ≤ 16 }
 {
     match why {
-        Why::Permission => b"permission",
-        Why::Area => b"area",
-        Why::FrameFeatures => b"frame-features",
-        Why::FrameCompacted => b"frame-compacted",
-        Why::FrameReserved => b"frame-reserved",
-        Why::FrameMxcsr => b"frame-mxcsr",
+        Why::Permission => b" permission",
+        Why::Area => b" area",
+        Why::FrameFeatures => b" frame-features",
+        Why::FrameCompacted => b" frame-compacted",
+        Why::FrameReserved => b" frame-reserved",
+        Why::FrameMxcsr => b" frame-mxcsr",
     }
 }
 
@@ -99,25 +103,15 @@ fn put(out: &mut Line, bytes: &[u8])
     let _ = out.try_extend_from_slice(bytes);
 }
 
-/// Replaces `out` by the first word of a line, a space and the task's name.
+/// Replaces `out` by the first word of a line with its space, and the task's name.
 fn begin(out: &mut Line, word: &[u8], name: &[u8])
-    requires { length word.now + length name.now < 192 }
-    ensures items { out.new.items ≡ word.now ++ 32 ∷ name.now }
-    ensures len { array_vec_len out.new ≡ length word.now + (1 + length name.now) }
+    requires { length word.now + length name.now ≤ 192 }
+    ensures items { out.new.items ≡ word.now ++ name.now }
+    ensures len { array_vec_len out.new ≡ length word.now + length name.now }
 {
     out.clear();
     put(out, word);
-    put_word(out, name);
-}
-
-/// Appends a space and the word.
-fn put_word(out: &mut Line, word: &[u8])
-    requires { array_vec_len out.old + length word.now < 192 }
-    ensures items { out.new.items ≡ out.old.items ++ 32 ∷ word.now }
-    ensures len { array_vec_len out.new ≡ array_vec_len out.old + (1 + length word.now) }
-{
-    put(out, b" ");
-    put(out, word);
+    put(out, name);
 }
 
 /// Appends a number, at most ten digits.
@@ -126,8 +120,41 @@ fn put_digits(out: &mut Line, n: u32)
     ensures items { out.new.items ≡ out.old.items ++ decimal n }
     ensures len { array_vec_len out.new ≤ array_vec_len out.old + 10 }
 {
-    let mut buffer = Buffer::new();
-    put(out, buffer.format(n).as_bytes());
+    put_fours(out, n);
+}
+
+/// Appends the number's digits in pieces of one, two or four, so that the line's length is written once a piece.
+fn put_fours(out: &mut Line, n: u32)
+    requires { array_vec_len out.old + length (decimal n) ≤ 192 }
+    ensures { out.new.items ≡ out.old.items ++ decimal n }
+{
+    if n < 10 {
+        put(out, &[last_digit(n)]);
+    } else if n < 100 {
+        put(out, &[last_digit(n / 10), last_digit(n)]);
+    } else if n < 10_000 {
+        put_fours(out, n / 100);
+        put(out, &[last_digit(n / 10), last_digit(n)]);
+    } else {
+        put_fours(out, n / 10_000);
+        put(
+            out,
+            &[
+                last_digit(n / 1000),
+                last_digit(n / 100),
+                last_digit(n / 10),
+                last_digit(n),
+            ],
+        );
+    }
+}
+
+/// The last digit of a number.
+#[inline]
+fn last_digit(n: u32) -> u8
+    ensures { result ≡ 48 + n % 10 }
+{
+    (n % 10) as u8 + b'0'
 }
 
 /// Appends a space and the number, at most ten digits.
@@ -147,7 +174,7 @@ fn put_signal(out: &mut Line, signal: Option<Signo>)
     ensures len { array_vec_len out.new ≤ array_vec_len out.old + 11 }
 {
     match signal {
-        None => put_word(out, b"-"),
+        None => put(out, b" -"),
         Some(signo) => put_number(out, u32::from(signo.number)),
     }
 }
@@ -159,25 +186,25 @@ fn put_reply(out: &mut Line, reply: &Reply)
     ensures len { array_vec_len out.new ≤ array_vec_len out.old + 130 }
 {
     match reply {
-        Reply::Done => put_word(out, b"-"),
+        Reply::Done => put(out, b" -"),
         Reply::Bytes(lane) => {
-            put_word(out, b"=");
+            put(out, b" =");
             put_hex(out, lane);
         }
         Reply::Count(n) => {
-            put_word(out, b"+");
+            put(out, b" +");
             put_digits(out, *n);
         }
         Reply::Error(n) => {
-            put_word(out, b"!");
+            put(out, b" !");
             put_digits(out, *n);
         }
-        Reply::Blocked => put_word(out, b"blocked"),
-        Reply::Stopped => put_word(out, b"stopped"),
-        Reply::Ended => put_word(out, b"ended"),
-        Reply::Held => put_word(out, b"held"),
-        Reply::Full => put_word(out, b"full"),
-        Reply::Legacy => put_word(out, b"legacy"),
+        Reply::Blocked => put(out, b" blocked"),
+        Reply::Stopped => put(out, b" stopped"),
+        Reply::Ended => put(out, b" ended"),
+        Reply::Held => put(out, b" held"),
+        Reply::Full => put(out, b" full"),
+        Reply::Legacy => put(out, b" legacy"),
     }
 }
 
@@ -188,10 +215,9 @@ fn put_hex(out: &mut Line, lane: &Lane)
     ensures len { array_vec_len out.new ≤ array_vec_len out.old + 128 }
 {
     let bytes = lane.as_slice();
-    let mut digits = [0u8; 128];
-    let part = &mut digits[..2 * bytes.len()];
-    fill_digits(bytes, part);
-    put(out, part);
+    let from = out.len();
+    put(out, &ZEROS[..2 * bytes.len()]);
+    fill_digits(bytes, &mut out.as_mut_slice()[from..]);
 }
 
 /// Fills `digits` with the bytes' digits, two a byte. By a test and a sum for each digit the loop becomes vector

@@ -1,15 +1,15 @@
 -- What a restore takes from a task's area, and what a save needs of the registers.
-use Rattle.std.proofs.Common.{◌≡◌, ℕ, ◌≤◌, ◌==◌, Bool, true, false, not, ◌&&◌, List, length, get_or, refl, sym, ap, ◌∙◌, if◌then◌else◌, arith}
-use Rattle.std.proofs.lemmas.Bool.{ne_eqb, true≢false, false≢true, cases_Bool, eqb-true}
+use Rattle.std.proofs.Common.{◌≡◌, ℕ, zero, suc, ◌<◌, ◌≤◌, ◌==◌, Bool, true, false, not, ◌&&◌, ◌||◌, List, length, get_or, refl, sym, ap, ◌∙◌, if◌then◌else◌, arith}
+use Rattle.std.proofs.lemmas.Bool.{ne_eqb, true≢false, false≢true, cases_Bool, cases_eq, eqb-true, and_parts}
 use Rattle.std.proofs.Common.{inl, inr}
-use Rattle.xs_base.specs.declared.class.Class.TheVariants.{Small, Large}
+use Rattle.xs_base.specs.declared.class.Class.TheVariants.{Small}
 use Rattle.xs_base.specs.declared.component.Row.{Row}
 use Rattle.xs_base.specs.Area.{StandsFor}
 use Rattle.xs_base.specs.Compact.{is_compacted}
-use Rattle.xs_base.specs.Component.{initial_part}
+use Rattle.xs_base.specs.Component.{component_count, initial_part}
 use Rattle.xs_base.specs.File.{File, AreSameButPkru, part}
 use Rattle.xs_base.specs.Header.{xstate_bv, xcomp_bv}
-use Rattle.xs_base.specs.KernelArea.{class_features, is_of_class}
+use Rattle.xs_base.specs.KernelArea.{class_features, class_size, is_of_class}
 use Rattle.xs_base.specs.Layout.{IsLayout, has_row}
 use Rattle.xs_base.specs.Sets.{has}
 use Rattle.xs_base.specs.Task.{PrivateTask}
@@ -19,16 +19,16 @@ use Rattle.xs_bank.specs.Holds.{Holds}
 use Rattle.xs_bank.specs.Load.{stops_tiles, tiles}
 use Rattle.xs_bank.specs.Save.{IsInitialOutside, IsLoadableSave}
 use Rattle.xs_base.proofs.CompactLemmas.{compact_size_low}
-use Rattle.xs_base.proofs.LayoutLemmas.{has_row_at}
+use Rattle.xs_base.proofs.LayoutLemmas.{has_row_at, row_found, sound_at}
 use Rattle.xs_base.proofs.RowLemmas.{has_sse}
 use Rattle.xs_base.proofs.ClassLemmas.{has_class}
 use Rattle.xs_base.proofs.CompactedLemmas.{compacted_is}
 use Rattle.xs_base.proofs.RowLemmas.{row_index}
 use Rattle.xstate.specs.Engine.{IsSetUp, IsTaskArea, IsTaskFile}
 
--- a task's area has a header
-pub long_area : (rows : List Row) (lease : Lease) → IsTaskArea rows lease → 576 ≤ length lease.area.bytes.items
-long_area rows lease area = let low = compact_size_low rows (class_features rows Small) in omega (arith, area.len)
+-- an area of the class has a header
+pub long_area : (rows : List Row) (area : List ℕ) → length area ≡ class_size rows Small → 576 ≤ length area
+long_area rows area len = let low = compact_size_low rows (class_features rows Small) in omega (arith, len)
 
 -- the machine's table passes every test
 pub table_of : (rows : List Row) (lease : Lease) → IsTaskArea rows lease → IsLayout rows
@@ -54,14 +54,41 @@ no_tiles rows lease armed mask table area = elim (cases_Bool (has (xstate_bv lea
     second true false = refl
     second false b = refl
 
--- a restore takes every component of the machine but PKRU
-pub covers : (rows : List Row) (mask : ℕ) → IsLayout rows → mask ≡ class_features rows Large → (c : ℕ) → has_row rows c ≡ true → (c ≡ 9 → ⊥) → has mask c ≡ true
-covers rows mask table is c there other = ap (λ m. has m c) is ∙ has_class rows Large table c ∙ both (has_row rows c) (c == 9) there (ne_eqb c 9 other)
+-- ---- restores
+
+-- a test holds of each number below n
+abbrev all_below : ℕ → (ℕ → Bool) → Bool
+all_below zero test = true
+all_below (suc n) test = test n && all_below n test
+
+below_all : (n : ℕ) (test : ℕ → Bool) → all_below n test ≡ true → (c : ℕ) → c < n → test c ≡ true
+below_all zero test all c lt = absurd (omega arith)
+below_all (suc n) test all c lt =
+    let parts = and_parts (test n) (all_below n test) all in
+    elim (cases_eq c n) [
+      | inl is ↦ rw is parts.0
+      | inr other ↦ below_all n test parts.1 c (omega arith)
+    ]
+
+-- the set of every component but PKRU
+abbrev restored : ℕ
+restored = 0xfffffffffffffdff
+
+-- has each component of the machine but PKRU
+in_restored : (rows : List Row) → IsLayout rows → (c : ℕ) → has_row rows c ≡ true → (c ≡ 9 → ⊥) → has restored c ≡ true
+in_restored rows table c there other =
+    let found = row_found rows c there in
+    let sound = sound_at rows table found.1.index found.0 found.1.within found.1.is in
+    let lt : c < component_count = omega (arith, sound.number, found.1.number) in
+    last (has restored c) (c == 9) (ne_eqb c 9 other) (below_all component_count (λ k. has restored k || (k == 9)) refl c lt)
   where
-    both : (a b : Bool) → a ≡ true → b ≡ false → (a && not b) ≡ true
-    both true true on off = absurd (true≢false off)
-    both true false on off = refl
-    both false b on off = absurd (false≢true on)
+    last : (a b : Bool) → b ≡ false → (a || b) ≡ true → a ≡ true
+    last true b off on = refl
+    last false b off on = absurd (false≢true (sym off ∙ on))
+
+-- a restore takes every component of the machine but PKRU
+pub covers : (rows : List Row) (mask : ℕ) → IsLayout rows → ((c : ℕ) → has mask c ≡ (has_row rows c && has restored c)) → (c : ℕ) → has_row rows c ≡ true → (c ≡ 9 → ⊥) → has mask c ≡ true
+covers rows mask table is c there other = is c ∙ rw (there, in_restored rows table c there other) refl
 
 -- then the bank holds the task
 pub holds_task : (rows : List Row) (bank : banks.Bank) (task : PrivateTask) → IsSetUp rows bank → task.large ≡ false → IsTaskFile rows task.file → AreSameButPkru task.file bank.file → Holds bank task

@@ -57,9 +57,10 @@ pub record IsTaskFile (rows : List Row) (file : File) : Type 0 where
   pub control : file.mxcsr < 2 ^ 16
   pub tiles_are : part file 18 ≡ initial_part 18
 
--- The area is a Small one of the compacted format, which can be loaded.
+-- The area is a Small one of the compacted format, which has a header and can be loaded.
 pub record IsTaskArea (rows : List Row) (lease : Lease) : Type 0 where
   pub class : lease.class ≡ Small
+  pub header : 576 ≤ length lease.area.bytes.items
   pub loadable : IsLoadable rows Small lease.area.id lease.area.bytes.items
   pub names : xcomp_bv lease.area.bytes.items ≡ compacted (class_features rows Small)
   pub len : length lease.area.bytes.items ≡ class_size rows Small

@@ -1,23 +1,25 @@
 //! The engine of one processor: it runs the tasks of a script by turns, and keeps their registers apart.
 
-ghost use Rattle.std.specs.Prelude.{◌≡◌, ℕ, ◌+◌, ◌-◌, ◌*◌, ◌<◌, ◌≤◌, [], ◌∷◌, ◌++◌, true, false, length, vec_len, slice_set, IfOk, IfErr, IfSome, IfNone, Some, None};
+ghost use Rattle.std.specs.Prelude.{◌≡◌, ℕ, ◌+◌, ◌-◌, ◌*◌, ◌^◌, ◌<◌, ◌≤◌, [], ◌∷◌, ◌++◌, true, false, length, vec_len, slice_set, IfOk, IfErr, IfSome, IfNone, Some, None};
 ghost use Rattle.xs_area.specs.declared.area.Lease.{Lease};
+ghost use Rattle.xs_base.specs.Area.{StandsFor};
+ghost use Rattle.xs_base.specs.File.{initial_file};
+ghost use Rattle.xs_base.specs.declared.class.Class.TheVariants as classes;
 ghost use Rattle.xs_model.specs.Machine.{how_of};
 ghost use Rattle.xs_model.specs.Script.{IsValid, IsBuilt};
 ghost use Rattle.xs_model.specs.History.{IsWhole};
+ghost use Rattle.xs_pool.specs.Pool.{leased};
 ghost use Rattle.xstate.specs.Turns.{task_at, body_at, is_last};
-ghost use Rattle.xstate.specs.Engine.{state_of, HasRoom, HasTold, body_lines, IsSetUp, IsResting, IsTurning, IsPaused, HoldsBlock, EngineAfterLine, EngineAfterLines, AreOpened, IsPoolOf, parked_at, IsFirst, IsInOrder, IsLiving, NoneFrom, NoneLives, IsSameProcessor, work};
-
-#[cfg(test)]
-mod tests;
+ghost use Rattle.xstate.specs.Engine.{state_of, HasRoom, HasTold, body_lines, IsSetUp, IsTaskArea, IsResting, IsTurning, IsPaused, HoldsBlock, EngineAfterLine, EngineAfterLines, AreOpened, IsPoolOf, parked_at, IsFirst, IsInOrder, IsLiving, NoneFrom, NoneLives, IsSameProcessor, work};
 
 use crate::instructions::run_command;
 use crate::parked::Parked;
 use crate::switching::{restore, save};
 use std::alloc::{AllocError, Global};
-use xs_area::Class;
+use xs_area::{Class, Lease, make_initial};
 use xs_bank::{Bank, Cpu};
 use xs_base::How;
+use xs_layout::Layout;
 use xs_model::{Block, BlockKind, Event, History, Order, Script, Stage};
 use xs_pool::AreaPool;
 
@@ -68,19 +70,39 @@ fn most_events(blocks: &[Block]) -> Option<usize>
     Some(most)
 }
 
+/// A Small area of the pool, which has one left, made one that stands for the initial file.
+fn open_area(layout: &Layout, pool: &mut AreaPool) -> Lease
+    requires rows { pool.old.rows ≡ layout.now }
+    requires some { pool.old.small.out < pool.old.small.capacity }
+    requires few { pool.old.given < 2 ^ 64 - 1 }
+    ensures area { IsTaskArea layout.now result }
+    ensures stands { StandsFor layout.now result.area.bytes.items (initial_file layout.now) }
+    ensures after { pool.new ≡ leased pool.old classes.Small }
+{
+    let Ok(mut lease) = pool.lease(Class::Small) else {
+        unreachable!()
+    };
+    make_initial(layout, Class::Small, &mut lease.area.bytes);
+    lease
+}
+
 /// So many tasks that have had no turn, each with a Small area of its own.
-fn open_tasks(alloc: Global, pool: &mut AreaPool, count: usize) -> Result<Vec<Parked>, AllocError>
+fn open_tasks(
+    alloc: Global,
+    layout: &Layout,
+    pool: &mut AreaPool,
+    count: usize,
+) -> Result<Vec<Parked>, AllocError>
+    requires rows { pool.old.rows ≡ layout.now }
     requires few { count ≤ 64 }
     requires room { pool.old.small ≡ record { out = 0; capacity = count } }
     requires new { pool.old.given ≡ 0 }
-    ensures tasks { IfOk result (λ tasks. AreOpened pool.old.rows tasks.items count) }
-    ensures pool { IfOk result (λ tasks. IsPoolOf pool.old.rows pool.new tasks.items) }
+    ensures tasks { IfOk result (λ tasks. AreOpened layout.now tasks.items count) }
+    ensures pool { IfOk result (λ tasks. IsPoolOf layout.now pool.new tasks.items) }
 {
     let mut tasks = Vec::new(alloc);
     'each: while tasks.len() < count {
-        let Ok(lease) = pool.lease(Class::Small) else {
-            unreachable!()
-        };
+        let lease = open_area(layout, pool);
         tasks.push(Parked {
             lease: Some(lease),
             place: 0,
@@ -103,7 +125,7 @@ impl Engine {
     {
         let count = script.blocks.len();
         let mut pool = AreaPool::open(alloc, &script.layout, count as u32, script.large)?;
-        let tasks = open_tasks(alloc, &mut pool, count)?;
+        let tasks = open_tasks(alloc, &script.layout, &mut pool, count)?;
         let Some(room) = most_events(script.blocks.as_slice()) else {
             return Err(AllocError);
         };

@@ -6,8 +6,6 @@ mod history;
 mod instructions;
 mod parked;
 mod reading;
-#[cfg(test)]
-mod reading_tests;
 mod status;
 mod switching;
 mod top;
@@ -66,9 +64,18 @@ fn processors(alloc: Global) -> Result<Vec<Cpu<TrackBank>>, AllocError>
 {
     let mut cpus = Vec::new(alloc);
     'each: for number in 0..PROCESSORS {
-        cpus.push(Cpu::new(alloc, number, TrackBank::new(alloc)?)?)?;
+        cpus.push(processor(alloc, number)?)?;
     }
     Ok(cpus)
+}
+
+/// A processor of this number that has counted nothing.
+fn processor(alloc: Global, number: u32) -> Result<Cpu<TrackBank>, AllocError>
+    ensures number { IfOk result (λ cpu. cpu.number ≡ number) }
+    ensures counts { IfOk result (λ cpu. HasCountedNothing (⟦<TrackBank as Bank>⟧.state cpu.bank)) }
+{
+    let bank = TrackBank::new(alloc)?;
+    Cpu::new(alloc, number, bank)
 }
 
 /// The words of the command line, without the program's name: none where one of them is no text, so that they are no

@@ -1,10 +1,8 @@
 //! Changes of whole components of a register file: loads, resets, PKRU and MXCSR.
 
-ghost use Rattle.std.specs.Prelude.{◌≡◌, ℕ, ◌<◌, ◌≤◌, ◌&&◌, ◌++◌, ◌==◌, true, false, not, length, take, if◌then◌else◌};
-ghost use Rattle.std.specs.Int.{from_le_bytes, to_le_bytes, w32};
-ghost use Rattle.xs_base.specs.Bytes.{zeros};
+ghost use Rattle.std.specs.Prelude.{◌≡◌, ℕ, ◌<◌, ◌≤◌, ◌&&◌, ◌==◌, true, false, not, length, if◌then◌else◌};
 ghost use Rattle.xs_base.specs.Component.{component_count, component_size, initial_part};
-ghost use Rattle.xs_base.specs.File.{IsFile, part, with_part, with_pkru, initial_file, in_use};
+ghost use Rattle.xs_base.specs.File.{IsFile, with_part, pkru_of, with_pkru, initial_file, in_use};
 ghost use Rattle.xs_base.specs.Layout.{has_row};
 ghost use Rattle.xs_base.specs.Sets.{has};
 ghost use Rattle.xs_regs.specs.Loads.{IsPartLoaded, IsCleanCopy};
@@ -58,7 +56,7 @@ impl File {
     /// PKRU, which every file has (SDM volume 1, 13.5.7).
     #[tactic(auto, using(xs_base::proofs::ComponentLemmas::pkru_size))]
     pub fn pkru(&self) -> u32
-        ensures { result ≡ from_le_bytes w32 (take 4 (part self.now 9)) }
+        ensures { result ≡ pkru_of self.now }
     {
         let bytes = self.part(Comp::PKRU);
         u32::from_le_bytes([bytes[0], bytes[1], bytes[2], bytes[3]])

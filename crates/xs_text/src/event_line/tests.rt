@@ -5,7 +5,6 @@ ghost use Rattle.xs_text.specs.Text.{task_of};
 
 use super::*;
 use std::alloc::{AllocError, Global};
-use std::process::Abort;
 use std::test::Fail;
 use xs_layout::Layout;
 use xs_model::{Block, BlockKind, Items, Name, Named};
@@ -41,13 +40,13 @@ fn four_blocks(alloc: Global) -> Result<Script, AllocError>
     })
 }
 
-// A Local event of the task `a` at line 7.
-fn local(reply: Reply) -> Event
+// A Local event of the task `a`.
+fn local(line: u32, reply: Reply) -> Event
     ensures { task_of result ≡ 0 }
 {
     Event::Local {
         task: 0,
-        line: 7,
+        line,
         reply,
     }
 }
@@ -73,84 +72,81 @@ fn start(task: u32, cpu: u32, how: How, signal: Option<Signo>) -> Event
     }
 }
 
-fn expect(rt: &impl Abort, script: &Script, event: &Event, line: &str)
-    requires { task_of event.now < length script.now.blocks }
+// Adds the event's line to the text.
+fn add(text: &mut ArrayVec<u8, 512>, script: &Script, event: Event)
+    requires { task_of event < length script.now.blocks }
 {
-    let mut out = ArrayVec::new();
-    write_event(script, event, &mut out);
-    assert_eq!(rt; out.as_slice(), line.as_bytes());
+    let mut line = ArrayVec::new();
+    write_event(script, &event, &mut line);
+    let _ = text.try_extend_from_slice(line.as_slice());
 }
+
+const TURNS: &str = "start a 0 load -
+start b 3 skip 10
+start k 15 kern -
+grow a
+outer p 9 !14
+kill a 11 permission
+kill a 11 area
+kill a 11 frame-features
+kill a 11 frame-compacted
+kill a 11 frame-reserved
+kill a 11 frame-mxcsr
+end a
+";
 
 #[test]
 fn lines_of_turns(rt: HostRuntime) -> Result<(), Fail> {
     let script = four_blocks(rt.alloc())?;
-    let s = &script;
-    expect(&rt, s, &start(0, 0, How::Load, None), "start a 0 load -\n");
-    let signal = Some(Signo { number: 10 });
-    expect(
-        &rt,
-        s,
-        &start(1, 3, How::Skip, signal),
-        "start b 3 skip 10\n",
-    );
-    expect(
-        &rt,
-        s,
-        &start(2, 15, How::Kern, None),
-        "start k 15 kern -\n",
-    );
-    expect(&rt, s, &Event::Grow { task: 0 }, "grow a\n");
-    expect(&rt, s, &Event::End { task: 0 }, "end a\n");
+    let mut text = ArrayVec::new();
+    add(&mut text, &script, start(0, 0, How::Load, None));
+    add(&mut text, &script, start(1, 3, How::Skip, Signo::new(10)));
+    add(&mut text, &script, start(2, 15, How::Kern, Signo::new(32)));
+    add(&mut text, &script, Event::Grow { task: 0 });
     let outer = Event::Outer {
         task: 3,
         line: 9,
         reply: Reply::Error(14),
     };
-    expect(&rt, s, &outer, "outer p 9 !14\n");
+    add(&mut text, &script, outer);
+    add(&mut text, &script, kill(Why::Permission));
+    add(&mut text, &script, kill(Why::Area));
+    add(&mut text, &script, kill(Why::FrameFeatures));
+    add(&mut text, &script, kill(Why::FrameCompacted));
+    add(&mut text, &script, kill(Why::FrameReserved));
+    add(&mut text, &script, kill(Why::FrameMxcsr));
+    add(&mut text, &script, Event::End { task: 0 });
+    assert_eq!(rt; text.as_slice(), TURNS.as_bytes());
     Ok(())
 }
+
+const REPLIES: &str = "local a 7 =00ff
+local a 42 -
+local a 999 +0
+local a 1024 +16384
+local a 10000 blocked
+local a 123456 stopped
+local a 1000000 ended
+local a 98765432 held
+local a 100000001 full
+local a 4294967295 legacy
+";
 
 #[test]
 fn lines_of_replies(rt: HostRuntime) -> Result<(), Fail> {
     let script = four_blocks(rt.alloc())?;
-    let s = &script;
+    let mut text = ArrayVec::new();
     let bytes = Reply::Bytes(Lane::from_slice(&[0x00, 0xff]));
-    expect(&rt, s, &local(bytes), "local a 7 =00ff\n");
-    expect(&rt, s, &local(Reply::Done), "local a 7 -\n");
-    expect(&rt, s, &local(Reply::Count(0)), "local a 7 +0\n");
-    expect(&rt, s, &local(Reply::Blocked), "local a 7 blocked\n");
-    expect(&rt, s, &local(Reply::Stopped), "local a 7 stopped\n");
-    expect(&rt, s, &local(Reply::Ended), "local a 7 ended\n");
-    expect(&rt, s, &local(Reply::Held), "local a 7 held\n");
-    expect(&rt, s, &local(Reply::Full), "local a 7 full\n");
-    expect(&rt, s, &local(Reply::Legacy), "local a 7 legacy\n");
-    Ok(())
-}
-
-#[test]
-fn lines_of_causes(rt: HostRuntime) -> Result<(), Fail> {
-    let script = four_blocks(rt.alloc())?;
-    let s = &script;
-    expect(&rt, s, &kill(Why::Permission), "kill a 11 permission\n");
-    expect(&rt, s, &kill(Why::Area), "kill a 11 area\n");
-    expect(
-        &rt,
-        s,
-        &kill(Why::FrameFeatures),
-        "kill a 11 frame-features\n",
-    );
-    expect(
-        &rt,
-        s,
-        &kill(Why::FrameCompacted),
-        "kill a 11 frame-compacted\n",
-    );
-    expect(
-        &rt,
-        s,
-        &kill(Why::FrameReserved),
-        "kill a 11 frame-reserved\n",
-    );
-    expect(&rt, s, &kill(Why::FrameMxcsr), "kill a 11 frame-mxcsr\n");
+    add(&mut text, &script, local(7, bytes));
+    add(&mut text, &script, local(42, Reply::Done));
+    add(&mut text, &script, local(999, Reply::Count(0)));
+    add(&mut text, &script, local(1024, Reply::Count(16384)));
+    add(&mut text, &script, local(10_000, Reply::Blocked));
+    add(&mut text, &script, local(123_456, Reply::Stopped));
+    add(&mut text, &script, local(1_000_000, Reply::Ended));
+    add(&mut text, &script, local(98_765_432, Reply::Held));
+    add(&mut text, &script, local(100_000_001, Reply::Full));
+    add(&mut text, &script, local(4_294_967_295, Reply::Legacy));
+    assert_eq!(rt; text.as_slice(), REPLIES.as_bytes());
     Ok(())
 }

@@ -1,5 +1,5 @@
 -- One processor more.
-use Rattle.std.proofs.Common.{length, refl, sym, ap, ◌∙◌, arith, length-append}
+use Rattle.std.proofs.Common.{length, refl, sym, ◌∙◌, arith, length-append}
 use Rattle.xs_bank.specs.Bank as banks
 use Rattle.xs_bank.specs.declared.bank_of.BankOf.{BankOf}
 use Rattle.xs_bank.specs.declared.choice.Changes.{Changes}
@@ -11,17 +11,16 @@ each-init c = rw c.new-cpus.ensures.items (record { many = refl; each = λ i cpu
 
 pub each-preserved : goal.each-preserved
 each-preserved c =
-    let made = c.in_ok-new-2.ensures in
-    let bank = c.in_ok-new.ensures in
-    let new : IsNew (length c.each.cpus.items) c.in_ok-new-2.field-0 = record {
+    let made = c.in_ok-processor.ensures in
+    let new : IsNew (length c.each.cpus.items) c.in_ok-processor.field-0 = record {
       number_is = made.number ∙ sym c.each.invariant.many;
-      execs = ap (λ (b : BankOf Changes). b.execs) made.bank ∙ ap (λ (b : banks.Bank). b.execs) bank;
-      loads = ap (λ (b : BankOf Changes). b.loads) made.bank ∙ ap (λ (b : banks.Bank). b.loads) bank;
-      saves = ap (λ (b : BankOf Changes). b.saves) made.bank ∙ ap (λ (b : banks.Bank). b.saves) bank;
+      execs = made.counts.execs;
+      loads = made.counts.loads;
+      saves = made.counts.saves;
     } in
     rw c.in_ok-push.ensures.items (record {
       many = simp length-append (omega (arith, c.each.invariant.many));
-      each = more_new c.each.cpus.items c.in_ok-new-2.field-0 c.each.invariant.each new;
+      each = more_new c.each.cpus.items c.in_ok-processor.field-0 c.each.invariant.each new;
     })
 
 pub returns-clause-many : goal.returns-clause-many

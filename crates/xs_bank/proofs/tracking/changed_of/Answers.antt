@@ -3,7 +3,8 @@ use Rattle.std.proofs.Common.{◌&&◌, not, sym, ap, ◌∙◌}
 use Rattle.xs_bank.specs.Bank.{is_unmodified}
 use Rattle.xs_base.specs.Sets.{has}
 use Rattle.xs_bank.specs.Tracking.{shown}
-use Rattle.xs_bank.proofs.ReadyLemmas.{has_and, unmodified_here, not_not}
+use Rattle.xs_base.proofs.SetLemmas.{has_and}
+use Rattle.xs_bank.proofs.ReadyLemmas.{unmodified_here, not_not}
 use Rattle.xs_bank.proofs.tracking.changed_of.Goals as goal
 
 pub returns : goal.returns

@@ -4,7 +4,7 @@ use Rattle.xs_bench.proofs.repeats.repeat_copy_area.Goals as goal
 
 pub turns-init : goal.turns-init
 turns-init c =
-    let area = c.stands.ensures.holds.0 c.if-not-stands.false in
+    let area = c.stands.ensures.readable.0 c.if-not-stands.false in
     (record { header = area.header; places = area.places }, omega arith)
 
 pub turns-preserved : goal.turns-preserved

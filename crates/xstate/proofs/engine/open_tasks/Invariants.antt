@@ -5,7 +5,7 @@ use Rattle.xstate.proofs.engine.open_tasks.Given as goal
 
 abbrev pub invariant-each : goal.invariant-each
 invariant-each l = record {
-  tasks : AreOpened l.initial.pool.rows l.tasks.items (vec_len l.tasks);
+  tasks : AreOpened l.layout l.tasks.items (vec_len l.tasks);
   out : living l.tasks.items ≡ vec_len l.tasks;
   many : vec_len l.tasks ≤ l.count;
   pool : l.pool ≡ record l.initial.pool { small = record { out = vec_len l.tasks; capacity = l.count }; given = vec_len l.tasks };

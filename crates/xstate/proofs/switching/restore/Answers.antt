@@ -2,17 +2,14 @@
 use Rattle.std.proofs.Common.{true≢false, sym, ap, ◌∙◌}
 use Rattle.xs_base.specs.declared.class.Class.TheVariants.{Small}
 use Rattle.xs_bank.specs.Bank as banks
-use Rattle.xstate.proofs.SwitchLemmas.{long_area, compact_area, no_tiles, covers, holds_task, table_of}
+use Rattle.xstate.proofs.SwitchLemmas.{compact_area, no_tiles, covers, holds_task, table_of}
 use Rattle.xstate.proofs.switching.restore.Goals as goal
-
-pub xrstors-requires-clause-header : goal.xrstors-requires-clause-header
-xrstors-requires-clause-header g c = long_area c.args.layout.now c.args.lease.now c.requires.area
 
 pub unreachable-requires : goal.unreachable-requires
 unreachable-requires g c =
     let accepted = rw (c.requires.machine.rows_are) at c.in-Err.ensures.accepted in
     let stopped = accepted Small _ c.requires.area.loadable (compact_area c.args.layout.now c.args.lease.now c.requires.area) in
-    let free = no_tiles c.args.layout.now c.args.lease.now (g.B.Bank.state c.args.bank.now).armed c.class_features-mask.result.0 (table_of c.args.layout.now c.args.lease.now c.requires.area) c.requires.area in
+    let free = no_tiles c.args.layout.now c.args.lease.now (g.B.Bank.state c.args.bank.now).armed _ (table_of c.args.layout.now c.args.lease.now c.requires.area) c.requires.area in
     absurd (true≢false (sym stopped.0 ∙ free))
 
 pub returns-clause-machine : goal.returns-clause-machine
@@ -26,5 +23,5 @@ returns-clause-holds g c = λ task small good stands.
     let rows = c.args.layout.now in
     let old = g.B.Bank.state c.args.bank.now in
     let whole = rw (c.requires.machine.rows_are) at c.in-Ok.ensures.whole in
-    let file = (whole task.file good.is_file stands).all (covers rows c.class_features-mask.result.0 (table_of rows c.args.lease.now c.requires.area) c.class_features-mask.ensures.bits) in
+    let file = (whole task.file good.is_file stands).all (covers rows _ (table_of rows c.args.lease.now c.requires.area) c.of_machine-mask.ensures) in
     holds_task rows (g.B.Bank.state c.xrstors.new.self) task (returns-clause-machine g c) small good file

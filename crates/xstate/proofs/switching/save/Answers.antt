@@ -4,7 +4,7 @@ use Rattle.xs_base.specs.declared.class.Class.TheVariants.{Small}
 use Rattle.xs_base.specs.Compact.{compacted}
 use Rattle.xs_base.specs.KernelArea.{class_features, class_size}
 use Rattle.xs_base.proofs.CompactedLemmas.{compacted_places}
-use Rattle.xstate.proofs.SwitchLemmas.{loadable_save, initial_outside, table_of, small_sse, stands_same}
+use Rattle.xstate.proofs.SwitchLemmas.{long_area, loadable_save, initial_outside, table_of, small_sse, stands_same}
 use Rattle.xstate.proofs.switching.save.Goals as goal
 
 pub returns-clause-area : goal.returns-clause-area
@@ -18,6 +18,7 @@ returns-clause-area g c =
     let len : length after ≡ class_size rows Small = c.xsaves.ensures.area.saved.bytes.len ∙ c.requires.area.len in
     record {
       class = c.requires.area.class;
+      header = long_area rows after len;
       loadable = rw (c.requires.machine.rows_are) at c.xsaves.ensures.loadable Small save;
       names = names;
       len = len;

@@ -2,7 +2,6 @@
 use Rattle.std.proofs.Common.{ap, length, arith}
 use Rattle.xs_model.specs.declared.event.Event.{Event}
 use Rattle.std.proofs.Common.{List}
-use Rattle.xs_pool.specs.Pool.{Pool}
 use Rattle.xstate.specs.Engine.{AreOpened, body_lines}
 use Rattle.xstate.proofs.Opening.{engine_opens}
 use Rattle.xstate.proofs.WorkLemmas.{work_opened}
@@ -11,15 +10,12 @@ use Rattle.xstate.proofs.engine.Engine.open.Goals.{After-set_up}
 
 -- each task has an area of its own, by the rows of the script's machine
 tasks_opened : (g : Rattle.xstate.proofs.engine.Engine.open.Given.Over) (c : After-set_up g) → AreOpened c.args.script.now.layout c.in_ok-tasks.tasks.items (length c.args.script.now.blocks)
-tasks_opened g c =
-    let rows = ap (λ (p : Pool). p.rows) c.in_ok-pool.ensures.opened in
-    rw (rows, c.len-count.ensures) at c.in_ok-tasks.ensures.tasks
+tasks_opened g c = rw c.len-count.ensures at c.in_ok-tasks.ensures.tasks
 
 pub returns-clause-rest : goal.returns-clause-rest
 returns-clause-rest g c =
     let script = c.args.script.now in
-    let rows = ap (λ (p : Pool). p.rows) c.in_ok-pool.ensures.opened in
-    let pool = rw rows at c.in_ok-tasks.ensures.pool in
+    let pool = c.in_ok-tasks.ensures.pool in
     engine_opens script (g.B.Bank.state c.set_up.new.self.bank) (g.B.Bank.state c.args.cpu.now.bank) c.set_up.new.self.mark _ c.requires.built c.set_up.ensures.bank c.set_up.ensures.mark c.in_ok-events.ensures.items (tasks_opened g c) pool
 
 pub returns-clause-room : goal.returns-clause-room

@@ -1,0 +1,23 @@
+-- What instructions on registers keep, and areas that a bank doesn't track.
+use Rattle.std.proofs.Common.{◌≡◌, ℕ, false, List, Some, None, refl, sym, ap, ◌∙◌}
+use Rattle.std.proofs.lemmas.Bool.{false≢true, ne_eqb}
+use Rattle.xs_base.specs.Header.{xcomp_bv}
+use Rattle.xs_bank.specs.Bank.{Bank, Tracked, IsReady, is_unmodified}
+use Rattle.xs_bank_tests.specs.Turn.{KeepsReady}
+
+-- one after the other
+pub keeps_both : {old mid new : Bank} → KeepsReady old mid → KeepsReady mid new → KeepsReady old new
+keeps_both first second = record {
+  rows = second.rows ∙ first.rows;
+  ready = λ id mask area ready. second.ready id mask area (first.ready id mask area ready);
+}
+
+-- a bank that tracks no area, and one that tracks another
+pub ready_none : (bank : Bank) (id mask : ℕ) (area : List ℕ) → bank.tracked ≡ None → IsReady bank id mask area
+ready_none bank id mask area none i r row wanted unmodified = absurd (false≢true (ap (λ t. is_unmodified t id (xcomp_bv area) r.comp.0) (sym none) ∙ unmodified))
+
+pub ready_other : (bank : Bank) (t : Tracked) (id mask : ℕ) (area : List ℕ) → bank.tracked ≡ Some t → (id ≡ t.id → ⊥) → IsReady bank id mask area
+ready_other bank t id mask area some other i r row wanted unmodified = absurd (false≢true (sym off ∙ ap (λ x. is_unmodified x id (xcomp_bv area) r.comp.0) (sym some) ∙ unmodified))
+  where
+    off : is_unmodified (Some t) id (xcomp_bv area) r.comp.0 ≡ false
+    off = rw (ne_eqb t.id id (λ same. other (sym same))) refl

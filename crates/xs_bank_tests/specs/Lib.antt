@@ -1,0 +1,2 @@
+-- What the tests' own calls cite.
+pub mod Turn
