@@ -4,6 +4,7 @@
 #![tactic(auto)]
 
 mod body;
+mod built;
 mod commands;
 mod front;
 mod head;
