@@ -173,10 +173,10 @@ fn image_of(layout: &Layout, area: &Area, tools: &mut Tools) -> Option<u64> {
         layout.features(),
         &mut tools.buffer.bytes,
     );
-    match (loaded, saved) {
-        (Ok(()), Ok(())) => Some(digest(&tools.buffer.bytes)),
-        _ => None,
+    if loaded.is_err() || saved.is_err() {
+        return None;
     }
+    Some(digest(&tools.buffer.bytes))
 }
 
 /// Loads every component that the area has room for.
