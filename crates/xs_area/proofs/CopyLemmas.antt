@@ -43,9 +43,6 @@ module _ (rows : List Row) (table : IsLayout rows) (from : List ℕ) (names copi
   pub copied_written : (new : List ℕ) (p q : ℕ) → ((c : ℕ) → has copied c ≡ true → has_room rows old c ≡ true) → has copied r.comp.0 ≡ true → p ≡ place rows names r → q ≡ place rows (xcomp_bv old) r → IsWritten q r.size (λ k. if is_own r.comp.0 k then get_or from (p + k) 0 else 0) out new → AreCopied rows from names copied (i + 1) old new
   copied_written new p q room bit p_place q_place written = record { len = written.len ∙ at.len; each = each; others = others }
     where
-      x : ℕ
-      x = xcomp_bv old
-
       sound : IsSound r
       sound = sound_at rows table i r lt is
 

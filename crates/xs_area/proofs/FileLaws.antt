@@ -11,7 +11,7 @@ use Rattle.xs_base.specs.declared.component.Row.{Row}
 use Rattle.xs_base.specs.declared.header.Parts.{Parts}
 use Rattle.xs_base.specs.Area.{IsOfParts, IsCut, has_room, has_control_room}
 use Rattle.xs_base.specs.Component.{component_count, component_size, initial_part, initial_mxcsr}
-use Rattle.xs_base.specs.File.{File, IsFile, part, with_pkru, is_own}
+use Rattle.xs_base.specs.File.{File, IsFile, part, pkru_bytes, with_pkru, is_own}
 use Rattle.xs_base.specs.Layout.{IsLayout, has_row, row_of}
 use Rattle.xs_base.specs.Sets.{has}
 use Rattle.xs_base.proofs.AreaLemmas.{loaded_part}
@@ -19,7 +19,6 @@ use Rattle.xs_base.proofs.ComponentLemmas.{length_initial, pkru_size}
 use Rattle.xs_base.proofs.FileLemmas.{initial_clean}
 use Rattle.xs_base.proofs.LayoutLemmas.{sound_at, has_row_at}
 use Rattle.xs_base.proofs.RowLemmas.{row_of_at, row_found, row_of_tells}
-use Rattle.xs_area.specs.Stored.{pkru_bytes}
 use Rattle.xs_area.proofs.StoredLemmas.{pkru_byte, pkru_eight}
 
 -- ---- a file by its parts
@@ -134,7 +133,6 @@ image_is_part rows bytes parts base h are c lt = elim (cases_eq c 9) [
 
 -- a file with the PKRU that it has
 with_own_pkru : (file : File) (pkru : ℕ) → part file 9 ≡ pkru_bytes pkru → with_pkru file pkru ≡ file
-unfolding pkru_bytes
 with_own_pkru file pkru own = ap (λ (ps : List (List ℕ)). record file { parts = ps }) (ap (slice_set file.parts 9) (sym own) ∙ set-get_or file.parts 9 [])
 
 -- The parts of an image are those of a file over any base.

@@ -13,11 +13,11 @@ use Rattle.xs_base.specs.Sets.{has}
 use Rattle.xs_base.specs.Bytes.{zeros}
 use Rattle.xs_base.specs.Component.{component_size, initial_part}
 use Rattle.xs_base.specs.Compact.{place}
-use Rattle.xs_base.specs.File.{File, IsFile, part, with_pkru, is_own}
+use Rattle.xs_base.specs.File.{File, IsFile, part, pkru_bytes, with_pkru, is_own}
 use Rattle.xs_base.specs.Header.{xstate_bv, xcomp_bv}
 use Rattle.xs_base.specs.Layout.{IsLayout, IsSound}
 use Rattle.xs_base.specs.Standard.{IsWritten, component_byte, saved_byte}
-use Rattle.xs_area.specs.Stored.{stored_byte, pkru_bytes}
+use Rattle.xs_area.specs.Stored.{stored_byte}
 use Rattle.xs_base.proofs.LayoutLemmas.{sound_at}
 use Rattle.xs_base.proofs.ComponentLemmas.{zero_at, length_zeros, pkru_size}
 use Rattle.xs_base.proofs.StandardLemmas.{written_as, component_written, component_skip, component_all}
@@ -26,7 +26,6 @@ use Rattle.xs_base.proofs.StandardLemmas.{written_as, component_written, compone
 
 -- component 9 is the number's bytes
 pub pkru_part : (file : File) (pkru : ℕ) → IsFile file → part (with_pkru file pkru) 9 ≡ pkru_bytes pkru
-unfolding pkru_bytes
 pkru_part file pkru h = get_or-set_same file.parts 9 (to_le_bytes w32 pkru ++ zeros 4) _ (omega (arith, h.count))
 
 -- every other component is as before
@@ -37,7 +36,6 @@ other_part file pkru c other = get_or-set_other file.parts 9 c (to_le_bytes w32 
 
 -- behind the four bytes of PKRU there is zero
 pub pkru_byte : (pkru k : ℕ) → (if is_own 9 k then get_or (pkru_bytes pkru) k 0 else 0) ≡ get_or (pkru_bytes pkru) k 0
-unfolding pkru_bytes
 pkru_byte pkru k = elim (cases_lt k 4) [
   | inl low ↦ let own : is_own 9 k ≡ true = grind (arith, nat_tests) in rw own refl
   | inr high ↦
@@ -46,7 +44,6 @@ pkru_byte pkru k = elim (cases_lt k 4) [
 ]
 
 pub pkru_eight : (pkru : ℕ) → length (pkru_bytes pkru) ≡ 8
-unfolding pkru_bytes
 pkru_eight pkru = length-append (to_le_bytes w32 pkru) (zeros 4) ∙ ap (λ n. 4 + n) (length_zeros 4)
 
 -- of a component whose bit is 1

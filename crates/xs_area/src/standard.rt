@@ -11,7 +11,8 @@ ghost use Rattle.xs_area.specs.Stored as stored;
 
 use crate::area::{Area, mxcsr, xcomp_bv, xstate_bv};
 use xs_base::{
-    Comp, Features, INITIAL_MXCSR, Row, put_component, put_control, put_initial_component,
+    Comp, Features, INITIAL_MXCSR, Row, pkru_bytes, put_component, put_control,
+    put_initial_component,
 };
 use xs_layout::{Cursor, Layout};
 
@@ -67,15 +68,6 @@ fn put_stored(area: &[u8], at: usize, bits: Features, pkru: u32, row: Row, out: 
     } else {
         put_initial_component(out, to, row.comp, size);
     }
-}
-
-/// The bytes of component 9.
-#[tactic(auto, unfolding(crate::specs::Stored::pkru_bytes, xs_base::specs::Bytes::zeros))]
-fn pkru_bytes(pkru: u32) -> [u8; 8]
-    ensures { result ≡ stored.pkru_bytes pkru }
-{
-    let [a, b, c, d] = pkru.to_le_bytes();
-    [a, b, c, d, 0, 0, 0, 0]
 }
 
 /// The area's MXCSR: in the compacted format it is initial where SSE is (SDM volume 1, 13.8.2).

@@ -6,7 +6,7 @@ use Rattle.std.specs.Prelude.{◌≡◌, ℕ, ◌+◌, ◌<◌, ◌≤◌, Bool,
 use Rattle.xs_base.specs.declared.component.Row.{Row}
 use Rattle.xs_base.specs.declared.header.Parts.{Parts}
 use Rattle.xs_base.specs.Sets.{has}
-use Rattle.xs_base.specs.Component.{component_size, initial_part, initial_mxcsr, sse_number, pkru_number}
+use Rattle.xs_base.specs.Component.{pkru_number, sse_number, component_size, initial_part, initial_mxcsr}
 use Rattle.xs_base.specs.Layout.{has_row, row_of}
 use Rattle.xs_base.specs.Compact.{is_compacted, place, has_place}
 use Rattle.xs_base.specs.File.{File, part, with_pkru, is_own}

@@ -1,9 +1,9 @@
 //! The pool.
 
-ghost use Rattle.std.specs.Prelude.{◌≡◌, ℕ, ◌-◌, ◌^◌, ◌<◌, ◌≤◌, ◌⊎◌, ◌↔◌, false, length, slice_index, IfOk, IfErr, OnOk, OnErr};
+ghost use Rattle.std.specs.Prelude.{◌≡◌, ℕ, ◌-◌, ◌^◌, ◌<◌, ◌≤◌, ◌⊎◌, ◌↔◌, false, true, length, slice_index, IfOk, IfErr, OnOk, OnErr};
 ghost use Rattle.xs_base.specs.Area.{StandsFor, HasPlaces};
 ghost use Rattle.xs_base.specs.Bytes.{is_within};
-ghost use Rattle.xs_base.specs.Compact.{compacted};
+ghost use Rattle.xs_base.specs.Compact.{compacted, is_compacted};
 ghost use Rattle.xs_base.specs.File.{initial_file};
 ghost use Rattle.xs_base.specs.Header.{xcomp_bv};
 ghost use Rattle.xs_base.specs.KernelArea.{class_features, class_size, IsLoadable};
@@ -81,14 +81,14 @@ impl AreaPool {
         ensures given { IfOk result (λ lease. (id : ℕ) →
             WasGiven self.new id ↔ (WasGiven self.old id ⊎ (id ≡ lease.area.id))) }
 
-        // The area is one of the class, and has no state.
+        // The area is one of the class, and has no state. For a compacted one that is the initial file.
         ensures class { IfOk result (λ lease. lease.class ≡ class) }
         ensures len { IfOk result (λ lease. length lease.area.bytes.items ≡ class_size self.old.rows class) }
         ensures zero { IfOk result (λ lease. (k : ℕ) → is_within 520 8 k ≡ false →
             slice_index lease.area.bytes.items k ≡ 0) }
         ensures names { IfOk result (λ lease.
             xcomp_bv lease.area.bytes.items ≡ compacted (class_features self.old.rows class)) }
-        ensures stands { IfOk result (λ lease.
+        ensures stands { IfOk result (λ lease. is_compacted (xcomp_bv lease.area.bytes.items) ≡ true →
             StandsFor self.old.rows lease.area.bytes.items (initial_file self.old.rows)) }
         ensures loadable { IfOk result (λ lease.
             IsLoadable self.old.rows class lease.area.id lease.area.bytes.items) }

@@ -1,9 +1,16 @@
 //! Pools at worked values.
 
+ghost use Rattle.std.specs.Prelude.{◌+◌, ◌<◌, ◌≤◌};
+
 use crate::{AreaPool, Class, Full};
-use std::test::Fail;
+use std::alloc::AllocError;
 use xs_base::are_zero;
 use xs_layout::Layout;
+
+/// XCOMP_BV of areas of the machine `amx`: bit 63 and the machine's components but 9, and in Small areas but 18.
+const SMALL: u64 = 0x8000_0000_0002_00e7;
+
+const LARGE: u64 = 0x8000_0000_0006_00e7;
 
 /// Whether an area is zero but for XCOMP_BV, bytes 520 to 527, and that is `names`.
 fn is_blank(bytes: &[u8], names: u64) -> bool {
@@ -15,77 +22,105 @@ fn is_blank(bytes: &[u8], names: u64) -> bool {
     are_zero(front) && spelled == names.to_le_bytes().as_slice() && are_zero(rest)
 }
 
+/// The number of a lease that never comes back.
+fn number(pool: &mut AreaPool, class: Class) -> Result<u64, Full>
+    requires { pool.old.given < 100 }
+    ensures { pool.new.given ≤ pool.old.given + 1 }
+{
+    match pool.lease(class) {
+        Ok(lease) => Ok(lease.area.id),
+        Err(full) => Err(full),
+    }
+}
+
+/// Whether a lease has the class, this length and these names, and no state. It comes back written over.
+fn comes_blank(pool: &mut AreaPool, class: Class, len: usize, names: u64) -> bool
+    requires { pool.old.given < 100 }
+    ensures { pool.new.given ≤ pool.old.given + 1 }
+{
+    let Ok(mut lease) = pool.lease(class) else {
+        return false;
+    };
+    let blank = lease.area.bytes.len() == len && is_blank(&lease.area.bytes, names);
+    let own = lease.class == class;
+    lease.area.bytes.fill(0xff);
+    pool.give_back(lease);
+    blank && own
+}
+
+/// What the pool tells of the class while an area of it is out, and how many are out then and once it is back.
+fn full_meanwhile(pool: &mut AreaPool, class: Class) -> Option<(Option<Full>, u32, u32)>
+    requires { pool.old.given < 100 }
+    ensures { pool.new.given ≤ pool.old.given + 2 }
+{
+    let Ok(lease) = pool.lease(class) else {
+        return None;
+    };
+    let full = pool.lease(class).err();
+    let out = pool.out(class);
+    pool.give_back(lease);
+    Some((full, out, pool.out(class)))
+}
+
+/// Whether classes are counted apart and numbered together.
+fn counts_apart(pool: &mut AreaPool) -> bool
+    requires { pool.old.given < 100 }
+    ensures { pool.new.given ≤ pool.old.given + 2 }
+{
+    let Ok(small) = pool.lease(Class::Small) else {
+        return false;
+    };
+    let first = small.area.id == 1 && pool.out(Class::Small) == 1 && pool.out(Class::Large) == 0;
+    let Ok(large) = pool.lease(Class::Large) else {
+        return false;
+    };
+    let numbered = large.area.id == 2;
+    pool.give_back(small);
+    let second = pool.out(Class::Small) == 0 && pool.out(Class::Large) == 1;
+    pool.give_back(large);
+    first && numbered && second
+}
+
 #[test]
-fn full_comes_until_an_area_is_back(rt: HostRuntime) -> Result<(), Fail> {
+fn an_area_comes_blank_again(rt: HostRuntime) -> Result<(), AllocError> {
+    let mut pool = AreaPool::open(rt.alloc(), &Layout::amx(), 1, 1)?;
+    let small = comes_blank(&mut pool, Class::Small, 2496, SMALL);
+    let large = comes_blank(&mut pool, Class::Large, 10688, LARGE);
+    let again = comes_blank(&mut pool, Class::Small, 2496, SMALL);
+    assert!(rt; small && large && again && comes_blank(&mut pool, Class::Large, 10688, LARGE));
+    Ok(())
+}
+
+#[test]
+fn classes_are_alike_without_tiledata(rt: HostRuntime) -> Result<(), AllocError> {
+    let mut pool = AreaPool::open(rt.alloc(), &Layout::avx(), 1, 1)?;
+    let small = comes_blank(&mut pool, Class::Small, 832, 0x8000_0000_0000_0007);
+    let large = comes_blank(&mut pool, Class::Large, 832, 0x8000_0000_0000_0007);
+    assert!(rt; small && large);
+    Ok(())
+}
+
+#[test]
+fn full_comes_until_an_area_is_back(rt: HostRuntime) -> Result<(), AllocError> {
     let mut pool = AreaPool::open(rt.alloc(), &Layout::amx(), 0, 1)?;
-    let lease = pool.lease(Class::Large)?;
-    let id = lease.area.id;
     let full = Full {
         out: 1,
         capacity: 1,
     };
-    assert_eq!(rt; pool.lease(Class::Large).err(), Some(full));
-    assert_eq!(rt; pool.out(Class::Large), 1);
-    pool.give_back(lease);
-    assert_eq!(rt; pool.out(Class::Large), 0);
-    let again = pool.lease(Class::Large)?;
-    assert_ne!(rt; again.area.id, id);
-    Ok(())
-}
-
-#[test]
-fn a_class_with_no_areas_is_full(rt: HostRuntime) -> Result<(), Fail> {
-    let mut pool = AreaPool::open(rt.alloc(), &Layout::avx(), 0, 0)?;
-    let full = Full {
+    let none = Full {
         out: 0,
         capacity: 0,
     };
-    assert_eq!(rt; pool.lease(Class::Small).err(), Some(full));
-    assert_eq!(rt; pool.lease(Class::Large).err(), Some(full));
+    let meanwhile = full_meanwhile(&mut pool, Class::Large) == Some((Some(full), 1, 0));
+    let again = number(&mut pool, Class::Large) == Ok(2);
+    assert!(rt; meanwhile && again && number(&mut pool, Class::Small) == Err(none));
     Ok(())
 }
 
 #[test]
-fn an_area_has_the_length_and_the_names_of_its_class(rt: HostRuntime) -> Result<(), Fail> {
-    // XCOMP_BV has bit 63 and the machine's components but 9, and in Small areas but 18.
-    let cases = [
-        (Layout::amx(), Class::Small, 2496, 0x8000_0000_0002_00e7),
-        (Layout::amx(), Class::Large, 10688, 0x8000_0000_0006_00e7),
-        (Layout::avx(), Class::Small, 832, 0x8000_0000_0000_0007),
-        (Layout::avx(), Class::Large, 832, 0x8000_0000_0000_0007),
-    ];
-    for (layout, class, len, names) in cases {
-        let mut pool = AreaPool::open(rt.alloc(), &layout, 1, 1)?;
-        let lease = pool.lease(class)?;
-        assert_eq!(rt; lease.class, class);
-        assert_eq!(rt; lease.area.bytes.len(), len);
-        assert!(rt; is_blank(&lease.area.bytes, names));
-    }
-    Ok(())
-}
-
-#[test]
-fn an_area_that_was_written_over_is_blank_again(rt: HostRuntime) -> Result<(), Fail> {
+fn classes_are_counted_apart_and_numbered_together(rt: HostRuntime) -> Result<(), AllocError> {
     let mut pool = AreaPool::open(rt.alloc(), &Layout::amx(), 1, 1)?;
-    let mut lease = pool.lease(Class::Small)?;
-    lease.area.bytes.fill(0xff);
-    pool.give_back(lease);
-    let again = pool.lease(Class::Small)?;
-    assert!(rt; is_blank(&again.area.bytes, 0x8000_0000_0002_00e7));
-    Ok(())
-}
-
-#[test]
-fn classes_are_counted_apart_and_numbered_together(rt: HostRuntime) -> Result<(), Fail> {
-    let mut pool = AreaPool::open(rt.alloc(), &Layout::amx(), 1, 1)?;
-    let small = pool.lease(Class::Small)?;
-    assert_eq!(rt; (pool.out(Class::Small), pool.out(Class::Large)), (1, 0));
-    let large = pool.lease(Class::Large)?;
-    assert_eq!(rt; (small.area.id, large.area.id), (1, 2));
-    pool.give_back(small);
-    assert_eq!(rt; (pool.out(Class::Small), pool.out(Class::Large)), (0, 1));
-    pool.give_back(large);
-    let last = pool.lease(Class::Large)?;
-    assert_eq!(rt; last.area.id, 3);
+    let apart = counts_apart(&mut pool);
+    assert!(rt; apart && number(&mut pool, Class::Large) == Ok(3));
     Ok(())
 }

@@ -21,7 +21,7 @@ use Rattle.xs_script.specs.LineOrder.{AtBlock, InBlock, next, may_end}
 use Rattle.xs_script.specs.Refusal.{Early, table_fault, Fails, Here}
 use Rattle.xs_script.specs.ScriptLine.{kept_line}
 use Rattle.xs_script.specs.Front.{IsKeptFront, IsNext, ExplainsLine, ExplainsNext}
-use Rattle.xs_script.specs.Body.{names_of, blocks_of, begun_stand, body_stand, begun_lines, lines_of_body, AreBlocks, TakesLine, ReadsLine, AreBlocksOf}
+use Rattle.xs_script.specs.Body.{names_of, begun_stand, body_stand, begun_lines, lines_of_body, TakesLine, ReadsLine}
 use Rattle.xs_script.proofs.Fronts.{front_push}
 use Rattle.xs_script.proofs.KeptOrder.{kept_next}
 use Rattle.xs_script.proofs.HeadSteps.{next_fails}
@@ -48,7 +48,7 @@ any_name name [] = refl
 any_name name (b ∷ blocks) = ap (λ (r : Bool). bytes_eq b.name name || r) (any_name name blocks)
 
 -- one more distinct name
-distinct_push : (names : List (List ℕ)) (name : List ℕ) → AreDistinct names → list_any (λ other. bytes_eq other name) names ≡ false → AreDistinct (names ++ name ∷ [])
+pub distinct_push : (names : List (List ℕ)) (name : List ℕ) → AreDistinct names → list_any (λ other. bytes_eq other name) names ≡ false → AreDistinct (names ++ name ∷ [])
 distinct_push [] name h none = (tt, tt)
 distinct_push (n ∷ names) name h none =
     let parts = parts_or (bytes_eq n name) (list_any (λ other. bytes_eq other name) names) none in
@@ -177,11 +177,7 @@ next_explains body number text kept rest errors.Memory first h = tt
 
 -- ---- the lines so far
 
--- no block yet
-pub no_blocks : (first : ℕ) → AreBlocks first []
-no_blocks first = record { few = omega arith; distinct = tt; numbered = tt; tasks = tt }
-
--- and one line more
+-- one line more
 pub body_goes_on : (number : ℕ) (text left rest : List ℕ) (body after : Body) → IsKeptFront (AtBlock []) text (lines_of_body body) (body_stand body) left → ReadsLine number body left after rest → IsKeptFront (AtBlock []) text (lines_of_body after) (body_stand after) rest
 body_goes_on number text left rest body after h step = record {
   lines = h.lines ++ step.line ∷ [];
@@ -191,15 +187,3 @@ body_goes_on number text left rest body after h step = record {
 
 pub body_counts : (first number : ℕ) (left rest : List ℕ) (body after : Body) → number ≡ first + length (lines_of_body body) → ReadsLine number body left after rest → number + 1 ≡ first + length (lines_of_body after)
 body_counts first number left rest body after at step = rw step.taken.came (rw length-append (omega arith))
-
--- where no block has begun and the text may end
-pub whole_blocks : (first : ℕ) (text : List ℕ) (body : Body) → body.begun ≡ None → AreBlocks first (blocks_of body) → IsKeptFront (AtBlock []) text (lines_of_body body) (body_stand body) [] → may_end (body_stand body) ≡ true → AreBlocksOf first text body.blocks
-whole_blocks first text body none fits front end = record {
-  fits = rw none at fits;
-  some = some_block body.blocks (rw none at end);
-  front = rw append-nil at (rw none at front);
-}
-  where
-    some_block : (blocks : List Block) → may_end (AtBlock (names_of blocks)) ≡ true → 0 < length blocks
-    some_block [] h = cc h
-    some_block (b ∷ blocks) h = omega arith

@@ -1,27 +1,35 @@
 -- Every text passes or is refused by a line, and lines that pass have known registers or a first command that fails. What
 -- isn't decided here, whether a text has a first line and a register a place, needs no decision where nothing follows.
-use Rattle.std.proofs.Common.{◌≡◌, ℕ, zero, suc, ◌+◌, ◌<◌, Bool, true, false, List, [], ◌∷◌, ◌++◌, length, Option, Some, None, Result, Ok, Err, refl, sym, ◌∙◌, ap, subst, arith, length-append}
+use Rattle.std.proofs.Common.{◌≡◌, ℕ, zero, suc, ◌+◌, ◌<◌, ◌≤◌, ◌^◌, Bool, true, false, List, [], ◌∷◌, ◌++◌, length, Option, Some, None, Result, Ok, Err, refl, sym, ◌∙◌, ap, subst, arith, length-append}
 use Rattle.std.proofs.lemmas.List.{append_assoc, append-nil}
-use Rattle.std.specs.List.{AllByRecursion}
+use Rattle.std.specs.List.{AllByRecursion, flat_map}
 use Rattle.xs_base.specs.declared.component.Row.{Row}
 use Rattle.xs_base.specs.declared.component.Place.{Place}
 use Rattle.xs_base.specs.declared.layout_error.LayoutError.{LayoutError}
 use Rattle.xs_base.specs.Register.{IsRegister}
 use Rattle.xs_model.specs.declared.script.Command.{Command}
 use Rattle.xs_model.specs.declared.script.Command.TheVariants as commands
-use Rattle.xs_model.specs.Script.{fits_register, is_built}
+use Rattle.xs_model.specs.declared.script.Named.{Named}
+use Rattle.xs_model.specs.declared.script.Block.{Block}
+use Rattle.xs_model.specs.declared.script.Script.{Script}
+use Rattle.xs_model.specs.Script.{AreBlocksNumbered, fits_register, is_built}
 use Rattle.xs_script.specs.declared.line.Line.{Line}
 use Rattle.xs_script.specs.declared.line.Line.TheVariants as lines
 use Rattle.xs_script.specs.declared.refusal.Kind.{Kind}
 use Rattle.xs_script.specs.declared.refusal.Kind.TheVariants.{NotBuilt, BadLine, Layout, UnknownName}
 use Rattle.xs_script.specs.ScriptLine.{IsLine, IsCommandLine, line_text}
-use Rattle.xs_script.specs.Grammar.{lines_text}
-use Rattle.xs_script.specs.LineOrder.{Stand, AtVersion, may_end, next}
+use Rattle.xs_script.specs.Grammar.{lines_text, block_lines, row_lines, head_lines, script_lines, Spells}
+use Rattle.xs_script.specs.LineOrder.{Stand, AtVersion, AtBlock, may_end, next}
+use Rattle.xs_script.specs.Body.{names_of}
 use Rattle.xs_script.specs.Refusal as refusals
-use Rattle.xs_script.specs.Refusal.{AreLines, Early, Misspelled, Misplaced, Fails, Table, Here, table_fault, is_unbuilt, RefusesLine, Passes, IsKnown, IsKnownCommand, CommandFails}
+use Rattle.xs_script.specs.Refusal.{AreLines, Early, Misspelled, Misplaced, Fails, Table, Here, table_fault, is_unbuilt, RefusesLine, Passes, table_of, IsKnown, IsKnownCommand, CommandFails, Refuses, ByLine, ByCommand}
 use Rattle.xs_script.specs.Front.{IsFront}
 use Rattle.xs_script.proofs.Fronts.{front_push, front_none}
 use Rattle.xs_script.proofs.BodyLines.{all_push}
+use Rattle.xs_script.proofs.Numbering.{blocks_rise}
+use Rattle.xs_script.proofs.KnownLines.{all_parts, names_fit, blocks_known}
+use Rattle.xs_script.proofs.WholeScripts.{blocks_no_rows, no_rows_table, table_of_lines}
+use Rattle.xs_script.proofs.ReadScripts.{AreLater, IsMachine, blocks_read, script_read}
 
 -- ---- the first pass
 
@@ -61,11 +69,11 @@ walk text (suc fuel) (b ∷ bs) ls stand room front refused passed =
     let rest = b ∷ bs in
     let fails = λ (n : ℕ) (kind : Kind) (f : Fails stand (length ls + 1) rest n kind). refused n kind (record { done = ls; rest = rest; stand = stand; lines_fit = front.lines_fit; parts = front.parts; leads = front.leads; fails = f }) in
     step_table stand (length ls + 1) rest (table_fault stand rest) refl fails (λ none.
-      step_unbuilt stand (length ls + 1) rest (is_unbuilt rest) refl none fails (λ built.
-        fails (length ls + 1) BadLine (Here BadLine none (Misspelled (λ e. cc e) built (λ l more fits e.
-          step_next stand (length ls + 1) rest more l (next stand l) refl none built fits e fails (λ mid leads.
-            let long : length rest ≡ length (line_text l) + length (10 ∷ more) = ap length e ∙ length-append (line_text l) (10 ∷ more) in
-            walk text fuel more (ls ++ l ∷ []) mid (omega (arith, long)) (front_push AtVersion stand mid text rest more ls l front fits e leads) refused passed))))))
+    step_unbuilt stand (length ls + 1) rest (is_unbuilt rest) refl none fails (λ built.
+    fails (length ls + 1) BadLine (Here BadLine none (Misspelled (λ e. cc e) built (λ l more fits e.
+    step_next stand (length ls + 1) rest more l (next stand l) refl none built fits e fails (λ mid leads.
+    let long : length rest ≡ length (line_text l) + length (10 ∷ more) = ap length e ∙ length-append (line_text l) (10 ∷ more) in
+    walk text fuel more (ls ++ l ∷ []) mid (omega (arith, long)) (front_push AtVersion stand mid text rest more ls l front fits e leads) refused passed))))))
 
 -- A text passes or is refused by a line.
 pub passes_or_not : (text : List ℕ) → ((n : ℕ) (kind : Kind) → RefusesLine text n kind → ⊥) → ((ls : List Line) → Passes text ls → ⊥) → ⊥
@@ -85,12 +93,12 @@ step_place rows command place false is fails unbuilt go = fails NotBuilt (unbuil
 known_or_fails : (rows : List Row) (command : Command) → IsCommandLine command → (IsKnownCommand rows command → ⊥) → ((kind : Kind) → CommandFails rows command kind → ⊥) → ⊥
 known_or_fails rows (commands.Set reg bytes) fits known fails =
     fails UnknownName (refusals.Unknown (commands.Set reg bytes) (λ place here.
-      step_place rows (commands.Set reg bytes) place (is_built place) refl fails (refusals.Unbuilt (commands.Set reg bytes) place here) (λ built.
-        step_value rows reg bytes place (fits_register place bytes) refl here built fits.2 known fails)))
+    step_place rows (commands.Set reg bytes) place (is_built place) refl fails (refusals.Unbuilt (commands.Set reg bytes) place here) (λ built.
+    step_value rows reg bytes place (fits_register place bytes) refl here built fits.2 known fails)))
 known_or_fails rows (commands.Get reg) fits known fails =
     fails UnknownName (refusals.Unknown (commands.Get reg) (λ place here.
-      step_place rows (commands.Get reg) place (is_built place) refl fails (refusals.Unbuilt (commands.Get reg) place here) (λ built.
-        known ((place, here), (place, here.0, built)))))
+    step_place rows (commands.Get reg) place (is_built place) refl fails (refusals.Unbuilt (commands.Get reg) place here) (λ built.
+    known ((place, here), (place, here.0, built)))))
 
 -- so a line is known, or is a command that fails
 line_known_or_fails : (rows : List Row) (l : Line) → IsLine l → (IsKnown rows l → ⊥) → ((command : Command) (kind : Kind) → l ≡ lines.Order command → CommandFails rows command kind → ⊥) → ⊥
@@ -110,8 +118,98 @@ lines_known_or_fail rows done [] before fits known fails = known (subst (λ (xs 
 lines_known_or_fail rows done (l ∷ ls) before fits known fails =
     line_known_or_fails rows l fits.0
     (λ here.
-      let same : (done ++ l ∷ []) ++ ls ≡ done ++ l ∷ ls = append_assoc done (l ∷ []) ls in
-      lines_known_or_fail rows (done ++ l ∷ []) ls (all_push (IsKnown rows) done l before here) fits.1
-      (λ all. known (subst (λ (xs : List Line). AllByRecursion (IsKnown rows) xs) same all))
-      (λ d command later kind e front f. fails d command later kind (sym same ∙ e) front f))
+    let same : (done ++ l ∷ []) ++ ls ≡ done ++ l ∷ ls = append_assoc done (l ∷ []) ls in
+    lines_known_or_fail rows (done ++ l ∷ []) ls (all_push (IsKnown rows) done l before here) fits.1
+    (λ all. known (subst (λ (xs : List Line). AllByRecursion (IsKnown rows) xs) same all))
+    (λ d command later kind e front f. fails d command later kind (sym same ∙ e) front f))
     (λ command kind is f. fails done command ls kind (ap (λ (x : Line). done ++ x ∷ ls) is) before f)
+
+-- ---- both passes
+
+-- lines are no more than the bytes of their text
+lines_short : (ls : List Line) → length ls ≤ length (lines_text ls)
+lines_short [] = omega arith
+lines_short (l ∷ ls) =
+    let first : length (line_text l ++ 10 ∷ []) ≡ length (line_text l) + 1 = length-append (line_text l) (10 ∷ []) in
+    let both : length (lines_text (l ∷ ls)) ≡ length (line_text l ++ 10 ∷ []) + length (lines_text ls) = length-append (line_text l ++ 10 ∷ []) (lines_text ls) in
+    omega (arith, first, both, lines_short ls)
+
+-- a script of one processor
+abbrev script_of : Named → List Row → ℕ → ℕ → List Block → Script
+script_of machine layout quantum large blocks = record { machine = machine; layout = layout; cpus = 1; quantum = quantum; large = large; sched = []; blocks = blocks }
+
+-- the lines before the blocks
+abbrev front_of : (ls : List Line) (end : Stand) → IsMachine ls end → List Line
+front_of ls end m = head_lines (script_of m.machine m.layout m.numbers.quantum m.numbers.large [])
+
+front_split : (ls : List Line) (end : Stand) (m : IsMachine ls end) → ls ≡ front_of ls end m ++ m.numbers.later
+front_split ls end m =
+    m.split
+    ∙ ap (λ (xs : List Line). lines.Version ∷ lines.Machine m.machine ∷ (row_lines m.machine m.layout ++ xs)) m.numbers.split
+    ∙ ap (λ (xs : List Line). lines.Version ∷ lines.Machine m.machine ∷ xs) (sym (append_assoc (row_lines m.machine m.layout) (lines.Cpus 1 ∷ lines.Quantum m.numbers.quantum ∷ lines.Large m.numbers.large ∷ []) m.numbers.later))
+
+some_block : (blocks : List Block) (end : Stand) → end ≡ AtBlock (names_of blocks) → may_end end ≡ true → 0 < length blocks
+some_block [] end e h = cc (sym h ∙ ap may_end e)
+some_block (b ∷ blocks) end e h = omega arith
+
+few_blocks : (blocks : List Block) (end : Stand) → AreLater [] blocks end → length blocks ≤ 64
+few_blocks blocks end h = let few = h.few (omega arith) in omega (arith, few)
+
+-- A text that passes spells the script of its machine and its blocks, where the lines are known.
+blocks_spell : (text : List ℕ) (ls : List Line) (p : Passes text ls) (m : IsMachine ls p.stand) (blocks : List Block) → m.numbers.later ≡ flat_map block_lines blocks → AreBlocksNumbered (length (front_of ls p.stand m) + 1) blocks → AreLater [] blocks p.stand → AllByRecursion (IsKnown (table_of ls)) ls → Spells text (script_of m.machine m.layout m.numbers.quantum m.numbers.large blocks)
+blocks_spell text ls p m blocks is numbered h known =
+    let script = script_of m.machine m.layout m.numbers.quantum m.numbers.large blocks in
+    let front = front_of ls p.stand m in
+    let lines_are : ls ≡ script_lines script = front_split ls p.stand m ∙ ap (λ (xs : List Line). front ++ xs) is in
+    let table : table_of ls ≡ m.layout = ap table_of lines_are ∙ table_of_lines script (flat_map block_lines blocks) m.is_table (no_rows_table (flat_map block_lines blocks) (blocks_no_rows blocks)) in
+    let all = subst (λ (xs : List Line). AllByRecursion (IsKnown m.layout) xs) lines_are (subst (λ (rows : List Row). AllByRecursion (IsKnown rows) ls) table known) in
+    let commands = blocks_known m.layout blocks (all_parts (IsKnown m.layout) front (flat_map block_lines blocks) all).1 in
+    let fit = all_parts IsLine front (flat_map block_lines blocks) (subst AreLines lines_are p.lines_fit) in
+    record {
+      valid = record {
+        layout = m.layout_fits;
+        machine = m.is_table;
+        cpus = (omega arith, omega arith);
+        quantum = m.numbers.quantum_fits;
+        large = m.numbers.large_fits;
+        some = some_block blocks p.stand h.ends p.whole;
+        few = few_blocks blocks p.stand h;
+        names = names_fit blocks fit.1;
+        distinct = h.distinct tt;
+        rising = blocks_rise 0 (length front + 1) blocks (omega arith) numbered;
+        commands = commands.0;
+      };
+      built = record { one = refl; unscheduled = refl; tasks = h.tasks; registers = commands.1 };
+      numbered = numbered;
+      spelled = p.spelled ∙ ap lines_text lines_are;
+    }
+
+machine_spells : (text : List ℕ) (ls : List Line) → length text ≤ 1048576 → (p : Passes text ls) → IsMachine ls p.stand → AllByRecursion (IsKnown (table_of ls)) ls → (script : Script) × Spells text script
+machine_spells text ls short p m known =
+    let few : length ls ≤ length text = rw p.spelled (lines_short ls) in
+    let long : length ls ≡ length (front_of ls p.stand m) + length m.numbers.later = ap length (front_split ls p.stand m) ∙ length-append (front_of ls p.stand m) m.numbers.later in
+    let room : length (front_of ls p.stand m) + 1 + length m.numbers.later < 2 ^ 32 = omega (arith, short, few, long) in
+    let (blocks, is, numbered, h) = blocks_read (AtBlock []) m.numbers.later p.stand (length (front_of ls p.stand m) + 1) room m.numbers.leads p.whole in
+    (script_of m.machine m.layout m.numbers.quantum m.numbers.large blocks, blocks_spell text ls p m blocks is numbered h known)
+
+-- Such a text spells a script.
+known_spells : (text : List ℕ) (ls : List Line) → length text ≤ 1048576 → Passes text ls → AllByRecursion (IsKnown (table_of ls)) ls → (script : Script) × Spells text script
+known_spells text ls short p known = machine_spells text ls short p (script_read ls p.stand p.leads p.whole) known
+
+-- A text within the limit that spells no script and isn't refused doesn't exist.
+pub every_text : (text : List ℕ) → length text ≤ 1048576 → ((script : Script) → Spells text script → ⊥) → ((number : ℕ) (kind : Kind) → Refuses text number kind → ⊥) → ⊥
+every_text text short spelled refused =
+    passes_or_not text (λ n kind r. refused n kind (ByLine r)) (λ ls p.
+    lines_known_or_fail (table_of ls) [] ls tt p.lines_fit
+    (λ known. let s = known_spells text ls short p known in spelled s.0 s.1)
+    (λ d command later kind e front f.
+    let table : table_of ls ≡ table_of (d ++ lines.Order command ∷ later) = ap table_of e in
+    refused (length d + 1) kind (ByCommand (record {
+      done = d;
+      command = command;
+      later = later;
+      passes = subst (λ (xs : List Line). Passes text xs) e p;
+      known = subst (λ (rows : List Row). AllByRecursion (IsKnown rows) d) table front;
+      fails = subst (λ (rows : List Row). CommandFails rows command kind) table f;
+      number_is = refl;
+    }))))

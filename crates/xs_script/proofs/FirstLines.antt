@@ -56,7 +56,7 @@ abbrev unbuilt_line : List ℕ → Bool
 unbuilt_line line = list_any (λ word. bytes_eq word (before 32 line)) unbuilt_words || list_any (λ other. bytes_eq other line) unbuilt_cpus
 
 -- one processor alone leads on
-after_cpus_one : (n : ℕ) (mid : Stand) → after_cpus n ≡ Ok mid → n ≡ 1
+pub after_cpus_one : (n : ℕ) (mid : Stand) → after_cpus n ≡ Ok mid → n ≡ 1
 after_cpus_one n mid h = elim (eqb_tells n 1) [
   | inl one ↦ one.1
   | inr other ↦

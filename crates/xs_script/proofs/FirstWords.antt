@@ -3,12 +3,11 @@ use Rattle.std.proofs.Common.{◌≡◌, ℕ, true, List, ◌∷◌, ◌++◌, �
 use Rattle.std.proofs.lemmas.List.{append_cancel_left}
 use Rattle.hex.specs.Hex.{encode_lower}
 use Rattle.xs_base.specs.declared.component.Row.{Row}
-use Rattle.xs_model.specs.declared.script.Named.{Named}
 use Rattle.xs_model.specs.declared.script.Command.TheVariants as commands
 use Rattle.xs_model.specs.Script.{is_name}
 use Rattle.xs_script.specs.declared.line.Line.{Line}
 use Rattle.xs_script.specs.declared.line.Line.TheVariants as lines
-use Rattle.xs_script.specs.ScriptLine.{line_text, IsLine, IsNumber, row_text, machine_name, is_register_word}
+use Rattle.xs_script.specs.ScriptLine.{line_text, IsLine, IsNumber, row_text, is_register_word}
 use Rattle.xs_script.specs.Parts.{IsValue}
 use Rattle.xs_script.proofs.Spellings.{kind_of, kind_is, command_kind_of}
 
@@ -30,10 +29,6 @@ no_task words none l fits e = let k = ap kind_of e ∙ kind_is l in omega arith
 pub no_row : (words : List ℕ) → ((r : Row) → IsLine (lines.Row r) → words ≡ row_text r → ⊥) → (l : Line) → IsLine l → codes "row " ++ words ≡ line_text l → ⊥
 no_row words none (lines.Row r) fits e = none r fits (append_cancel_left (codes "row ") words (row_text r) e)
 no_row words none l fits e = let k = ap kind_of e ∙ kind_is l in omega arith
-
-pub no_machine : (words : List ℕ) → ((named : Named) → words ≡ machine_name named → ⊥) → (l : Line) → IsLine l → codes "machine " ++ words ≡ line_text l → ⊥
-no_machine words none (lines.Machine named) fits e = none named (append_cancel_left (codes "machine ") words (machine_name named) e)
-no_machine words none l fits e = let k = ap kind_of e ∙ kind_is l in omega arith
 
 pub no_cpus : (words : List ℕ) → ((n : ℕ) → IsNumber n → words ≡ decimal n → ⊥) → (l : Line) → IsLine l → codes "cpus " ++ words ≡ line_text l → ⊥
 no_cpus words none (lines.Cpus n) fits e = none n fits (append_cancel_left (codes "cpus ") words (decimal n) e)

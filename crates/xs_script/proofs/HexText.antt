@@ -146,12 +146,3 @@ spelled_taken ds bs i hex room short over h =
     let even = eqb-true (length ds % 2) 0 parts.1 in
     let long : length (take (length ds / 2) bs) ≡ length ds / 2 = length-take-le (length ds / 2) bs (omega arith) in
     decoded ds (take (length ds / 2) bs) parts.0 (omega (arith, long)) (decoded_taken bs ds (length ds / 2) (omega arith) (λ k below. h k (omega arith)))
-
--- a digit of hex text
-pub digit_at : (ds : List ℕ) (k : ℕ) → is_hex_text ds ≡ true → k < length ds → is_lower_digit (slice_index ds k) ≡ true
-digit_at ds k h below = at ds k (and_parts (list_all is_lower_digit ds) (length ds % 2 == 0) h).0 below
-  where
-    at : (ds : List ℕ) (k : ℕ) → list_all is_lower_digit ds ≡ true → k < length ds → is_lower_digit (slice_index ds k) ≡ true
-    at [] k h below = absurd (omega arith)
-    at (d ∷ ds) zero h below = (and_parts (is_lower_digit d) (list_all is_lower_digit ds) h).0
-    at (d ∷ ds) (suc k) h below = at ds k (and_parts (is_lower_digit d) (list_all is_lower_digit ds) h).1 (omega arith)

@@ -21,4 +21,5 @@ pub mod Numbering
 pub mod WholeScripts
 pub mod OneRefusal
 pub mod SpelledLines
+pub mod ReadScripts
 pub mod EveryText

@@ -82,16 +82,7 @@ fault_push rows first number ls lines.End fault after h fits at noted = other_li
 
 -- ---- the lines so far
 
--- no line yet
-pub looked_none : (rows : List Row) (first : ℕ) (text : List ℕ) (outline : Outline) → outline.names ≡ [] → outline.begun ≡ false → outline.fault ≡ None → IsLooked rows first text outline first text
-looked_none rows first text outline names begun fault = record {
-  lines = [];
-  front = rw (names, begun) record { lines_fit = tt; parts = refl; leads = refl };
-  fault = rw fault tt;
-  number_is = omega arith;
-}
-
--- and one line more
+-- one line more
 pub looked_on : (rows : List Row) (first number : ℕ) (text left rest : List ℕ) (outline after : Outline) → IsLooked rows first text outline number left → LooksOn rows number outline left after rest → IsLooked rows first text after (number + 1) rest
 looked_on rows first number text left rest outline after h step = record {
   lines = h.lines ++ step.line ∷ [];

@@ -64,7 +64,7 @@ above_test : (a b : ℕ) → b < a → nat_le a b ≡ false
 above_test a b h = grind (arith, nat_tests)
 
 -- so a number from 2 on isn't built if it is at most 16
-pub count_from_two : (n : ℕ) (line : List ℕ) → IsNumber n → line ≡ codes "cpus " ++ decimal n → 2 ≤ n → nat_le n 16 ≡ list_any (λ other. bytes_eq other line) unbuilt_cpus
+count_from_two : (n : ℕ) (line : List ℕ) → IsNumber n → line ≡ codes "cpus " ++ decimal n → 2 ≤ n → nat_le n 16 ≡ list_any (λ other. bytes_eq other line) unbuilt_cpus
 count_from_two n line fits e low = elim (cases_lt 16 n) [
   | inl above ↦ above_test n 16 above ∙ sym (no_unbuilt_count line (λ m lo hi same.
       let k = one_number (codes "cpus ") n m fits (omega arith) (sym e ∙ same) in
@@ -73,7 +73,7 @@ count_from_two n line fits e low = elim (cases_lt 16 n) [
 ]
 
 -- and one below is
-pub count_below_two : (n : ℕ) (line : List ℕ) → IsNumber n → line ≡ codes "cpus " ++ decimal n → n < 2 → nat_le 2 n ≡ list_any (λ other. bytes_eq other line) unbuilt_cpus
+count_below_two : (n : ℕ) (line : List ℕ) → IsNumber n → line ≡ codes "cpus " ++ decimal n → n < 2 → nat_le 2 n ≡ list_any (λ other. bytes_eq other line) unbuilt_cpus
 count_below_two n line fits e low = above_test 2 n low ∙ sym (no_unbuilt_count line (λ m lo hi same.
     let k = one_number (codes "cpus ") n m fits (omega arith) (sym e ∙ same) in
     omega arith))

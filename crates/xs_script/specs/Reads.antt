@@ -1,5 +1,5 @@
 -- What a reader of a text answers: exactly the value that the text spells.
-use Rattle.std.specs.Prelude.{◌≡◌, ℕ, List, ◌∷◌, ◌++◌, Option, Some, None}
+use Rattle.std.specs.Prelude.{◌≡◌, ℕ, List, Option, Some, None}
 use Rattle.std.specs.List.{AllByRecursion}
 
 -- The bytes are the text of a value that fits. Nothing was read only if they are the text of no such value.

@@ -3,12 +3,13 @@
 ghost use Rattle.std.specs.Prelude.{◌≡◌, ◌==◌, drop, MatchOption, IfOk, IfErr};
 ghost use Rattle.std.specs.List.{list_all};
 ghost use Rattle.xs_base.specs.File.{is_mxcsr};
-ghost use Rattle.xs_model.specs.Script.{fits_register, is_built};
+ghost use Rattle.xs_model.specs.Script.{fits_register};
 ghost use Rattle.xs_script.specs.Refusal.{CommandFails};
 ghost use Rattle.xs_script.specs.Commands.{IsBuiltRegister, RegisterFails, PassesCommand};
 
+use crate::built::is_built;
 use crate::refusal::Kind;
-use xs_base::{Comp, Lane, Place};
+use xs_base::{Lane, Place};
 use xs_layout::Layout;
 use xs_model::Command;
 use xs_regs::place_of_bytes;
@@ -40,13 +41,6 @@ fn find_register(layout: &Layout, reg: &[u8]) -> Result<Place, Kind>
         Some(_) => Err(Kind::NotBuilt),
         None => Err(Kind::UnknownName),
     }
-}
-
-/// Whether the program has the register: one of x87, SSE with MXCSR, AVX and AVX-512.
-fn is_built(place: Place) -> bool
-    ensures { result ≡ is_built place }
-{
-    matches!(place.comp.0, 0 | 1 | 2 | 5 | 6 | 7)
 }
 
 /// Whether the register can be set to these bytes: as many as it has, and for MXCSR with bits 16 to 31 zero, which are

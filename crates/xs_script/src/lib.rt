@@ -4,6 +4,7 @@
 #![tactic(auto)]
 
 mod body;
+mod built;
 mod commands;
 mod front;
 mod head;
@@ -14,5 +15,5 @@ mod reader;
 mod refusal;
 mod words;
 
-pub use reader::{not_both, one_refusal, one_script, read_script};
+pub use reader::{every_text, not_both, one_refusal, one_script, read_script};
 pub use refusal::{Kind, LimitName, RefusalLine, ScriptError, write_refusal};

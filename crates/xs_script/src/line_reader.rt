@@ -6,36 +6,13 @@ ghost use Rattle.xs_script.specs.declared.line.Line.{Line};
 ghost use Rattle.xs_script.specs.ScriptLine.{line_text, IsLine, IsNumber, kept_line};
 ghost use Rattle.xs_script.specs.Reads.{Reads, ReadsAs};
 ghost use Rattle.xs_script.specs.Parts.{is_unbuilt_line};
-ghost use Rattle.xs_script.specs.Refusal.{NoLine, is_unbuilt, first_word, unbuilt_words, unbuilt_cpus};
+ghost use Rattle.xs_script.specs.Refusal.{NoLine, is_unbuilt, first_word, unbuilt_cpus};
 
+use crate::built::{is_unbuilt_cpus, is_unbuilt_word};
 use crate::line::Line;
 use crate::words::{before, cut_at, read_bytes, read_name, read_number, read_register};
 use xs_base::{Comp, Row, after};
 use xs_model::{Command, Named};
-
-/// The first words of the forms that this version doesn't have.
-const UNBUILT_WORDS: [&[u8]; 20] = [
-    b"sched",
-    b"child",
-    b"kthread",
-    b"handler",
-    b"sigreturn",
-    b"tilerelease",
-    b"ksec",
-    b"perm",
-    b"yield",
-    b"peek",
-    b"poke",
-    b"bpeek",
-    b"bpoke",
-    b"fork",
-    b"kill",
-    b"stop",
-    b"wait",
-    b"getregs",
-    b"setregs",
-    b"cont",
-];
 
 /// The first line of the text, if it is spelled as a line, and the text after its line feed. Of a value of more than 64
 /// bytes none is kept, and of a row's number above 255 it is 255.
@@ -62,7 +39,7 @@ pub fn is_unbuilt_line(line: &Line) -> bool
     ensures { result ≡ is_unbuilt_line line.now }
 {
     match line {
-        Line::Cpus(n) => 2 <= *n && *n <= 16,
+        Line::Cpus(n) => is_unbuilt_cpus(*n),
         _ => false,
     }
 }
@@ -75,26 +52,12 @@ pub fn begins_row(text: &[u8]) -> bool
     word == b"row".as_slice()
 }
 
-/// Whether it is one of those words.
-fn is_unbuilt_word(word: &[u8]) -> bool
-    ensures { result ≡ list_any (λ other. bytes_eq other word.now) unbuilt_words }
-{
-    is_among(word, &UNBUILT_WORDS)
-}
-
-/// Whether the word is one of the words.
-fn is_among(word: &[u8], words: &[&[u8]]) -> bool
-    ensures { result ≡ list_any (λ other. bytes_eq other.now word.now) words.now }
-{
-    words.iter().any(|other| *other == word)
-}
-
 /// Whether the line sets a number of processors that this version doesn't have.
 fn is_unbuilt_count(line: &[u8]) -> bool
     ensures { result ≡ list_any (λ other. bytes_eq other line.now) unbuilt_cpus }
 {
     match read_count(line) {
-        Some(n) => 2 <= n && n <= 16,
+        Some(n) => is_unbuilt_cpus(n),
         None => false,
     }
 }

@@ -62,6 +62,11 @@ pub fn not_both()
     ensures { (text : List ℕ) (script : Script) (n : ℕ) (k : Kind) → Spells text script → Refuses text n k → ⊥ }
 {}
 
+/// No text within the limit neither spells a script nor is refused. A call does nothing.
+pub fn every_text()
+    ensures { (text : List ℕ) → length text ≤ 1048576 → ((script : Script) → Spells text script → ⊥) → ((n : ℕ) (k : Kind) → Refuses text n k → ⊥) → ⊥ }
+{}
+
 /// The lines before the blocks, the number of the line after them, and the text from there on.
 fn read_head(text: &[u8]) -> Result<(Head, u32, &[u8]), ScriptError>
     requires { length text.now ≤ 1048576 }

@@ -123,13 +123,13 @@ impl Engine {
         ensures layout { IfOk result (λ _. cpu.new.layout ≡ script.now.layout) }
         ensures number { cpu.new.number ≡ cpu.old.number }
     {
-        let count = script.blocks.len();
-        let mut pool = AreaPool::open(alloc, &script.layout, count as u32, script.large)?;
-        let tasks = open_tasks(alloc, &script.layout, &mut pool, count)?;
         let Some(room) = most_events(script.blocks.as_slice()) else {
             return Err(AllocError);
         };
         let events = Vec::with_capacity(alloc, room)?;
+        let count = script.blocks.len();
+        let mut pool = AreaPool::open(alloc, &script.layout, count as u32, script.large)?;
+        let tasks = open_tasks(alloc, &script.layout, &mut pool, count)?;
         cpu.set_up(&script.layout);
         Ok(Engine {
             tasks,

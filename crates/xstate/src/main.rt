@@ -39,13 +39,13 @@ fn main(rt: HostRuntime) -> ExitCode {
 /// Answers the command line, and flushes.
 fn answer(rt: &HostRuntime) -> Status {
     let alloc = rt.alloc();
+    let Ok(mut cpus) = processors(alloc) else {
+        return Status::NoMemory;
+    };
     let Ok(words) = command_line(rt) else {
         return Status::NoMemory;
     };
     let Ok(mut sink) = StdSink::open(alloc, io::writer(rt)) else {
-        return Status::NoMemory;
-    };
-    let Ok(mut cpus) = processors(alloc) else {
         return Status::NoMemory;
     };
     let mut source = StdSource::new(rt.reader());

@@ -12,7 +12,7 @@ whole : (c : goal.After-self-1) → length c.make_initial.new.area ≡ c.in_ok-b
 whole c = omega arith
 
 pub returns-clause-stands : goal.returns-clause-stands
-returns-clause-stands c = rw (with_items_is c.in_ok-bytes.bytes c.make_initial.new.area (whole c), ← (rows_are c)) c.make_initial.ensures.stands
+returns-clause-stands c _ = rw (with_items_is c.in_ok-bytes.bytes c.make_initial.new.area (whole c), ← (rows_are c)) c.make_initial.ensures.stands
 
 pub returns-clause-loadable : goal.returns-clause-loadable
 returns-clause-loadable c = rw (with_items_is c.in_ok-bytes.bytes c.make_initial.new.area (whole c), ← (rows_are c)) (c.make_initial.ensures.loadable _ (λ none. omega arith))

@@ -1,5 +1,5 @@
 use Rattle.xs_script.specs.Refusal.{unbuilt_words}
-use Rattle.xs_script.proofs.line_reader.is_unbuilt_word.Goals as goal
+use Rattle.xs_script.proofs.built.is_unbuilt_word.Goals as goal
 
 pub returns : goal.returns
 unfolding unbuilt_words
