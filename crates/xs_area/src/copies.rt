@@ -5,7 +5,7 @@ ghost use Rattle.xs_base.specs.declared.component.Row.{Row};
 ghost use Rattle.xs_base.specs.Area.{StandsFor, HasPlaces, IsOfParts, IsCut, KeepsForm, has_room, is_named, control_in};
 ghost use Rattle.xs_base.specs.Bytes.{splice, zeros};
 ghost use Rattle.xs_base.specs.Compact.{is_compacted, place};
-ghost use Rattle.xs_base.specs.Component.{initial_mxcsr};
+ghost use Rattle.xs_base.specs.Component.{pkru_number, sse_number, initial_mxcsr};
 ghost use Rattle.xs_base.specs.File.{File, IsFile, initial_file, is_own};
 ghost use Rattle.xs_base.specs.Header as header;
 ghost use Rattle.xs_base.specs.Layout.{IsLayout, IsSound};
@@ -22,14 +22,14 @@ use xs_base::{
 };
 use xs_layout::{Cursor, Layout};
 
-/// Makes the area stand for the parts of an image in the standard format, `bytes`, and what they lack is initial: its XSTATE_BV becomes the bits
-/// without PKRU, in a compacted area with bit 1 also where MXCSR isn't initial. The id, the length, XCOMP_BV and bytes
-/// 528 to 575 of the area stay. The area has at least 576 bytes and room for component 1 and for each component of the
-/// bits but PKRU; `bytes` has the standard place of each component of the bits.
+/// Makes the area stand for the parts of an image in the standard format, `bytes`, and what they lack is initial: its
+/// XSTATE_BV becomes the bits without PKRU, in a compacted area with bit 1 also where MXCSR isn't initial. The id, the
+/// length, XCOMP_BV and bytes 528 to 575 of the area stay. The area has at least 576 bytes and room for component 1 and
+/// for each component of the bits but PKRU; `bytes` has the standard place of each component of the bits.
 pub fn compact_of(layout: &Layout, bytes: &[u8], parts: &Parts, area: &mut Area)
     requires header { 576 ≤ length area.old.bytes.items }
-    requires sse { has_room layout.now area.old.bytes.items 1 ≡ true }
-    requires room { (c : ℕ) → (c ≡ 9 → ⊥) → has parts.now.bits.0 c ≡ true → has_room layout.now area.old.bytes.items c ≡ true }
+    requires sse { has_room layout.now area.old.bytes.items sse_number ≡ true }
+    requires room { (c : ℕ) → (c ≡ pkru_number → ⊥) → has parts.now.bits.0 c ≡ true → has_room layout.now area.old.bytes.items c ≡ true }
     requires places { (i : ℕ) (r : Row) → slice_get layout.now i ≡ Some r → has parts.now.bits.0 r.comp.0 ≡ true → r.offset + r.size ≤ length bytes.now }
     ensures stands { (file : File) → IsFile file → IsOfParts layout.now bytes.now parts.now (initial_file layout.now) file → StandsFor layout.now area.new.bytes.items file }
     ensures bits { (c : ℕ) → has (header.xstate_bv area.new.bytes.items) c ≡ is_named layout.now area.old.bytes.items parts.now.bits.0 parts.now.mxcsr c }
@@ -104,7 +104,7 @@ pub fn copied_of(layout: &Layout, to: &[u8], set: Features) -> Features
 
 /// Whether a component is copied that there is room for, or not: it is of the set, and isn't PKRU.
 fn is_copied(set: Features, c: Comp, room: bool) -> bool
-    ensures { result ≡ (has set.0 c.0 && not (c.0 == 9) && room) }
+    ensures { result ≡ (has set.0 c.0 && not (c.0 == pkru_number) && room) }
 {
     set.has(c) && c != Comp::PKRU && room
 }

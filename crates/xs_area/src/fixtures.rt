@@ -2,6 +2,7 @@
 
 ghost use Rattle.std.specs.Prelude.{◌≡◌, ◌≤◌, ℕ, true, length};
 ghost use Rattle.xs_base.specs.Area.{has_room};
+ghost use Rattle.xs_base.specs.Component.{pkru_number, sse_number};
 ghost use Rattle.xs_base.specs.Sets.{has};
 
 use crate::copies::copied_of;
@@ -145,8 +146,8 @@ pub fn compact(layout: &Layout, bytes: &[u8], parts: &Parts, area: &mut Area) ->
 /// The area has room for SSE and for each component of the set but PKRU.
 fn has_room_for(layout: &Layout, area: &[u8], set: Features) -> bool
     requires { 576 ≤ length area.now }
-    ensures sse { result ≡ true → has_room layout.now area.now 1 ≡ true }
-    ensures each { result ≡ true → (c : ℕ) → (c ≡ 9 → ⊥) → has set.0 c ≡ true → has_room layout.now area.now c ≡ true }
+    ensures sse { result ≡ true → has_room layout.now area.now sse_number ≡ true }
+    ensures each { result ≡ true → (c : ℕ) → (c ≡ pkru_number → ⊥) → has set.0 c ≡ true → has_room layout.now area.now c ≡ true }
 {
     let wanted = set.with(Comp::SSE, true).with(Comp::PKRU, true);
     let copied = copied_of(layout, area, wanted);

@@ -7,8 +7,7 @@ ghost use Rattle.xs_base.specs.Area.{IsOfParts, IsCut};
 ghost use Rattle.xs_base.specs.File.{File, IsFile};
 
 /// Any parts are those of a file over any base file, whatever the bytes of the image are, so `compact_of` always speaks
-/// of one. A call does
-/// nothing.
+/// of one: its base is the initial file, which `xs_base::the_initial_file_is_valid` tells of. A call does nothing.
 pub fn parts_have_a_file()
     ensures { (rows : List Row) (bytes : List ℕ) (parts : Parts) (base : File) → IsFile base → base.rows ≡ rows → parts.mxcsr < 2 ^ 32 → (file : File) × IsFile file × IsOfParts rows bytes parts base file }
 {}

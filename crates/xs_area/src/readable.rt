@@ -23,7 +23,7 @@ pub fn stands(layout: &Layout, area: &Area) -> bool
     if bytes.len() < 576 {
         return false;
     }
-    if !is_known(layout, xstate_bv(bytes)) {
+    if !is_of_machine(layout, xstate_bv(bytes)) {
         return false;
     }
     has_rows(layout, bytes)
@@ -55,7 +55,7 @@ fn has_named_rows(layout: &Layout, bytes: &[u8]) -> bool
 }
 
 /// Whether the machine has each component of the set.
-fn is_known(layout: &Layout, bits: u64) -> bool
+fn is_of_machine(layout: &Layout, bits: u64) -> bool
     ensures { result ≡ (bit_and bits (features layout.now) == bits) }
 {
     bits & layout.features().0 == bits
