@@ -6,7 +6,7 @@ use Rattle.xs_base.specs.declared.component.Row.{Row}
 use Rattle.xs_base.specs.declared.component.Place.{Place}
 use Rattle.xs_base.specs.Area.{StandsFor, HasPlaces}
 use Rattle.xs_base.specs.Compact.{compacted}
-use Rattle.xs_base.specs.Component.{initial_part}
+use Rattle.xs_base.specs.Component.{initial_part, tiledata_number}
 use Rattle.xs_base.specs.File.{File, IsFile, AreSameButPkru, part, read_place}
 use Rattle.xs_base.specs.Header.{xcomp_bv}
 use Rattle.xs_base.specs.KernelArea.{class_features, class_size, IsLoadable}
@@ -36,7 +36,7 @@ use Rattle.xstate.specs.Turns.{SavedTask, fresh, task_at, with_task, body_at, Is
 -- The bank is set up for the machine: TILEDATA is armed where the machine has it.
 pub record IsSetUp (rows : List Row) (bank : banks.Bank) : Type 0 where
   pub rows_are : bank.file.rows ≡ rows
-  pub armed : bank.armed ≡ (if has_row rows 18 then tiles else 0)
+  pub armed : bank.armed ≡ (if has_row rows tiledata_number then tiles else 0)
 
 -- The processor keeps its number and its machine.
 pub record IsSameProcessor {B : Type 0} (old new : Cpu B) : Type 0 where
@@ -55,7 +55,7 @@ pub record IsTaskFile (rows : List Row) (file : File) : Type 0 where
   pub is_file : IsFile file
   pub rows_are : file.rows ≡ rows
   pub control : file.mxcsr < 2 ^ 16
-  pub tiles_are : part file 18 ≡ initial_part 18
+  pub tiles_are : part file tiledata_number ≡ initial_part tiledata_number
 
 -- The area is a Small one of the compacted format, which has a header and can be loaded.
 pub record IsTaskArea (rows : List Row) (lease : Lease) : Type 0 where
