@@ -1,6 +1,5 @@
--- Every text passes or is refused by a line, and lines that pass have known registers or a first command that fails. What
--- isn't decided here, whether a text has a first line and a register a place, needs no decision where nothing follows.
-use Rattle.std.proofs.Common.{◌≡◌, ℕ, zero, suc, ◌+◌, ◌<◌, ◌≤◌, ◌^◌, Bool, true, false, List, [], ◌∷◌, ◌++◌, length, Option, Some, None, Result, Ok, Err, refl, sym, ◌∙◌, ap, subst, arith, length-append}
+-- Every text passes or is refused by a line, and lines that pass have known registers or a first command that fails.
+use Rattle.std.proofs.Common.{◌≡◌, ◌⊎◌, ℕ, zero, suc, ◌+◌, ◌<◌, ◌≤◌, ◌^◌, Bool, true, false, List, [], ◌∷◌, ◌++◌, length, Option, Some, None, Result, Ok, Err, inl, inr, refl, sym, ◌∙◌, ap, subst, arith, length-append}
 use Rattle.std.proofs.lemmas.List.{append_assoc, append-nil}
 use Rattle.std.specs.List.{AllByRecursion, flat_map}
 use Rattle.xs_base.specs.declared.component.Row.{Row}
@@ -25,6 +24,8 @@ use Rattle.xs_script.specs.Refusal as refusals
 use Rattle.xs_script.specs.Refusal.{AreLines, Early, Misspelled, Misplaced, Fails, Table, Here, table_fault, is_unbuilt, RefusesLine, Passes, table_of, IsKnown, IsKnownCommand, CommandFails, Refuses, ByLine, ByCommand}
 use Rattle.xs_script.specs.Front.{IsFront}
 use Rattle.xs_script.proofs.Fronts.{front_push, front_none}
+use Rattle.xs_script.proofs.Decisions.{first_or_none}
+use Rattle.xs_script.proofs.Places.{place_or_none}
 use Rattle.xs_script.proofs.BodyLines.{all_push}
 use Rattle.xs_script.proofs.Numbering.{blocks_rise}
 use Rattle.xs_script.proofs.KnownLines.{all_parts, names_fit, blocks_known}
@@ -33,96 +34,110 @@ use Rattle.xs_script.proofs.ReadScripts.{AreLater, IsMachine, blocks_read, scrip
 
 -- ---- the first pass
 
--- a table that fails is a refusal
-step_table : (stand : Stand) (number : ℕ) (rest : List ℕ) (t : Option LayoutError) → table_fault stand rest ≡ t → ((n : ℕ) (kind : Kind) → Fails stand number rest n kind → ⊥) → (table_fault stand rest ≡ None → ⊥) → ⊥
-step_table stand number rest (Some e) is fails go = fails 2 (Layout e) (Table e is)
-step_table stand number rest None is fails go = go is
+-- what follows from each case
+module _ (A : Type 0) where
+  -- a table that fails is a refusal
+  step_table : (stand : Stand) (number : ℕ) (rest : List ℕ) (t : Option LayoutError) → table_fault stand rest ≡ t → ((n : ℕ) (kind : Kind) → Fails stand number rest n kind → A) → (table_fault stand rest ≡ None → A) → A
+  step_table stand number rest (Some e) is fails go = fails 2 (Layout e) (Table e is)
+  step_table stand number rest None is fails go = go is
 
--- so is a form that isn't built
-step_unbuilt : (stand : Stand) (number : ℕ) (rest : List ℕ) (b : Bool) → is_unbuilt rest ≡ b → table_fault stand rest ≡ None → ((n : ℕ) (kind : Kind) → Fails stand number rest n kind → ⊥) → (is_unbuilt rest ≡ false → ⊥) → ⊥
-step_unbuilt stand number rest true is none fails go = fails number NotBuilt (Here NotBuilt none (refusals.Unbuilt is))
-step_unbuilt stand number rest false is none fails go = go is
+  -- so is a form that isn't built
+  step_unbuilt : (stand : Stand) (number : ℕ) (rest : List ℕ) (b : Bool) → is_unbuilt rest ≡ b → table_fault stand rest ≡ None → ((n : ℕ) (kind : Kind) → Fails stand number rest n kind → A) → (is_unbuilt rest ≡ false → A) → A
+  step_unbuilt stand number rest true is none fails go = fails number NotBuilt (Here NotBuilt none (refusals.Unbuilt is))
+  step_unbuilt stand number rest false is none fails go = go is
 
--- a line leads on or is refused
-step_next : (stand : Stand) (number : ℕ) (rest more : List ℕ) (l : Line) (r : Result Stand Kind) → next stand l ≡ r → table_fault stand rest ≡ None → is_unbuilt rest ≡ false → IsLine l → rest ≡ line_text l ++ 10 ∷ more → ((n : ℕ) (kind : Kind) → Fails stand number rest n kind → ⊥) → ((mid : Stand) → next stand l ≡ Ok mid → ⊥) → ⊥
-step_next stand number rest more l (Ok mid) is none built fits e fails go = go mid is
-step_next stand number rest more l (Err kind) is none built fits e fails go = fails number kind (Here kind none (Misplaced l more kind built fits e is))
+  -- a line leads on or is refused
+  step_next : (stand : Stand) (number : ℕ) (rest more : List ℕ) (l : Line) (r : Result Stand Kind) → next stand l ≡ r → table_fault stand rest ≡ None → is_unbuilt rest ≡ false → IsLine l → rest ≡ line_text l ++ 10 ∷ more → ((n : ℕ) (kind : Kind) → Fails stand number rest n kind → A) → ((mid : Stand) → next stand l ≡ Ok mid → A) → A
+  step_next stand number rest more l (Ok mid) is none built fits e fails go = go mid is
+  step_next stand number rest more l (Err kind) is none built fits e fails go = fails number kind (Here kind none (Misplaced l more kind built fits e is))
 
--- the end passes or is refused
-step_end : (text : List ℕ) (ls : List Line) (stand : Stand) (b : Bool) → may_end stand ≡ b → table_fault stand [] ≡ None → IsFront AtVersion text ls stand [] → ((n : ℕ) (kind : Kind) → Fails stand (length ls + 1) [] n kind → ⊥) → ((ls : List Line) → Passes text ls → ⊥) → ⊥
-step_end text ls stand true is none front fails passed = passed ls (record {
-  lines_fit = front.lines_fit;
-  spelled = front.parts ∙ append-nil (lines_text ls);
-  stand = stand;
-  leads = front.leads;
-  whole = is;
-})
-step_end text ls stand false is none front fails passed = fails (length ls + 1) BadLine (Here BadLine none (Early refl is))
+  -- the end passes or is refused
+  step_end : (text : List ℕ) (ls : List Line) (stand : Stand) (b : Bool) → may_end stand ≡ b → table_fault stand [] ≡ None → IsFront AtVersion text ls stand [] → ((n : ℕ) (kind : Kind) → Fails stand (length ls + 1) [] n kind → A) → ((ls : List Line) → Passes text ls → A) → A
+  step_end text ls stand true is none front fails passed = passed ls (record {
+    lines_fit = front.lines_fit;
+    spelled = front.parts ∙ append-nil (lines_text ls);
+    stand = stand;
+    leads = front.leads;
+    whole = is;
+  })
+  step_end text ls stand false is none front fails passed = fails (length ls + 1) BadLine (Here BadLine none (Early refl is))
 
--- what comes after a front, with fewer bytes than the fuel
-walk : (text : List ℕ) (fuel : ℕ) (rest : List ℕ) (ls : List Line) (stand : Stand) → length rest < fuel → IsFront AtVersion text ls stand rest → ((n : ℕ) (kind : Kind) → RefusesLine text n kind → ⊥) → ((ls : List Line) → Passes text ls → ⊥) → ⊥
-walk text zero rest ls stand room front refused passed = absurd (omega arith)
-walk text (suc fuel) [] ls stand room front refused passed =
-    let fails = λ (n : ℕ) (kind : Kind) (f : Fails stand (length ls + 1) [] n kind). refused n kind (record { done = ls; rest = []; stand = stand; lines_fit = front.lines_fit; parts = front.parts; leads = front.leads; fails = f }) in
-    step_table stand (length ls + 1) [] (table_fault stand []) refl fails (λ none. step_end text ls stand (may_end stand) refl none front fails passed)
-walk text (suc fuel) (b ∷ bs) ls stand room front refused passed =
-    let rest = b ∷ bs in
-    let fails = λ (n : ℕ) (kind : Kind) (f : Fails stand (length ls + 1) rest n kind). refused n kind (record { done = ls; rest = rest; stand = stand; lines_fit = front.lines_fit; parts = front.parts; leads = front.leads; fails = f }) in
-    step_table stand (length ls + 1) rest (table_fault stand rest) refl fails (λ none.
-    step_unbuilt stand (length ls + 1) rest (is_unbuilt rest) refl none fails (λ built.
-    fails (length ls + 1) BadLine (Here BadLine none (Misspelled (λ e. cc e) built (λ l more fits e.
-    step_next stand (length ls + 1) rest more l (next stand l) refl none built fits e fails (λ mid leads.
-    let long : length rest ≡ length (line_text l) + length (10 ∷ more) = ap length e ∙ length-append (line_text l) (10 ∷ more) in
-    walk text fuel more (ls ++ l ∷ []) mid (omega (arith, long)) (front_push AtVersion stand mid text rest more ls l front fits e leads) refused passed))))))
+  -- what comes after a front, with fewer bytes than the fuel
+  walk : (text : List ℕ) (fuel : ℕ) (rest : List ℕ) (ls : List Line) (stand : Stand) → length rest < fuel → IsFront AtVersion text ls stand rest → ((n : ℕ) (kind : Kind) → RefusesLine text n kind → A) → ((ls : List Line) → Passes text ls → A) → A
+  walk text zero rest ls stand room front refused passed = absurd (omega arith)
+  walk text (suc fuel) [] ls stand room front refused passed =
+      let fails = λ (n : ℕ) (kind : Kind) (f : Fails stand (length ls + 1) [] n kind). refused n kind (record { done = ls; rest = []; stand = stand; lines_fit = front.lines_fit; parts = front.parts; leads = front.leads; fails = f }) in
+      step_table stand (length ls + 1) [] (table_fault stand []) refl fails (λ none. step_end text ls stand (may_end stand) refl none front fails passed)
+  walk text (suc fuel) (b ∷ bs) ls stand room front refused passed =
+      let rest = b ∷ bs in
+      let fails = λ (n : ℕ) (kind : Kind) (f : Fails stand (length ls + 1) rest n kind). refused n kind (record { done = ls; rest = rest; stand = stand; lines_fit = front.lines_fit; parts = front.parts; leads = front.leads; fails = f }) in
+      step_table stand (length ls + 1) rest (table_fault stand rest) refl fails (λ none.
+      step_unbuilt stand (length ls + 1) rest (is_unbuilt rest) refl none fails (λ built.
+      elim (first_or_none rest) [
+        | inr other ↦ fails (length ls + 1) BadLine (Here BadLine none (Misspelled (λ e. cc e) built other))
+        | inl h ↦
+            let e = h.3 in
+            step_next stand (length ls + 1) rest h.1 h.0 (next stand h.0) refl none built h.2 e fails (λ mid leads.
+            let long : length rest ≡ length (line_text h.0) + length (10 ∷ h.1) = ap length e ∙ length-append (line_text h.0) (10 ∷ h.1) in
+            walk text fuel h.1 (ls ++ h.0 ∷ []) mid (omega (arith, long)) (front_push AtVersion stand mid text rest h.1 ls h.0 front h.2 e leads) refused passed)
+      ]))
 
 -- A text passes or is refused by a line.
-pub passes_or_not : (text : List ℕ) → ((n : ℕ) (kind : Kind) → RefusesLine text n kind → ⊥) → ((ls : List Line) → Passes text ls → ⊥) → ⊥
-passes_or_not text refused passed = walk text (suc (length text)) text [] AtVersion (omega arith) (front_none AtVersion text) refused passed
+pub passes_or_not : (text : List ℕ) → ((n : ℕ) × (kind : Kind) × RefusesLine text n kind) ⊎ ((ls : List Line) × Passes text ls)
+passes_or_not text = walk _ text (suc (length text)) text [] AtVersion (omega arith) (front_none AtVersion text) (λ n kind r. inl (n, kind, r)) (λ ls p. inr (ls, p))
 
 -- ---- the second pass
 
-step_value : (rows : List Row) (reg bytes : List ℕ) (place : Place) (b : Bool) → fits_register place bytes ≡ b → IsRegister rows reg place → is_built place ≡ true → AllByRecursion (λ byte. byte < 256) bytes → (IsKnownCommand rows (commands.Set reg bytes) → ⊥) → ((kind : Kind) → CommandFails rows (commands.Set reg bytes) kind → ⊥) → ⊥
-step_value rows reg bytes place true is here built small known fails = known ((place, here, is, small), (place, here.0, built))
-step_value rows reg bytes place false is here built small known fails = fails BadLine (refusals.Misfit reg bytes place here built is)
+-- what follows from each case
+module _ (A : Type 0) where
+  -- a value fits its register or fails
+  step_value : (rows : List Row) (reg bytes : List ℕ) (place : Place) (b : Bool) → fits_register place bytes ≡ b → IsRegister rows reg place → is_built place ≡ true → AllByRecursion (λ byte. byte < 256) bytes → (IsKnownCommand rows (commands.Set reg bytes) → A) → ((kind : Kind) → CommandFails rows (commands.Set reg bytes) kind → A) → A
+  step_value rows reg bytes place true is here built small known fails = known ((place, here, is, small), (place, here.0, built))
+  step_value rows reg bytes place false is here built small known fails = fails BadLine (refusals.Misfit reg bytes place here built is)
 
-step_place : (rows : List Row) (command : Command) (place : Place) (b : Bool) → is_built place ≡ b → ((kind : Kind) → CommandFails rows command kind → ⊥) → ((is_built place ≡ false) → CommandFails rows command NotBuilt) → (is_built place ≡ true → ⊥) → ⊥
-step_place rows command place true is fails unbuilt go = go is
-step_place rows command place false is fails unbuilt go = fails NotBuilt (unbuilt is)
+  -- a place is one that is built, or the command fails
+  step_place : (rows : List Row) (command : Command) (place : Place) (b : Bool) → is_built place ≡ b → ((kind : Kind) → CommandFails rows command kind → A) → ((is_built place ≡ false) → CommandFails rows command NotBuilt) → (is_built place ≡ true → A) → A
+  step_place rows command place true is fails unbuilt go = go is
+  step_place rows command place false is fails unbuilt go = fails NotBuilt (unbuilt is)
 
--- A command is known or fails.
-known_or_fails : (rows : List Row) (command : Command) → IsCommandLine command → (IsKnownCommand rows command → ⊥) → ((kind : Kind) → CommandFails rows command kind → ⊥) → ⊥
-known_or_fails rows (commands.Set reg bytes) fits known fails =
-    fails UnknownName (refusals.Unknown (commands.Set reg bytes) (λ place here.
-    step_place rows (commands.Set reg bytes) place (is_built place) refl fails (refusals.Unbuilt (commands.Set reg bytes) place here) (λ built.
-    step_value rows reg bytes place (fits_register place bytes) refl here built fits.2 known fails)))
-known_or_fails rows (commands.Get reg) fits known fails =
-    fails UnknownName (refusals.Unknown (commands.Get reg) (λ place here.
-    step_place rows (commands.Get reg) place (is_built place) refl fails (refusals.Unbuilt (commands.Get reg) place here) (λ built.
-    known ((place, here), (place, here.0, built)))))
+  -- A command is known or fails.
+  known_or_fails : (rows : List Row) (command : Command) → IsCommandLine command → (IsKnownCommand rows command → A) → ((kind : Kind) → CommandFails rows command kind → A) → A
+  known_or_fails rows (commands.Set reg bytes) fits known fails = elim (place_or_none rows reg) [
+    | inr none ↦ fails UnknownName (refusals.Unknown (commands.Set reg bytes) none)
+    | inl p ↦
+        step_place rows (commands.Set reg bytes) p.0 (is_built p.0) refl fails (refusals.Unbuilt (commands.Set reg bytes) p.0 p.1) (λ built.
+        step_value rows reg bytes p.0 (fits_register p.0 bytes) refl p.1 built fits.2 known fails)
+  ]
+  known_or_fails rows (commands.Get reg) fits known fails = elim (place_or_none rows reg) [
+    | inr none ↦ fails UnknownName (refusals.Unknown (commands.Get reg) none)
+    | inl p ↦
+        step_place rows (commands.Get reg) p.0 (is_built p.0) refl fails (refusals.Unbuilt (commands.Get reg) p.0 p.1) (λ built.
+        known ((p.0, p.1), (p.0, p.1.0, built)))
+  ]
 
--- so a line is known, or is a command that fails
-line_known_or_fails : (rows : List Row) (l : Line) → IsLine l → (IsKnown rows l → ⊥) → ((command : Command) (kind : Kind) → l ≡ lines.Order command → CommandFails rows command kind → ⊥) → ⊥
-line_known_or_fails rows lines.Version fits known fails = known tt
-line_known_or_fails rows (lines.Machine named) fits known fails = known tt
-line_known_or_fails rows (lines.Row r) fits known fails = known tt
-line_known_or_fails rows (lines.Cpus n) fits known fails = known tt
-line_known_or_fails rows (lines.Quantum n) fits known fails = known tt
-line_known_or_fails rows (lines.Large n) fits known fails = known tt
-line_known_or_fails rows (lines.Task name) fits known fails = known tt
-line_known_or_fails rows (lines.Order command) fits known fails = known_or_fails rows command fits known (λ kind f. fails command kind refl f)
-line_known_or_fails rows lines.End fits known fails = known tt
+  -- so a line is known, or is a command that fails
+  line_known_or_fails : (rows : List Row) (l : Line) → IsLine l → (IsKnown rows l → A) → ((command : Command) (kind : Kind) → l ≡ lines.Order command → CommandFails rows command kind → A) → A
+  line_known_or_fails rows lines.Version fits known fails = known tt
+  line_known_or_fails rows (lines.Machine named) fits known fails = known tt
+  line_known_or_fails rows (lines.Row r) fits known fails = known tt
+  line_known_or_fails rows (lines.Cpus n) fits known fails = known tt
+  line_known_or_fails rows (lines.Quantum n) fits known fails = known tt
+  line_known_or_fails rows (lines.Large n) fits known fails = known tt
+  line_known_or_fails rows (lines.Task name) fits known fails = known tt
+  line_known_or_fails rows (lines.Order command) fits known fails = known_or_fails rows command fits known (λ kind f. fails command kind refl f)
+  line_known_or_fails rows lines.End fits known fails = known tt
 
--- Lines are known, or one of them is the first command that fails.
-pub lines_known_or_fail : (rows : List Row) (done ls : List Line) → AllByRecursion (IsKnown rows) done → AreLines ls → (AllByRecursion (IsKnown rows) (done ++ ls) → ⊥) → ((d : List Line) (command : Command) (later : List Line) (kind : Kind) → done ++ ls ≡ d ++ lines.Order command ∷ later → AllByRecursion (IsKnown rows) d → CommandFails rows command kind → ⊥) → ⊥
-lines_known_or_fail rows done [] before fits known fails = known (subst (λ (xs : List Line). AllByRecursion (IsKnown rows) xs) (sym (append-nil done)) before)
-lines_known_or_fail rows done (l ∷ ls) before fits known fails =
-    line_known_or_fails rows l fits.0
-    (λ here.
-    let same : (done ++ l ∷ []) ++ ls ≡ done ++ l ∷ ls = append_assoc done (l ∷ []) ls in
-    lines_known_or_fail rows (done ++ l ∷ []) ls (all_push (IsKnown rows) done l before here) fits.1
-    (λ all. known (subst (λ (xs : List Line). AllByRecursion (IsKnown rows) xs) same all))
-    (λ d command later kind e front f. fails d command later kind (sym same ∙ e) front f))
-    (λ command kind is f. fails done command ls kind (ap (λ (x : Line). done ++ x ∷ ls) is) before f)
+  -- Lines are known, or one of them is the first command that fails.
+  pub lines_known_or_fail : (rows : List Row) (done ls : List Line) → AllByRecursion (IsKnown rows) done → AreLines ls → (AllByRecursion (IsKnown rows) (done ++ ls) → A) → ((d : List Line) (command : Command) (later : List Line) (kind : Kind) → done ++ ls ≡ d ++ lines.Order command ∷ later → AllByRecursion (IsKnown rows) d → CommandFails rows command kind → A) → A
+  lines_known_or_fail rows done [] before fits known fails = known (subst (λ (xs : List Line). AllByRecursion (IsKnown rows) xs) (sym (append-nil done)) before)
+  lines_known_or_fail rows done (l ∷ ls) before fits known fails =
+      line_known_or_fails rows l fits.0
+      (λ here.
+      let same : (done ++ l ∷ []) ++ ls ≡ done ++ l ∷ ls = append_assoc done (l ∷ []) ls in
+      lines_known_or_fail rows (done ++ l ∷ []) ls (all_push (IsKnown rows) done l before here) fits.1
+      (λ all. known (subst (λ (xs : List Line). AllByRecursion (IsKnown rows) xs) same all))
+      (λ d command later kind e front f. fails d command later kind (sym same ∙ e) front f))
+      (λ command kind is f. fails done command ls kind (ap (λ (x : Line). done ++ x ∷ ls) is) before f)
 
 -- ---- both passes
 
@@ -196,20 +211,25 @@ machine_spells text ls short p m known =
 known_spells : (text : List ℕ) (ls : List Line) → length text ≤ 1048576 → Passes text ls → AllByRecursion (IsKnown (table_of ls)) ls → (script : Script) × Spells text script
 known_spells text ls short p known = machine_spells text ls short p (script_read ls p.stand p.leads p.whole) known
 
--- A text within the limit that spells no script and isn't refused doesn't exist.
-pub every_text : (text : List ℕ) → length text ≤ 1048576 → ((script : Script) → Spells text script → ⊥) → ((number : ℕ) (kind : Kind) → Refuses text number kind → ⊥) → ⊥
-every_text text short spelled refused =
-    passes_or_not text (λ n kind r. refused n kind (ByLine r)) (λ ls p.
-    lines_known_or_fail (table_of ls) [] ls tt p.lines_fit
-    (λ known. let s = known_spells text ls short p known in spelled s.0 s.1)
-    (λ d command later kind e front f.
-    let table : table_of ls ≡ table_of (d ++ lines.Order command ∷ later) = ap table_of e in
-    refused (length d + 1) kind (ByCommand (record {
-      done = d;
-      command = command;
-      later = later;
-      passes = subst (λ (xs : List Line). Passes text xs) e p;
-      known = subst (λ (rows : List Row). AllByRecursion (IsKnown rows) d) table front;
-      fails = subst (λ (rows : List Row). CommandFails rows command kind) table f;
-      number_is = refl;
-    }))))
+-- A text within the limit spells a script or is refused.
+pub every_text : (text : List ℕ) → length text ≤ 1048576 → ((script : Script) × Spells text script) ⊎ ((number : ℕ) × (kind : Kind) × Refuses text number kind)
+every_text text short = elim (passes_or_not text) [
+  | inl r ↦ inr (r.0, r.1, ByLine r.2)
+  | inr p ↦ lines_known_or_fail _ (table_of p.0) [] p.0 tt p.1.lines_fit
+      (λ known. inl (known_spells text p.0 short p.1 known))
+      (λ d command later kind e front f.
+      let table : table_of p.0 ≡ table_of (d ++ lines.Order command ∷ later) = ap table_of e in
+      inr (
+        length d + 1,
+        kind,
+        ByCommand (record {
+          done = d;
+          command = command;
+          later = later;
+          passes = subst (λ (xs : List Line). Passes text xs) e p.1;
+          known = subst (λ (rows : List Row). AllByRecursion (IsKnown rows) d) table front;
+          fails = subst (λ (rows : List Row). CommandFails rows command kind) table f;
+          number_is = refl;
+        }),
+      ))
+]

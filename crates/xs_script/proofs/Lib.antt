@@ -22,4 +22,6 @@ pub mod WholeScripts
 pub mod OneRefusal
 pub mod SpelledLines
 pub mod ReadScripts
+pub mod Decisions
+pub mod Places
 pub mod EveryText

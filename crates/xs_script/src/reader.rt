@@ -1,6 +1,6 @@
 //! The script reader: the one script that a text spells, or its first refusal.
 
-ghost use Rattle.std.specs.Prelude.{◌≡◌, ℕ, ◌+◌, ◌^◌, ◌<◌, ◌≤◌, List, [], length, IfOk, IfErr};
+ghost use Rattle.std.specs.Prelude.{◌≡◌, ◌⊎◌, ℕ, ◌+◌, ◌^◌, ◌<◌, ◌≤◌, List, [], length, IfOk, IfErr};
 ghost use Rattle.xs_model.specs.declared.script.Script.{Script};
 ghost use Rattle.xs_script.specs.declared.refusal.Kind.{Kind};
 ghost use Rattle.xs_script.specs.Grammar.{Spells};
@@ -62,9 +62,9 @@ pub fn not_both()
     ensures { (text : List ℕ) (script : Script) (n : ℕ) (k : Kind) → Spells text script → Refuses text n k → ⊥ }
 {}
 
-/// No text within the limit neither spells a script nor is refused. A call does nothing.
+/// A text within the limit spells a script or is refused. A call does nothing.
 pub fn every_text()
-    ensures { (text : List ℕ) → length text ≤ 1048576 → ((script : Script) → Spells text script → ⊥) → ((n : ℕ) (k : Kind) → Refuses text n k → ⊥) → ⊥ }
+    ensures { (text : List ℕ) → length text ≤ 1048576 → ((script : Script) × Spells text script) ⊎ ((n : ℕ) × (k : Kind) × Refuses text n k) }
 {}
 
 /// The lines before the blocks, the number of the line after them, and the text from there on.
