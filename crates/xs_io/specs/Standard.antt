@@ -20,8 +20,8 @@ abbrev pub sink_faults : {W : Type 0} → StdSink W → ℕ
 sink_faults sink = sink.faults
 
 -- The bytes that were written to a sink and that it has not handed on.
-abbrev pub held_back : {W : Type 0} → StdSink W → List ℕ
-held_back sink = writer_buffer sink.writer
+abbrev pub buffered : {W : Type 0} → StdSink W → List ℕ
+buffered sink = writer_buffer sink.writer
 
 -- The writer has failed.
 abbrev pub has_failed : {W : Type 0} → FailStop W → Bool

@@ -1,6 +1,6 @@
 //! A writer that stops at its first failure.
 
-ghost use Rattle.std.specs.Prelude.{◌≡◌, ◌≢◌, ◌<◌, true, false, length, IfOk, IfErr, IsErr};
+ghost use Rattle.std.specs.Prelude.{◌≡◌, ◌≢◌, ◌<◌, ◌⊎◌, [], true, false, length, IfOk, IfErr, IsErr};
 ghost use Rattle.std.specs.Io.{WritesAtMost};
 ghost use Rattle.std.specs.Io.KnownBytes.{Keeps, WriteAppends};
 ghost use Rattle.std.specs.IoError.{error_kind};
@@ -38,6 +38,8 @@ impl<W: Write> Write for FailStop<W> {
         ensures stopped { has_failed self.old ≡ true → IsErr result × (self.new ≡ self.old) }
         ensures error { IfErr result (λ error. error_kind error ≢ ErrorKind.Interrupted → has_failed self.new ≡ true) }
         ensures nothing { IfOk result (λ count. count ≡ 0 → 0 < length piece.now → has_failed self.new ≡ true) }
+        ensures goes_on { IfOk result (λ count. (0 < count) ⊎ (piece.now ≡ []) → has_failed self.new ≡ has_failed self.old) }
+        ensures tried_again { IfErr result (λ error. error_kind error ≡ ErrorKind.Interrupted → has_failed self.new ≡ has_failed self.old) }
     {
         if self.failed {
             return Err(Error::from(ErrorKind::BrokenPipe));
@@ -54,6 +56,7 @@ impl<W: Write> Write for FailStop<W> {
         ensures bytes { Keeps (W.contents self.old.writer) (W.contents self.new.writer) }
         ensures stopped { has_failed self.old ≡ true → IsErr result × (self.new ≡ self.old) }
         ensures error { IfErr result (λ _. has_failed self.new ≡ true) }
+        ensures goes_on { IfOk result (λ _. has_failed self.new ≡ has_failed self.old) }
     {
         if self.failed {
             return Err(Error::from(ErrorKind::BrokenPipe));

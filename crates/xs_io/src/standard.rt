@@ -4,7 +4,7 @@ ghost use Rattle.std.specs.Prelude.{◌≡◌, ◌<◌, [], length, IfOk, OnOk, 
 ghost use Rattle.std.specs.Io.{WritesAtMost};
 ghost use Rattle.std.specs.Io.KnownBytes.{Keeps, WriteAppends};
 ghost use Rattle.xs_io.specs.Causes.{HasCause};
-ghost use Rattle.xs_io.specs.Standard.{source_reader, source_faults, sink_writer, sink_faults, held_back};
+ghost use Rattle.xs_io.specs.Standard.{source_reader, source_faults, sink_writer, sink_faults, buffered};
 
 use crate::fail_stop::FailStop;
 use crate::failed::fault;
@@ -59,7 +59,7 @@ impl<W: Write + Drop> StdSink<W> {
     /// A sink over this writer, with no fault so far. The memory of the buffer is taken here.
     pub fn open(alloc: Global, writer: W) -> Result<StdSink<W>, AllocError>
         ensures writer { IfOk result (λ sink. sink_writer sink ≡ writer) }
-        ensures empty { IfOk result (λ sink. held_back sink ≡ []) }
+        ensures empty { IfOk result (λ sink. buffered sink ≡ []) }
         ensures count { IfOk result (λ sink. sink_faults sink ≡ 0) }
     {
         match BufWriter::new(alloc, FailStop::new(writer)) {
@@ -72,7 +72,7 @@ impl<W: Write + Drop> StdSink<W> {
     /// its last write, so this comes before the end.
     pub fn flush(&mut self) -> Result<(), Failed>
         ensures bytes { Keeps (⟦<StdSink<W> as Sink>⟧.written self.old) (⟦<StdSink<W> as Sink>⟧.written self.new) }
-        ensures empty { OnOk result (held_back self.new ≡ []) }
+        ensures empty { OnOk result (buffered self.new ≡ []) }
         ensures cause { HasCause (sink_faults self.old) (sink_faults self.new) result }
         ensures stopped { 0 < sink_faults self.old → IsErr result × (sink_writer self.new ≡ sink_writer self.old) }
     {

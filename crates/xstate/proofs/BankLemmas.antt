@@ -20,7 +20,7 @@ use Rattle.xs_model.specs.declared.script.Command.TheVariants as commands
 use Rattle.xs_model.specs.declared.event.Reply.{Reply}
 use Rattle.xs_model.specs.declared.event.Reply.TheVariants as replies
 use Rattle.xs_model.specs.Script.{IsCommand, is_built}
-use Rattle.xstate.specs.Turns.{FileRuns}
+use Rattle.xstate.proofs.TurnForms.{FileRuns}
 use Rattle.xstate.specs.Engine.{IsTaskFile, IsSetUp, BankRuns}
 use Rattle.xstate.proofs.BuiltRegisters.{built_not_pkru, built_not_config, built_not_tiles, set_length, set_control}
 

@@ -25,7 +25,8 @@ use Rattle.xs_model.specs.Machine.{how_of, goes_on, stage_after}
 use Rattle.xs_model.specs.Script.{IsBuilt, IsCommand}
 use Rattle.xs_model.specs.History.{IsWhole}
 use Rattle.xstate.specs.declared.parked.Parked.{Parked}
-use Rattle.xstate.specs.Turns.{SavedTask, task_at, task_with, with_task, body_at, is_last, AfterLine}
+use Rattle.xstate.specs.Turns.{SavedTask, task_at, task_with, with_task, body_at, is_last}
+use Rattle.xstate.proofs.TurnForms.{AfterLine}
 use Rattle.xstate.specs.Engine.{EngineState, IsSetUp, BankRuns, IsTaskFile, IsTaskArea, has_ended, parked_at, IsParked, AreParked, living, IsPoolOf, HoldsBlock, IsResting, IsTurning, IsPaused, EngineAfterLine, EngineAfterLines, IsLiving, NoneLives}
 use Rattle.xstate.proofs.BankLemmas.{bank_line}
 use Rattle.xstate.proofs.TaskLemmas.{root_large}

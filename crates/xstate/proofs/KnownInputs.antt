@@ -3,6 +3,7 @@ use Rattle.std.proofs.Common.{◌≡◌, ℕ, ◌≤◌, List, ◌++◌, length,
 use Rattle.std.proofs.lemmas.List.{append-nil}
 use Rattle.std.specs.Prelude.{Option}
 use Rattle.std.specs.Io.KnownBytes.{Appends, Consumes, IsAtEnd}
+use Rattle.xs_bank.specs.declared.cpu.Cpu.{Cpu}
 use Rattle.xs_model.specs.declared.script.Script.{Script}
 use Rattle.xstate.specs.declared.status.Status.{Status}
 use Rattle.xstate.specs.declared.status.Status.TheVariants as statuses
@@ -63,25 +64,25 @@ known_read : (input bytes : List ℕ) (before after : Input) → before.left ≡
 known_read input bytes before after is read = known input bytes after.left (rw is at read.taken) read.whole
 
 -- what `run` answers for a script
-pub may_run : (input : List ℕ) (script : Script) (before after : Outside) (result : Status) → NotBoth → before.input.left ≡ Some input → IsAccepted input script → RunEnds before after result → MayRun result
-may_run input script before after statuses.Done not_both is accepted ends = tt
-may_run input script before after statuses.Refused not_both is accepted ends =
+pub may_run : {B : Type 0} (input : List ℕ) (script : Script) (before after : Outside) (old new : List (Cpu B)) (result : Status) → NotBoth → before.input.left ≡ Some input → IsAccepted input script → RunEnds before after old new result → MayRun result
+may_run input script before after old new statuses.Done not_both is accepted ends = tt
+may_run input script before after old new statuses.Refused not_both is accepted ends =
     accepted_refused input ends.input ends.ends.0 script not_both (known_read input ends.input before.input after.input is ends.read) accepted ends.ends.1
-may_run input script before after statuses.ReadFault not_both is accepted ends = tt
-may_run input script before after statuses.WriteFault not_both is accepted ends = tt
-may_run input script before after statuses.NoMemory not_both is accepted ends = tt
-may_run input script before after statuses.Usage not_both is accepted ends = ends
+may_run input script before after old new statuses.ReadFault not_both is accepted ends = tt
+may_run input script before after old new statuses.WriteFault not_both is accepted ends = tt
+may_run input script before after old new statuses.NoMemory not_both is accepted ends = tt
+may_run input script before after old new statuses.Usage not_both is accepted ends = ends
 
 -- what it answers for an input that is refused
-pub may_refuse : (input line : List ℕ) (before after : Outside) (result : Status) → NotBoth → OneRefusal → before.input.left ≡ Some input → IsRefused input line → RunEnds before after result → MayRefuse before.output after.output line result
-may_refuse input line before after statuses.Done not_both one is refused ends =
+pub may_refuse : {B : Type 0} (input line : List ℕ) (before after : Outside) (old new : List (Cpu B)) (result : Status) → NotBoth → OneRefusal → before.input.left ≡ Some input → IsRefused input line → RunEnds before after old new result → MayRefuse before.output after.output line result
+may_refuse input line before after old new statuses.Done not_both one is refused ends =
     let ran = ends.ends.1 in
     refused_accepted input ends.input line ran.script not_both (known_read input ends.input before.input after.input is ends.read) refused ran.accepted
-may_refuse input line before after statuses.Refused not_both one is refused ends =
+may_refuse input line before after old new statuses.Refused not_both one is refused ends =
     let told = ends.ends in
     let same = same_line input ends.input told.0 line one (known_read input ends.input before.input after.input is ends.read) told.1 refused in
     subst (λ (text : List ℕ). Appends before.output.written after.output.written text) same told.2.whole
-may_refuse input line before after statuses.ReadFault not_both one is refused ends = tt
-may_refuse input line before after statuses.WriteFault not_both one is refused ends = tt
-may_refuse input line before after statuses.NoMemory not_both one is refused ends = tt
-may_refuse input line before after statuses.Usage not_both one is refused ends = ends
+may_refuse input line before after old new statuses.ReadFault not_both one is refused ends = tt
+may_refuse input line before after old new statuses.WriteFault not_both one is refused ends = tt
+may_refuse input line before after old new statuses.NoMemory not_both one is refused ends = tt
+may_refuse input line before after old new statuses.Usage not_both one is refused ends = ends

@@ -3,6 +3,7 @@ pub mod Stepping
 pub mod HeldLemmas
 pub mod TaskLemmas
 pub mod BuiltRegisters
+pub mod TurnForms
 pub mod TurnLemmas
 pub mod Opening
 pub mod EngineLoops

@@ -3,7 +3,7 @@ use Rattle.std.proofs.Common.{◌≡◌, ℕ, zero, suc, ◌+◌, ◌<◌, false
 use Rattle.std.proofs.Math.Seq.{get_or-append_seam}
 use Rattle.std.proofs.lemmas.Bool.{cases_eq}
 use Rattle.std.proofs.lemmas.List.{length-replicate, get_or_append_left, get_or-replicate}
-use Rattle.std.specs.Prelude.{Option, None, map}
+use Rattle.std.specs.Prelude.{Option, None, map, replicate}
 use Rattle.std.specs.List.{AllByRecursion}
 use Rattle.xs_base.specs.declared.component.Row.{Row}
 use Rattle.std.specs.Int.{to_le_bytes, w32}
@@ -20,7 +20,7 @@ use Rattle.xs_model.specs.declared.script.Script.{Script}
 use Rattle.xs_model.specs.declared.stage.Stage.TheVariants as stages
 use Rattle.xs_model.specs.Machine.{BlockState, Machine, opening_block, opening_stage}
 use Rattle.xs_model.specs.Script.{IsBuilt}
-use Rattle.xstate.specs.Turns.{fresh, fresh_tasks, task_at, block_at_rest, IsAtRest}
+use Rattle.xstate.specs.Turns.{SavedTask, fresh, task_at, block_at_rest, IsAtRest}
 use Rattle.xs_bank.specs.Bank as banks
 use Rattle.xs_pool.specs.Pool.{Pool}
 use Rattle.xstate.specs.declared.parked.Parked.{Parked}
@@ -29,6 +29,10 @@ use Rattle.xstate.proofs.EngineLemmas.{saved_entry}
 use Rattle.xstate.proofs.SwitchLemmas.{stands_same}
 use Rattle.xstate.proofs.TaskLemmas.{root_fresh}
 use Rattle.xstate.proofs.HeldLemmas.{held_at_first}
+
+-- as many tasks that have had no turn
+abbrev fresh_tasks : List Row → ℕ → List SavedTask
+fresh_tasks rows n = replicate n (fresh rows)
 
 -- a task that has had no turn is a block as it opens
 opens : (rows : List Row) (block : Block) → block.kind ≡ kinds.Task → block_at_rest rows (fresh rows) ≡ opening_block rows block

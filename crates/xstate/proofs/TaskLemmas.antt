@@ -8,7 +8,8 @@ use Rattle.xs_model.specs.declared.script.Command.{Command}
 use Rattle.xs_model.specs.declared.script.Command.TheVariants as commands
 use Rattle.xs_model.specs.declared.event.Reply.{Reply}
 use Rattle.xs_model.specs.Machine.{Runs}
-use Rattle.xstate.specs.Turns.{task_with, FileRuns}
+use Rattle.xstate.specs.Turns.{task_with}
+use Rattle.xstate.proofs.TurnForms.{FileRuns}
 
 -- no handler runs
 pub root_handling : (rows : List Row) → (root_task rows).handling ≡ false

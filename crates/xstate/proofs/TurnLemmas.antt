@@ -22,7 +22,8 @@ use Rattle.xs_model.specs.Held.{held, is_kernel}
 use Rattle.xs_model.specs.Machine.{BlockState, Machine, is_on, how_of, goes_on, Starts, RunsLine, Ends, opening, stage_after, happened}
 use Rattle.xs_model.specs.History.{Run}
 use Rattle.xs_model.specs.Script.{IsBuilt}
-use Rattle.xstate.specs.Turns.{SavedTask, task_at, body_of, body_at, task_with, block_at_rest, block_in_turn, machine_at_rest, machine_in_turn, is_last, IsAtRest, IsInTurn, AfterLine, AfterLines, FileRuns, with_task}
+use Rattle.xstate.specs.Turns.{SavedTask, task_at, body_of, body_at, task_with, block_at_rest, block_in_turn, machine_at_rest, machine_in_turn, is_last, IsAtRest, IsInTurn, with_task}
+use Rattle.xstate.proofs.TurnForms.{AfterLine, AfterLines, FileRuns}
 use Rattle.xstate.proofs.Stepping.{Run-more}
 use Rattle.xstate.proofs.HeldLemmas.{held_after_start, held_after_local, held_after_end}
 use Rattle.xstate.proofs.TaskLemmas.{file_runs, root_handling}

@@ -3,6 +3,7 @@
 -- and a Start is a skip exactly where the bank still holds the task's current state.
 use Rattle.std.specs.Prelude.{◌≡◌, ℕ, false, List, ⊤}
 use Rattle.std.specs.Io.KnownBytes.{Appends, Consumes, IsAtEnd}
+use Rattle.xs_bank.specs.declared.cpu.Cpu.{Cpu}
 use Rattle.xs_model.specs.declared.script.Script.{Script}
 use Rattle.xs_model.specs.declared.event.Event.{Event}
 use Rattle.xs_model.specs.History.{IsWhole, has_kill}
@@ -10,11 +11,11 @@ use Rattle.xstate.specs.declared.status.Status.{Status}
 use Rattle.xstate.specs.declared.status.Status.TheVariants as statuses
 use Rattle.xs_text.specs.Text.{history_text}
 use Rattle.xstate.specs.Outside.{Output, Outside, IsRead}
-use Rattle.xstate.specs.Answers.{IsAccepted, IsRefused}
+use Rattle.xstate.specs.Answers.{IsAccepted, IsRefused, HasMachineOf}
 
 -- The input was read to its end, it is the text of a script, and what was written is the text of a whole history of
--- that script, in which no task was killed.
-pub record Headline (before after : Outside) : Type 0 where
+-- that script, in which no task was killed. The first processor has the machine of that script.
+pub record Headline {B : Type 0} (before after : Outside) (cpus : List (Cpu B)) : Type 0 where
   pub input : List ℕ
   pub read : Consumes before.input.left after.input.left input
   pub ended : IsAtEnd after.input.left
@@ -24,6 +25,7 @@ pub record Headline (before after : Outside) : Type 0 where
   pub whole : IsWhole script history
   pub unkilled : has_kill history ≡ false
   pub text : Appends before.output.written after.output.written (history_text script history)
+  pub machine : HasMachineOf script cpus
 
 -- The input, or its front of one byte more than the limit, is no script, and what was written is the one line that says
 -- why.

@@ -1,21 +1,14 @@
 -- The states of the private machine that an engine of one processor goes through: at rest between two turns, and in a
 -- turn. A task that no turn runs is seen as its register file, its place, and whether it has ended. How the engine's own
 -- state stands for these is in Engine.
-use Rattle.std.specs.Prelude.{◌≡◌, ℕ, ◌+◌, ◌<◌, ◌≤◌, Bool, true, false, ◌==◌, List, [], length, map, replicate, slice_get, slice_index_or, slice_set, Option, Some, None, if◌then◌else◌}
+use Rattle.std.specs.Prelude.{◌≡◌, ℕ, ◌<◌, ◌≤◌, Bool, true, false, ◌==◌, List, [], length, map, slice_get, slice_index_or, slice_set, Option, Some, None, if◌then◌else◌}
 use Rattle.xs_base.specs.declared.component.Row.{Row}
-use Rattle.xs_base.specs.declared.component.Place.{Place}
-use Rattle.xs_base.specs.File.{File, initial_file, read_place, write_place}
-use Rattle.xs_base.specs.Register.{IsRegister}
+use Rattle.xs_base.specs.File.{File, initial_file}
 use Rattle.xs_base.specs.Task.{PrivateTask, root_task, parked}
-use Rattle.xs_model.specs.declared.script.Command.{Command}
-use Rattle.xs_model.specs.declared.script.Command.TheVariants as commands
 use Rattle.xs_model.specs.declared.script.Order.{Order}
 use Rattle.xs_model.specs.declared.script.Block.{Block}
 use Rattle.xs_model.specs.declared.script.Script.{Script}
 use Rattle.xs_model.specs.declared.event.Event.{Event}
-use Rattle.xs_model.specs.declared.event.Reply.{Reply}
-use Rattle.xs_model.specs.declared.event.Reply.TheVariants as replies
-use Rattle.xs_model.specs.declared.stage.Stage.{Stage}
 use Rattle.xs_model.specs.declared.stage.Stage.TheVariants as stages
 use Rattle.xs_model.specs.Held.{held}
 use Rattle.xs_model.specs.Machine.{BlockState, Machine, opening, may_act}
@@ -34,11 +27,6 @@ fresh rows = record { file = (root_task rows).file; place = 0; ended = false }
 -- the task's entry, and one that has ended where there is none
 abbrev pub task_at : List SavedTask → ℕ → SavedTask
 task_at tasks t = slice_index_or tasks t (record { file = initial_file []; place = 0; ended = true })
-
--- What a command does to a register file, and its reply.
-abbrev pub FileRuns : File → Command → Reply → File → Type 0
-FileRuns old (commands.Set reg bytes) reply new = (place : Place) × IsRegister old.rows reg place × (reply ≡ replies.Done) × (new ≡ write_place old place bytes)
-FileRuns old (commands.Get reg) reply new = (place : Place) × IsRegister old.rows reg place × (reply ≡ replies.Bytes (read_place old place)) × (new ≡ old)
 
 -- the private task with this file, place and marks: all else is as at the opening
 abbrev pub task_with : List Row → File → ℕ → ℕ → PrivateTask
@@ -86,15 +74,6 @@ pub record IsInTurn (script : Script) (file : File) (last : Option ℕ) (tasks :
 abbrev pub with_task : List SavedTask → ℕ → File → ℕ → Bool → List SavedTask
 with_task tasks t file place ended = slice_set tasks t (record { file = file; place = place; ended = ended })
 
--- After a line the turn goes on, or it is over and the task is as if it were saved.
-abbrev pub AfterLine : Script → File → Option ℕ → List SavedTask → List Event → ℕ → ℕ → ℕ → Stage → Type 0
-AfterLine script file last tasks history t place ran (stages.Turn cpu more) = (more ≡ ran + 1) × (more < script.quantum) × IsInTurn script file last tasks history t place more
-AfterLine script file last tasks history t place ran stages.Ready = IsAtRest script file last (with_task tasks t file place false) history
-AfterLine script file last tasks history t place ran stages.Unborn = ⊥
-AfterLine script file last tasks history t place ran stages.Stopped = ⊥
-AfterLine script file last tasks history t place ran (stages.Waiting child) = ⊥
-AfterLine script file last tasks history t place ran stages.Ended = ⊥
-
 -- the lines of a block
 abbrev pub body_of : Option Block → List Order
 body_of None = []
@@ -102,15 +81,3 @@ body_of (Some block) = block.body
 
 abbrev pub body_at : Script → ℕ → List Order
 body_at script t = body_of (slice_get script.blocks t)
-
--- After the lines of a turn: the quantum is used up and the task is past the place where it began, or it is at the end
--- of its body with the turn open.
-abbrev pub AfterLines : Script → File → Option ℕ → List SavedTask → List Event → ℕ → ℕ → ℕ → Bool → Type 0
-AfterLines script file last tasks history t from place true =
-    IsAtRest script file last (with_task tasks t file place false) history × (from < place) × (place ≤ length (body_at script t))
-AfterLines script file last tasks history t from place false =
-    (ran : ℕ) × IsInTurn script file last tasks history t place ran × (ran < script.quantum) × (place ≡ length (body_at script t))
-
--- as many tasks that have had no turn
-abbrev pub fresh_tasks : List Row → ℕ → List SavedTask
-fresh_tasks rows n = replicate n (fresh rows)

@@ -1,7 +1,6 @@
 //! The top call: all that the program does, over any source and sink.
 
 ghost use Rattle.std.specs.Prelude.{◌≡◌, ℕ, ◌<◌, List, ◌⊎◌, ◌↔◌, length, map, drop, slice_get, string_bytes, IsTrue, Some};
-ghost use Rattle.std.specs.Io.KnownBytes.{Appends};
 ghost use Rattle.xs_bank.specs.declared.cpu.Cpu.{Cpu};
 ghost use Rattle.xs_bank.specs.Bank.{HasCountedNothing};
 ghost use Rattle.xs_io.specs.Causes.{Rose};
@@ -9,8 +8,8 @@ ghost use Rattle.xs_model.specs.Script.{IsValid, IsBuilt};
 ghost use Rattle.xs_model.specs.declared.script.Script.{Script};
 ghost use Rattle.xs_script.specs.RefusalText.{refusal_text};
 ghost use Rattle.xs_text.specs.Text.{AreTasksKnown, history_text};
-ghost use Rattle.xstate.specs.Outside.{outside, input_of, output_of, TakesAtMost};
-ghost use Rattle.xstate.specs.Answers.{IsRun, IsAccepted, IsRefused, AnswerEnds, TellEnds, RunEnds, WriteEnds, IsCutShort, Unfailed, HasRun, HasReadAndRun, KeepsProcessors, usage_text, too_long_text};
+ghost use Rattle.xstate.specs.Outside.{outside, input_of, output_of, TakesAtMost, Writes, WritesNothing};
+ghost use Rattle.xstate.specs.Answers.{IsRun, IsAccepted, IsRefused, AnswerEnds, TellEnds, RunEnds, WriteEnds, IsCutShort, Unfailed, KeepsProcessors, usage_text, too_long_text};
 ghost use Rattle.xstate.specs.Headline.{Headline, Refusal, MayRun, MayRefuse};
 
 #[cfg(test)]
@@ -54,12 +53,12 @@ pub fn top<S: Source, K: Sink, B: Bank>(
 
     // 64: the words are no command, and the usage line was written. Nothing was read.
     ensures usage { result ≡ Status.Usage → (IsRun (map string_bytes words.now) → ⊥)
-        × Appends (K.written sink.old) (K.written sink.new) usage_text × (S.left source.new ≡ S.left source.old) }
+        × Writes (output_of K.Sink sink.old) (output_of K.Sink sink.new) usage_text × (input_of S.Source source.new ≡ input_of S.Source source.old) }
     // Other words than a command answer nothing else, but that the usage line was not written.
     ensures no_command { (IsRun (map string_bytes words.now) → ⊥) → (result ≡ Status.Usage) ⊎ (result ≡ Status.WriteFault) }
-    // 0: what was written is the text of a whole history of the script that was read.
+    // 0: what was written is the text of a whole history of the script that was read, and the first processor has its machine.
     ensures headline { result ≡ Status.Done → IsRun (map string_bytes words.now)
-        × Headline (outside S.Source K.Sink source.old sink.old) (outside S.Source K.Sink source.new sink.new) }
+        × Headline (outside S.Source K.Sink source.old sink.old) (outside S.Source K.Sink source.new sink.new) cpus.new }
     // 2: what was read is no script, and what was written is the line of its first refusal.
     ensures refused { result ≡ Status.Refused → IsRun (map string_bytes words.now)
         × Refusal (outside S.Source K.Sink source.old sink.old) (outside S.Source K.Sink source.new sink.new) }
@@ -69,17 +68,17 @@ pub fn top<S: Source, K: Sink, B: Bank>(
     ensures refuses { (input line : List ℕ) → S.left source.old ≡ Some input → IsRun (map string_bytes words.now) → IsRefused input line → MayRefuse (output_of K.Sink sink.old) (output_of K.Sink sink.new) line result }
     // 4: only where the source failed in this call, and nothing was written.
     ensures read_fault { result ≡ Status.ReadFault → Rose (S.fault_count source.old) (S.fault_count source.new)
-        × TakesAtMost (input_of S.Source source.old) (input_of S.Source source.new) × (K.written sink.new ≡ K.written sink.old) }
-    // 5: only where the sink failed in this call, and what was written by then is a front of the right output.
-    ensures write_fault { result ≡ Status.WriteFault → IsCutShort (map string_bytes words.now) (outside S.Source K.Sink source.old sink.old) (outside S.Source K.Sink source.new sink.new) }
+        × TakesAtMost (input_of S.Source source.old) (input_of S.Source source.new) × WritesNothing (output_of K.Sink sink.old) (output_of K.Sink sink.new) }
+    // 5: only where the sink failed in this call, and what was written by then is a front of the right output. Where that is
+    // the text of a run, the first processor has the machine of its script; where it is a line, no processor changed.
+    ensures write_fault { result ≡ Status.WriteFault → IsCutShort (map string_bytes words.now) (outside S.Source K.Sink source.old sink.old) (outside S.Source K.Sink source.new sink.new) cpus.old cpus.new }
     // 6: nothing was written. It is the answer to want of memory, for which no clause can ask.
     ensures no_memory { result ≡ Status.NoMemory → IsRun (map string_bytes words.now)
-        × TakesAtMost (input_of S.Source source.old) (input_of S.Source source.new) × (K.written sink.new ≡ K.written sink.old) }
+        × TakesAtMost (input_of S.Source source.old) (input_of S.Source source.new) × WritesNothing (output_of K.Sink sink.old) (output_of K.Sink sink.new) }
     // No fault is passed over: the source failed only at 4, and the sink only at 5.
     ensures unfailed { Unfailed (outside S.Source K.Sink source.old sink.old) (outside S.Source K.Sink source.new sink.new) result }
-    // At 0 the first processor has the machine of the script that was read. At 5 it has where there was one, or no processor
-    // changed. At 64, 2, 4 and 6 no script ran, and no processor changed.
-    ensures processors { KeepsProcessors cpus.old cpus.new (HasReadAndRun (input_of S.Source source.old) (input_of S.Source source.new) cpus.new) result }
+    // At 64, 2, 4 and 6 no script ran, and no processor changed.
+    ensures processors { KeepsProcessors cpus.old cpus.new result }
     // Each processor keeps its number.
     ensures numbers { map (λ (cpu : Cpu B). cpu.number) cpus.new ≡ map (λ (cpu : Cpu B). cpu.number) cpus.old }
     // No processor past the first changes, since this version's scripts have one.
@@ -112,8 +111,8 @@ fn run_command<S: Source, K: Sink, B: Bank>(
     cpus: &mut [Cpu<B>],
 ) -> Status
     requires { 0 < length cpus.old }
-    ensures ends { RunEnds (outside S.Source K.Sink source.old sink.old) (outside S.Source K.Sink source.new sink.new) result }
-    ensures processors { KeepsProcessors cpus.old cpus.new (HasReadAndRun (input_of S.Source source.old) (input_of S.Source source.new) cpus.new) result }
+    ensures ends { RunEnds (outside S.Source K.Sink source.old sink.old) (outside S.Source K.Sink source.new sink.new) cpus.old cpus.new result }
+    ensures processors { KeepsProcessors cpus.old cpus.new result }
     ensures numbers { map (λ (cpu : Cpu B). cpu.number) cpus.new ≡ map (λ (cpu : Cpu B). cpu.number) cpus.old }
     ensures others { drop 1 cpus.new ≡ drop 1 cpus.old }
 {
@@ -132,8 +131,8 @@ fn answer<K: Sink, B: Bank>(
     cpus: &mut [Cpu<B>],
 ) -> Status
     requires { 0 < length cpus.old }
-    ensures ends { AnswerEnds input.now (output_of K.Sink sink.old) (output_of K.Sink sink.new) result }
-    ensures processors { KeepsProcessors cpus.old cpus.new (HasRun input.now cpus.new) result }
+    ensures ends { AnswerEnds input.now (output_of K.Sink sink.old) (output_of K.Sink sink.new) cpus.old cpus.new result }
+    ensures processors { KeepsProcessors cpus.old cpus.new result }
     ensures numbers { map (λ (cpu : Cpu B). cpu.number) cpus.new ≡ map (λ (cpu : Cpu B). cpu.number) cpus.old }
     ensures others { drop 1 cpus.new ≡ drop 1 cpus.old }
 {

@@ -1,8 +1,5 @@
 -- One processor more.
 use Rattle.std.proofs.Common.{length, refl, sym, ◌∙◌, arith, length-append}
-use Rattle.xs_bank.specs.Bank as banks
-use Rattle.xs_bank.specs.declared.bank_of.BankOf.{BankOf}
-use Rattle.xs_bank.specs.declared.choice.Changes.{Changes}
 use Rattle.xstate.proofs.NewProcessors.{IsNew, more_new}
 use Rattle.xstate.proofs.processors.Goals as goal
 
