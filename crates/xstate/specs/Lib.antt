@@ -1,6 +1,4 @@
 -- The definitions of the program, one file a noun.
-pub mod Turns
-pub mod Engine
 pub mod Statuses
 pub mod Outside
 pub mod Answers

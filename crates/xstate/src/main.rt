@@ -1,13 +1,9 @@
 //! `xstate`: runs a script of tasks on processors and writes its history.
 #![tactic(auto)]
 
-mod engine;
 mod history;
-mod instructions;
-mod parked;
 mod reading;
 mod status;
-mod switching;
 mod top;
 mod writing;
 

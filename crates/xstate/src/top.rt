@@ -15,13 +15,13 @@ ghost use Rattle.xstate.specs.Headline.{Headline, Refusal, MayRun, MayRefuse};
 #[cfg(test)]
 mod tests;
 
-use crate::engine::run;
 use crate::history::write_history;
 use crate::reading::{ReadError, read_up_to};
 use crate::status::Status;
 use crate::writing::write_all;
 use std::alloc::Global;
 use xs_bank::{Bank, Cpu};
+use xs_engine::run;
 use xs_io::{Sink, Source};
 use xs_model::{Event, Script};
 use xs_script::{

@@ -1,0 +1,3 @@
+-- The definitions of the engine, one file a noun.
+pub mod Turns
+pub mod Engine
