@@ -1,8 +1,6 @@
 //! Images and areas at worked values.
 
-use crate::fixtures::{
-    blank, compact, compacts, copies, filled, gives, poke, put_runs, read, standard, stored,
-};
+use crate::fixtures::{blank, compact, filled, gives, poke, put_runs, read, standard, stored};
 use crate::{mxcsr, xcomp_bv, xstate_bv};
 use std::alloc::{AllocError, Global};
 use std::test::Fail;
@@ -11,8 +9,6 @@ use xs_layout::Layout;
 
 /// XCOMP_BV of an area of the machine `amx` without room for PKRU and TILEDATA, and with room for TILEDATA.
 const SMALL: u64 = 0x8000_0000_0002_00e7;
-
-const LARGE: u64 = 0x8000_0000_0006_00e7;
 
 /// The components of the machine `amx`.
 const ALL: Features = Features(0x602e7);
@@ -176,28 +172,6 @@ fn the_parts_of_an_image(rt: HostRuntime) -> Result<(), AllocError> {
     Ok(())
 }
 
-#[test]
-fn mxcsr_alone_needs_bit_1(rt: HostRuntime) -> Result<(), AllocError> {
-    let layout = Layout::amx();
-    let bytes = image(rt.alloc(), &layout, 0)?;
-    for (control, bit, value) in [(0x1f80, 0, 0x55), (0x1f81, 2, 0)] {
-        let parts = parts(0x200, control, 9);
-        let runs = [(160, value, 256)];
-        assert!(rt;
-            compacts(
-                rt.alloc(),
-                &layout,
-                &bytes,
-                &parts,
-                (SMALL, 2496),
-                bit,
-                &runs
-            )?
-        );
-    }
-    Ok(())
-}
-
 /// The bytes that `standard_of` gives of an area with XMM, AVX and TILECFG, over EEH, where PKRU is 04030201H.
 const STANDARD: [(usize, u8, usize); 20] = [
     (0, 0x7f, 1),
@@ -245,33 +219,6 @@ fn standard_bytes_of_a_compacted_area(rt: HostRuntime) -> Result<(), AllocError>
     ] {
         assert!(rt; gives(rt.alloc(), &layout, &area, 0x0403_0201, mask, len, runs)?);
     }
-    Ok(())
-}
-
-#[test]
-fn a_large_area_and_a_small_one(rt: HostRuntime) -> Result<(), AllocError> {
-    let amx = Layout::amx();
-    let runs = [(832, 5, 64), (2432, 0x17, 64)];
-    for (from, to, bits, want, control) in [
-        ((SMALL, 2496), (LARGE, 10688), 0x20022, 0x20022, 0x1fa0),
-        ((LARGE, 10688), (SMALL, 2496), 0x60020, 0x20020, 0x1f80),
-    ] {
-        let area = stored(rt.alloc(), from.0, from.1, bits, &runs)?;
-        assert!(rt; copies(rt.alloc(), &amx, &area, to, want, control, &runs)?);
-    }
-    Ok(())
-}
-
-#[test]
-fn both_formats(rt: HostRuntime) -> Result<(), AllocError> {
-    let amx = Layout::amx();
-    let small = [(832, 5, 64)];
-    let plain = [(1088, 5, 64)];
-    let area = stored(rt.alloc(), SMALL, 2496, 0x20, &small)?;
-    assert!(rt; copies(rt.alloc(), &amx, &area, (0, 11008), 0x20, 0x1f80, &plain)?);
-    let area = stored(rt.alloc(), 0, 11008, 0x20, &plain)?;
-    let small = [(160, 0, 256), (832, 5, 64)];
-    assert!(rt; copies(rt.alloc(), &amx, &area, (SMALL, 2496), 0x22, 0x1fa0, &small)?);
     Ok(())
 }
 
