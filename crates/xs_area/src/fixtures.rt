@@ -250,21 +250,6 @@ pub fn copy(layout: &Layout, from: &Area, to: &mut Area) -> bool {
     true
 }
 
-/// Whether `standard_of` over so many bytes of EEH gives these runs.
-pub fn gives(
-    alloc: Global,
-    layout: &Layout,
-    area: &Area,
-    pkru: u32,
-    mask: Features,
-    len: usize,
-    runs: &[Run],
-) -> Result<bool, AllocError> {
-    let mut out = filled(alloc, len, 0xee)?;
-    let made = standard(layout, area, pkru, mask, &mut out);
-    Ok(made && has_runs(&out, runs))
-}
-
 /// `standard_of`, where the area can be read and `out` is long enough.
 pub fn standard(layout: &Layout, area: &Area, pkru: u32, mask: Features, out: &mut [u8]) -> bool {
     if out.len() < layout.standard_size(mask) as usize || !stands(layout, area) {
