@@ -20,10 +20,9 @@ fn the_header_is_read_little_endian(rt: HostRuntime) {
     poke(&mut bytes, 24, &[0x80, 0x1f]);
     poke(&mut bytes, 512, &[0x02, 0, 0, 0, 0, 0, 0, 0x40]);
     poke(&mut bytes, 520, &[0xe7, 0, 0, 0, 0, 0, 0, 0x80]);
-    assert_eq!(rt;
-        [mxcsr(&bytes) as u64, xstate_bv(&bytes), xcomp_bv(&bytes)],
-        [0x1f80, 0x4000_0000_0000_0002, 0x8000_0000_0000_00e7]
-    );
+    assert!(rt; mxcsr(&bytes) == 0x1f80);
+    assert!(rt; xstate_bv(&bytes) == 0x4000_0000_0000_0002);
+    assert!(rt; xcomp_bv(&bytes) == 0x8000_0000_0000_00e7);
 }
 
 /// An image in the standard format with these bits in XSTATE_BV, MXCSR 1FA0H and PKRU 11223344H.
@@ -43,142 +42,124 @@ const ERRORS: [(HeaderError, usize, u8); 4] = [
     (HeaderError::Mxcsr, 26, 1),
 ];
 
-/// What an image of a machine's first components is refused with where one byte or two are others.
-fn refused(
+/// What `read_standard` tells of an image where one byte or two are others.
+fn taken(
     alloc: Global,
     layout: &Layout,
+    (bits, allowed): (u64, Features),
     origin: Origin,
     first: (usize, u8),
     second: (usize, u8),
-) -> Result<Option<HeaderError>, AllocError> {
-    let mut bytes = image(alloc, layout, 7)?;
+) -> Result<Option<Result<Parts, HeaderError>>, AllocError> {
+    let mut bytes = image(alloc, layout, bits)?;
     poke(&mut bytes, second.0, &[second.1]);
     poke(&mut bytes, first.0, &[first.1]);
-    Ok(error_of(layout, &bytes, Features(7), origin))
+    Ok(read(layout, &bytes, allowed, origin))
 }
 
-/// The error that `read_standard` tells.
-fn error_of(
-    layout: &Layout,
-    bytes: &[u8],
-    allowed: Features,
-    origin: Origin,
-) -> Option<HeaderError> {
-    match read(layout, bytes, allowed, origin) {
-        Some(Err(error)) => Some(error),
-        _ => None,
-    }
-}
-
-/// Whether each pair of tests is told by its first.
-fn tells_each_first(alloc: Global, layout: &Layout, origin: Origin) -> Result<bool, AllocError> {
+/// Whether each pair of tests is told by its first, on the machine `amx` or `avx`.
+fn tells_each_first(alloc: Global, amx: bool, origin: Origin) -> Result<bool, AllocError> {
+    let layout = if amx { Layout::amx() } else { Layout::avx() };
+    let set = (7, Features(7));
     let mut well = true;
     for (i, (error, at, value)) in ERRORS.iter().enumerate() {
         for (_, other, new) in &ERRORS[i..] {
-            let told = refused(alloc, layout, origin, (*at, *value), (*other, *new))?;
-            well &= told == Some(*error);
+            let told = taken(alloc, &layout, set, origin, (*at, *value), (*other, *new))?;
+            well &= told == Some(Err(*error));
         }
     }
     Ok(well)
 }
 
-/// Whether both machines tell the first test that fails.
-fn both_tell(alloc: Global, origin: Origin) -> Result<bool, AllocError> {
-    let amx = tells_each_first(alloc, &Layout::amx(), origin)?;
-    Ok(amx && tells_each_first(alloc, &Layout::avx(), origin)?)
-}
-
-#[test]
-fn the_first_test_that_fails_is_told(rt: HostRuntime) -> Result<(), AllocError> {
-    let frame = both_tell(rt.alloc(), Origin::Frame(Features(7)))?;
-    assert!(rt; frame && both_tell(rt.alloc(), Origin::Regset)?);
-    Ok(())
-}
-
-/// What an image is refused with where one byte is another, if it is.
-fn refusal(
-    alloc: Global,
-    bits: u64,
-    origin: Origin,
-    at: usize,
-) -> Result<Option<HeaderError>, AllocError> {
-    let layout = Layout::amx();
-    let mut bytes = image(alloc, &layout, bits)?;
-    poke(&mut bytes, at, &[1]);
-    Ok(error_of(&layout, &bytes, ALL, origin))
-}
-
-/// The bits of an image, where it comes from, a byte that becomes 1, and the test that it fails.
-const REFUSALS: [(u64, Origin, usize, Option<HeaderError>); 14] = [
-    (7, Origin::Regset, 511, None),
-    (7, Origin::Regset, 520, Some(HeaderError::Compacted)),
-    (7, Origin::Regset, 527, Some(HeaderError::Compacted)),
-    (7, Origin::Regset, 528, Some(HeaderError::Reserved)),
-    (7, Origin::Regset, 535, Some(HeaderError::Reserved)),
-    (7, Origin::Regset, 536, Some(HeaderError::Reserved)),
-    (7, Origin::Regset, 575, Some(HeaderError::Reserved)),
-    (7, Origin::Regset, 576, None),
-    (7, Origin::Frame(Features(5)), 26, None),
-    (5, Origin::Frame(Features(2)), 26, Some(HeaderError::Mxcsr)),
-    (1, Origin::Regset, 26, Some(HeaderError::Mxcsr)),
-    (2, Origin::Regset, 26, Some(HeaderError::Mxcsr)),
-    (4, Origin::Regset, 26, Some(HeaderError::Mxcsr)),
-    (0x602e0, Origin::Regset, 26, None),
+const FRAMES: [(bool, Origin); 4] = [
+    (true, Origin::Frame(Features(7))),
+    (true, Origin::Regset),
+    (false, Origin::Frame(Features(7))),
+    (false, Origin::Regset),
 ];
 
 #[test]
-fn bytes_of_the_header_and_of_mxcsr_count(rt: HostRuntime) -> Result<(), AllocError> {
-    for (bits, origin, at, want) in &REFUSALS {
-        assert!(rt; refusal(rt.alloc(), *bits, *origin, *at)? == *want);
+fn the_first_test_that_fails_is_told(rt: HostRuntime) -> Result<(), AllocError> {
+    for (amx, origin) in &FRAMES {
+        assert!(rt; tells_each_first(rt.alloc(), *amx, *origin)?);
     }
     Ok(())
 }
 
-/// Whether an image with these bits has these parts.
-fn has_parts(
-    alloc: Global,
-    bits: u64,
-    origin: Origin,
-    (taken, mxcsr, pkru): (u64, u32, u32),
-) -> Result<bool, AllocError> {
-    let layout = Layout::amx();
-    let bytes = image(alloc, &layout, bits)?;
-    let parts = Parts {
-        bits: Features(taken),
-        mxcsr,
-        pkru,
-    };
-    Ok(read(&layout, &bytes, ALL, origin) == Some(Ok(parts)))
-}
+/// What an image has: its components, MXCSR and PKRU.
+type Has = (u64, u32, u32);
 
-/// The bits of an image, where it comes from, and its components, MXCSR and PKRU.
-const PARTS: [(u64, Origin, (u64, u32, u32)); 6] = [
+/// The bits of an image, where it comes from, a byte that becomes 1, and the test that it fails or what it has. Byte 511
+/// is of no component and no header.
+const READ: [(u64, Origin, usize, Result<Has, HeaderError>); 20] = [
+    // The header.
+    (7, Origin::Regset, 511, Ok((7, 0x1fa0, 0))),
+    (7, Origin::Regset, 520, Err(HeaderError::Compacted)),
+    (7, Origin::Regset, 527, Err(HeaderError::Compacted)),
+    (7, Origin::Regset, 528, Err(HeaderError::Reserved)),
+    (7, Origin::Regset, 535, Err(HeaderError::Reserved)),
+    (7, Origin::Regset, 536, Err(HeaderError::Reserved)),
+    (7, Origin::Regset, 575, Err(HeaderError::Reserved)),
+    (7, Origin::Regset, 576, Ok((7, 0x1fa0, 0))),
+    // MXCSR.
+    (7, Origin::Frame(Features(5)), 26, Ok((5, 0x1f80, 0))),
+    (5, Origin::Frame(Features(2)), 26, Err(HeaderError::Mxcsr)),
+    (1, Origin::Regset, 26, Err(HeaderError::Mxcsr)),
+    (2, Origin::Regset, 26, Err(HeaderError::Mxcsr)),
+    (4, Origin::Regset, 26, Err(HeaderError::Mxcsr)),
+    (
+        0x602e0,
+        Origin::Regset,
+        26,
+        Ok((0x602e0, 0x1f80, 0x1122_3344)),
+    ),
+    // Parts.
     (
         0x602e7,
         Origin::Frame(Features(0x202e7)),
-        (0x202e7, 0x1fa0, 0x1122_3344),
+        511,
+        Ok((0x202e7, 0x1fa0, 0x1122_3344)),
     ),
     (
         0x204,
         Origin::Frame(Features(0x203)),
-        (0x200, 0x1fa0, 0x1122_3344),
+        511,
+        Ok((0x200, 0x1fa0, 0x1122_3344)),
     ),
-    (0x207, Origin::Frame(Features(5)), (5, 0x1f80, 0)),
-    (0x602e7, Origin::Regset, (0x602e7, 0x1fa0, 0x1122_3344)),
-    (4, Origin::Regset, (4, 0x1fa0, 0)),
-    (0x201, Origin::Regset, (0x201, 0x1f80, 0x1122_3344)),
+    (0x207, Origin::Frame(Features(5)), 511, Ok((5, 0x1f80, 0))),
+    (
+        0x602e7,
+        Origin::Regset,
+        511,
+        Ok((0x602e7, 0x1fa0, 0x1122_3344)),
+    ),
+    (4, Origin::Regset, 511, Ok((4, 0x1fa0, 0))),
+    (0x201, Origin::Regset, 511, Ok((0x201, 0x1f80, 0x1122_3344))),
 ];
 
+/// Whether this was told of an image.
+fn is_told(told: Option<Result<Parts, HeaderError>>, want: Result<Has, HeaderError>) -> bool {
+    match (told, want) {
+        (Some(Ok(parts)), Ok(has)) => (parts.bits.0, parts.mxcsr, parts.pkru) == has,
+        (Some(Err(error)), Err(wanted)) => error == wanted,
+        _ => false,
+    }
+}
+
 #[test]
-fn the_parts_of_an_image(rt: HostRuntime) -> Result<(), AllocError> {
-    for (bits, origin, parts) in &PARTS {
-        assert!(rt; has_parts(rt.alloc(), *bits, *origin, *parts)?);
+fn images_are_read(rt: HostRuntime) -> Result<(), AllocError> {
+    let layout = Layout::amx();
+    for (bits, origin, at, want) in &READ {
+        let byte = (*at, 1);
+        let told = taken(rt.alloc(), &layout, (*bits, ALL), *origin, byte, byte)?;
+        assert!(rt; is_told(told, *want));
     }
     Ok(())
 }
 
-/// The bytes that `standard_of` gives of an area with XMM, AVX and TILECFG, over EEH, where PKRU is 04030201H.
-const STANDARD: [Run; 20] = [
+/// The bytes that `standard_of` gives of an area with XMM, AVX and TILECFG, over EEH, where PKRU is 04030201H; and those
+/// that it gives for x87 alone.
+const STANDARD: [Run; 27] = [
     (0, 0x7f, 1),
     (1, 3, 1),
     (2, 0, 22),
@@ -199,11 +180,7 @@ const STANDARD: [Run; 20] = [
     (2692, 0, 4),
     (2696, 0xee, 56),
     (2752, 0x17, 64),
-];
-
-const TILES: [Run; 1] = [(2816, 0, 8192)];
-
-const X87: [Run; 6] = [
+    (2816, 0, 8192),
     (0, 0x7f, 1),
     (1, 3, 1),
     (2, 0, 22),
@@ -215,42 +192,45 @@ const X87: [Run; 6] = [
 /// What that area has.
 const STORED: [Run; 3] = [(160, 0x11, 256), (576, 0x22, 256), (2432, 0x17, 64)];
 
-/// Whether the standard bytes of that area for these components, so many bytes, have these runs.
+/// Whether the standard bytes of that area for these components, so many bytes, have the runs from one to another.
 fn standard_has(
     alloc: Global,
     mask: Features,
     len: usize,
-    runs: &[Run],
+    from: usize,
+    to: usize,
 ) -> Result<bool, AllocError> {
     let area = stored(alloc, SMALL, 2496, 0x20006, &STORED)?;
     let mut out = filled(alloc, len, 0xee)?;
     let made = standard(&Layout::amx(), &area, 0x0403_0201, mask, &mut out);
-    Ok(made && has_runs(&out, runs))
+    match STANDARD.get(from..to) {
+        Some(runs) => Ok(made && has_runs(&out, runs)),
+        None => Ok(false),
+    }
 }
 
 #[test]
 fn standard_bytes_of_a_compacted_area(rt: HostRuntime) -> Result<(), AllocError> {
-    let mut well = standard_has(rt.alloc(), ALL, 11008, &STANDARD)?;
-    well &= standard_has(rt.alloc(), ALL, 11008, &TILES)?;
-    well &= standard_has(rt.alloc(), Features(0x202e7), 2816, &STANDARD)?;
-    well &= standard_has(rt.alloc(), Features(1), 576, &X87)?;
-    assert!(rt; well);
+    for (mask, len, from, to) in [
+        (ALL, 11008, 0, 21),
+        (Features(0x202e7), 2816, 0, 20),
+        (Features(1), 576, 21, 27),
+    ] {
+        assert!(rt; standard_has(rt.alloc(), mask, len, from, to)?);
+    }
     Ok(())
 }
 
-/// The standard bytes of the area that an image of the machine `avx` was made to, if it isn't refused.
-fn returned(alloc: Global, bytes: &[u8]) -> Result<Option<Vec<u8>>, AllocError> {
+/// Whether an image of the machine `avx` is read, and the area that it's made to has these standard bytes.
+fn returns(alloc: Global, bytes: &[u8], want: &[u8]) -> Result<bool, AllocError> {
     let avx = Layout::avx();
     let Some(Ok(parts)) = read(&avx, bytes, Features(7), Origin::Regset) else {
-        return Ok(None);
+        return Ok(false);
     };
     let mut area = blank(alloc, 0x8000_0000_0000_0007, 832)?;
     let mut out = filled(alloc, 832, 0)?;
     let made = compact(&avx, bytes, &parts, &mut area);
-    if made && standard(&avx, &area, parts.pkru, Features(7), &mut out) {
-        return Ok(Some(out));
-    }
-    Ok(None)
+    Ok(made && standard(&avx, &area, parts.pkru, Features(7), &mut out) && out.as_slice() == want)
 }
 
 /// An image with bytes that belong to no register, or with zeros in their place and no XSTATE_BV.
@@ -277,6 +257,6 @@ fn with_loose(alloc: Global, loose: u8, bits: u8) -> Result<Vec<u8>, AllocError>
 fn there_and_back(rt: HostRuntime) -> Result<(), AllocError> {
     let bytes = with_loose(rt.alloc(), 0xff, 7)?;
     let want = with_loose(rt.alloc(), 0, 0)?;
-    assert!(rt; returned(rt.alloc(), &bytes)? == Some(want));
+    assert!(rt; returns(rt.alloc(), &bytes, &want)?);
     Ok(())
 }
