@@ -182,14 +182,15 @@ pub fn compacts(
     (names, len): Form,
     bits: u64,
 ) -> Result<bool, AllocError> {
-    let image = placed(alloc, (0, 11008), 0)?;
+    let mut image = [0u8; 11008];
+    put_places(&mut image, 0);
     let mut area = blank(alloc, names, len)?;
     let parts = Parts {
         bits: Features(set),
         mxcsr,
         pkru: 0x0403_0201,
     };
-    let made = compact(&Layout::amx(), &image.bytes, &parts, &mut area);
+    let made = compact(&Layout::amx(), &image, &parts, &mut area);
     Ok(made && shows(&area, names, len, set, bits, mxcsr))
 }
 
@@ -231,14 +232,14 @@ pub fn copies(
     let mut to = blank(alloc, names, len)?;
     let made = copy(&Layout::amx(), &area, &mut to);
     let sse = if bits & set & 2 != 0 { 0x11 } else { 0 };
-    Ok(made && shows(&to, names, len, set, bits, control) && gives_sse(alloc, &to, given, sse)?)
+    Ok(made && shows(&to, names, len, set, bits, control) && gives_sse(&to, given, sse))
 }
 
 /// Whether the standard bytes of an area have this MXCSR and this value in each byte of the XMM registers.
-fn gives_sse(alloc: Global, area: &Area, control: u32, value: u8) -> Result<bool, AllocError> {
-    let mut out = filled(alloc, 576, 0xee)?;
+fn gives_sse(area: &Area, control: u32, value: u8) -> bool {
+    let mut out = [0xeeu8; 576];
     let made = standard(&Layout::amx(), area, 0, Features(2), &mut out);
-    Ok(made && reads(&out, 24, &control.to_le_bytes()) && has_run(&out, 160, value, 256))
+    made && reads(&out, 24, &control.to_le_bytes()) && has_run(&out, 160, value, 256)
 }
 
 /// `copy_area`, where both areas have what it wants.

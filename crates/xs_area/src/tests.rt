@@ -1,9 +1,7 @@
 //! Images and areas at worked values.
 
-use crate::fixtures::{
-    Run, blank, compact, filled, has_runs, poke, put_runs, read, standard, stored,
-};
-use crate::{mxcsr, xcomp_bv, xstate_bv};
+use crate::fixtures::{Run, blank, compact, has_runs, poke, put_runs, read, standard, stored};
+use crate::{Area, mxcsr, xcomp_bv, xstate_bv};
 use std::alloc::{AllocError, Global};
 use xs_base::{Features, HeaderError, Origin, Parts};
 use xs_layout::Layout;
@@ -25,13 +23,11 @@ fn the_header_is_read_little_endian(rt: HostRuntime) {
     assert!(rt; xcomp_bv(&bytes) == 0x8000_0000_0000_00e7);
 }
 
-/// An image in the standard format with these bits in XSTATE_BV, MXCSR 1FA0H and PKRU 11223344H.
-fn image(alloc: Global, layout: &Layout, bits: u64) -> Result<Vec<u8>, AllocError> {
-    let mut bytes = filled(alloc, layout.full_size() as usize, 0)?;
-    poke(&mut bytes, 24, &[0xa0, 0x1f]);
-    poke(&mut bytes, 512, &bits.to_le_bytes());
-    poke(&mut bytes, 2688, &[0x44, 0x33, 0x22, 0x11]);
-    Ok(bytes)
+/// Makes zeros an image in the standard format with these bits in XSTATE_BV, MXCSR 1FA0H and PKRU 11223344H.
+fn put_image(bytes: &mut [u8], bits: u64) {
+    poke(bytes, 24, &[0xa0, 0x1f]);
+    poke(bytes, 512, &bits.to_le_bytes());
+    poke(bytes, 2688, &[0x44, 0x33, 0x22, 0x11]);
 }
 
 /// The tests in their order, each with a byte that makes an image fail it.
@@ -44,31 +40,33 @@ const ERRORS: [(HeaderError, usize, u8); 4] = [
 
 /// What `read_standard` tells of an image where one byte or two are others.
 fn taken(
-    alloc: Global,
     layout: &Layout,
     (bits, allowed): (u64, Features),
     origin: Origin,
     first: (usize, u8),
     second: (usize, u8),
-) -> Result<Option<Result<Parts, HeaderError>>, AllocError> {
-    let mut bytes = image(alloc, layout, bits)?;
-    poke(&mut bytes, second.0, &[second.1]);
-    poke(&mut bytes, first.0, &[first.1]);
-    Ok(read(layout, &bytes, allowed, origin))
+) -> Option<Result<Parts, HeaderError>> {
+    let mut zeros = [0u8; 11008];
+    let len = zeros.len().min(layout.full_size() as usize);
+    let bytes = &mut zeros[..len];
+    put_image(bytes, bits);
+    poke(bytes, second.0, &[second.1]);
+    poke(bytes, first.0, &[first.1]);
+    read(layout, bytes, allowed, origin)
 }
 
 /// Whether each pair of tests is told by its first, on the machine `amx` or `avx`.
-fn tells_each_first(alloc: Global, amx: bool, origin: Origin) -> Result<bool, AllocError> {
+fn tells_each_first(amx: bool, origin: Origin) -> bool {
     let layout = if amx { Layout::amx() } else { Layout::avx() };
     let set = (7, Features(7));
     let mut well = true;
     for (i, (error, at, value)) in ERRORS.iter().enumerate() {
         for (_, other, new) in &ERRORS[i..] {
-            let told = taken(alloc, &layout, set, origin, (*at, *value), (*other, *new))?;
+            let told = taken(&layout, set, origin, (*at, *value), (*other, *new));
             well &= told == Some(Err(*error));
         }
     }
-    Ok(well)
+    well
 }
 
 const FRAMES: [(bool, Origin); 4] = [
@@ -79,11 +77,10 @@ const FRAMES: [(bool, Origin); 4] = [
 ];
 
 #[test]
-fn the_first_test_that_fails_is_told(rt: HostRuntime) -> Result<(), AllocError> {
+fn the_first_test_that_fails_is_told(rt: HostRuntime) {
     for (amx, origin) in &FRAMES {
-        assert!(rt; tells_each_first(rt.alloc(), *amx, *origin)?);
+        assert!(rt; tells_each_first(*amx, *origin));
     }
-    Ok(())
 }
 
 /// What an image has: its components, MXCSR and PKRU.
@@ -147,14 +144,13 @@ fn is_told(told: Option<Result<Parts, HeaderError>>, want: Result<Has, HeaderErr
 }
 
 #[test]
-fn images_are_read(rt: HostRuntime) -> Result<(), AllocError> {
+fn images_are_read(rt: HostRuntime) {
     let layout = Layout::amx();
     for (bits, origin, at, want) in &READ {
         let byte = (*at, 1);
-        let told = taken(rt.alloc(), &layout, (*bits, ALL), *origin, byte, byte)?;
+        let told = taken(&layout, (*bits, ALL), *origin, byte, byte);
         assert!(rt; is_told(told, *want));
     }
-    Ok(())
 }
 
 /// The bytes that `standard_of` gives of an area with XMM, AVX and TILECFG, over EEH, where PKRU is 04030201H; and those
@@ -193,30 +189,25 @@ const STANDARD: [Run; 27] = [
 const STORED: [Run; 3] = [(160, 0x11, 256), (576, 0x22, 256), (2432, 0x17, 64)];
 
 /// Whether the standard bytes of that area for these components, so many bytes, have the runs from one to another.
-fn standard_has(
-    alloc: Global,
-    mask: Features,
-    len: usize,
-    from: usize,
-    to: usize,
-) -> Result<bool, AllocError> {
-    let area = stored(alloc, SMALL, 2496, 0x20006, &STORED)?;
-    let mut out = filled(alloc, len, 0xee)?;
-    let made = standard(&Layout::amx(), &area, 0x0403_0201, mask, &mut out);
+fn standard_has(area: &Area, mask: Features, len: usize, from: usize, to: usize) -> bool {
+    let mut all = [0xeeu8; 11008];
+    let out = &mut all[..len.min(11008)];
+    let made = standard(&Layout::amx(), area, 0x0403_0201, mask, out);
     match STANDARD.get(from..to) {
-        Some(runs) => Ok(made && has_runs(&out, runs)),
-        None => Ok(false),
+        Some(runs) => made && has_runs(out, runs),
+        None => false,
     }
 }
 
 #[test]
 fn standard_bytes_of_a_compacted_area(rt: HostRuntime) -> Result<(), AllocError> {
+    let area = stored(rt.alloc(), SMALL, 2496, 0x20006, &STORED)?;
     for (mask, len, from, to) in [
         (ALL, 11008, 0, 21),
         (Features(0x202e7), 2816, 0, 20),
         (Features(1), 576, 21, 27),
     ] {
-        assert!(rt; standard_has(rt.alloc(), mask, len, from, to)?);
+        assert!(rt; standard_has(&area, mask, len, from, to));
     }
     Ok(())
 }
@@ -228,35 +219,35 @@ fn returns(alloc: Global, bytes: &[u8], want: &[u8]) -> Result<bool, AllocError>
         return Ok(false);
     };
     let mut area = blank(alloc, 0x8000_0000_0000_0007, 832)?;
-    let mut out = filled(alloc, 832, 0)?;
+    let mut out = [0u8; 832];
     let made = compact(&avx, bytes, &parts, &mut area);
     Ok(made && standard(&avx, &area, parts.pkru, Features(7), &mut out) && out.as_slice() == want)
 }
 
-/// An image with bytes that belong to no register, or with zeros in their place and no XSTATE_BV.
-fn with_loose(alloc: Global, loose: u8, bits: u8) -> Result<Vec<u8>, AllocError> {
-    let mut bytes = image(alloc, &Layout::avx(), 7)?;
+/// An image of the machine `avx` with bytes that belong to no register, or with zeros in their place and no XSTATE_BV.
+fn with_loose(loose: u8, bits: u8) -> [u8; 832] {
+    let mut bytes = [0u8; 832];
+    put_image(&mut bytes, 7);
     poke(&mut bytes, 0, &[1, 2, 3, 4, 5, loose, 6, 7, 8]);
-    put_runs(
-        &mut bytes,
-        &[
-            (28, 0xff, 2),
-            (32, 0x44, 128),
-            (160, 0x11, 256),
-            (576, 0x22, 256),
-        ],
-    );
+    put_runs(&mut bytes, &REGISTERS);
     for slot in 0..8 {
         poke(&mut bytes, 42 + 16 * slot, &[loose; 6]);
     }
     poke(&mut bytes, 512, &[bits]);
-    Ok(bytes)
+    bytes
 }
+
+const REGISTERS: [Run; 4] = [
+    (28, 0xff, 2),
+    (32, 0x44, 128),
+    (160, 0x11, 256),
+    (576, 0x22, 256),
+];
 
 #[test]
 fn there_and_back(rt: HostRuntime) -> Result<(), AllocError> {
-    let bytes = with_loose(rt.alloc(), 0xff, 7)?;
-    let want = with_loose(rt.alloc(), 0, 0)?;
+    let bytes = with_loose(0xff, 7);
+    let want = with_loose(0, 0);
     assert!(rt; returns(rt.alloc(), &bytes, &want)?);
     Ok(())
 }
