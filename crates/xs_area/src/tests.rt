@@ -2,7 +2,7 @@
 
 use crate::fixtures::{Run, blank, compact, has_runs, poke, put_runs, read, standard, stored};
 use crate::{Area, mxcsr, xcomp_bv, xstate_bv};
-use std::alloc::{AllocError, Global};
+use std::alloc::AllocError;
 use xs_base::{Features, HeaderError, Origin, Parts};
 use xs_layout::Layout;
 
@@ -18,9 +18,10 @@ fn the_header_is_read_little_endian(rt: HostRuntime) {
     poke(&mut bytes, 24, &[0x80, 0x1f]);
     poke(&mut bytes, 512, &[0x02, 0, 0, 0, 0, 0, 0, 0x40]);
     poke(&mut bytes, 520, &[0xe7, 0, 0, 0, 0, 0, 0, 0x80]);
-    assert!(rt; mxcsr(&bytes) == 0x1f80);
-    assert!(rt; xstate_bv(&bytes) == 0x4000_0000_0000_0002);
-    assert!(rt; xcomp_bv(&bytes) == 0x8000_0000_0000_00e7);
+    let mut well = mxcsr(&bytes) == 0x1f80;
+    well &= xstate_bv(&bytes) == 0x4000_0000_0000_0002;
+    well &= xcomp_bv(&bytes) == 0x8000_0000_0000_00e7;
+    assert!(rt; well);
 }
 
 /// Makes zeros an image in the standard format with these bits in XSTATE_BV, MXCSR 1FA0H and PKRU 11223344H.
@@ -199,29 +200,31 @@ fn standard_has(area: &Area, mask: Features, len: usize, from: usize, to: usize)
     }
 }
 
+/// Components, so many bytes, and the runs of `STANDARD` that are there, from one to another.
+const MASKS: [(Features, usize, usize, usize); 3] = [
+    (ALL, 11008, 0, 21),
+    (Features(0x202e7), 2816, 0, 20),
+    (Features(1), 576, 21, 27),
+];
+
 #[test]
 fn standard_bytes_of_a_compacted_area(rt: HostRuntime) -> Result<(), AllocError> {
     let area = stored(rt.alloc(), SMALL, 2496, 0x20006, &STORED)?;
-    for (mask, len, from, to) in [
-        (ALL, 11008, 0, 21),
-        (Features(0x202e7), 2816, 0, 20),
-        (Features(1), 576, 21, 27),
-    ] {
-        assert!(rt; standard_has(&area, mask, len, from, to));
+    for (mask, len, from, to) in &MASKS {
+        assert!(rt; standard_has(&area, *mask, *len, *from, *to));
     }
     Ok(())
 }
 
 /// Whether an image of the machine `avx` is read, and the area that it's made to has these standard bytes.
-fn returns(alloc: Global, bytes: &[u8], want: &[u8]) -> Result<bool, AllocError> {
+fn returns(area: &mut Area, bytes: &[u8], want: &[u8]) -> bool {
     let avx = Layout::avx();
     let Some(Ok(parts)) = read(&avx, bytes, Features(7), Origin::Regset) else {
-        return Ok(false);
+        return false;
     };
-    let mut area = blank(alloc, 0x8000_0000_0000_0007, 832)?;
     let mut out = [0u8; 832];
-    let made = compact(&avx, bytes, &parts, &mut area);
-    Ok(made && standard(&avx, &area, parts.pkru, Features(7), &mut out) && out.as_slice() == want)
+    let made = compact(&avx, bytes, &parts, area);
+    made && standard(&avx, area, parts.pkru, Features(7), &mut out) && out.as_slice() == want
 }
 
 /// An image of the machine `avx` with bytes that belong to no register, or with zeros in their place and no XSTATE_BV.
@@ -248,6 +251,7 @@ const REGISTERS: [Run; 4] = [
 fn there_and_back(rt: HostRuntime) -> Result<(), AllocError> {
     let bytes = with_loose(0xff, 7);
     let want = with_loose(0, 0);
-    assert!(rt; returns(rt.alloc(), &bytes, &want)?);
+    let mut area = blank(rt.alloc(), 0x8000_0000_0000_0007, 832)?;
+    assert!(rt; returns(&mut area, &bytes, &want));
     Ok(())
 }
