@@ -14,6 +14,31 @@ use xs_layout::Layout;
 /// A run of bytes: where it begins, its value and its length.
 pub type Run = (usize, u8, usize);
 
+/// An area's XCOMP_BV and its length.
+pub type Form = (u64, usize);
+
+/// Places of components of the machine `amx`: the XCOMP_BV that has them, the component's bit, where it begins, and a value
+/// and a length of its bytes.
+const PLACES: [(u64, u64, usize, u8, usize); 17] = [
+    (0, 2, 160, 0x11, 256),
+    (0, 4, 576, 0x22, 256),
+    (0, 0x20, 1088, 5, 64),
+    (0, 0x200, 2688, 3, 8),
+    (0, 0x20000, 2752, 0x17, 64),
+    (0, 0x40000, 2816, 0x18, 64),
+    (0x8000_0000_0002_00e7, 2, 160, 0x11, 256),
+    (0x8000_0000_0002_00e7, 0x20, 832, 5, 64),
+    (0x8000_0000_0002_00e7, 0x20000, 2432, 0x17, 64),
+    (0x8000_0000_0006_00e7, 2, 160, 0x11, 256),
+    (0x8000_0000_0006_00e7, 0x20, 832, 5, 64),
+    (0x8000_0000_0006_00e7, 0x20000, 2432, 0x17, 64),
+    (0x8000_0000_0006_00e7, 0x40000, 2496, 0x18, 64),
+    (0x8000_0000_0000_0024, 4, 576, 0x22, 256),
+    (0x8000_0000_0000_0024, 0x20, 832, 5, 64),
+    (0x8000_0000_0000_0220, 0x20, 576, 5, 64),
+    (0x8000_0000_0000_0220, 0x200, 640, 3, 8),
+];
+
 /// Bytes of one value.
 pub fn filled(alloc: Global, len: usize, value: u8) -> Result<Vec<u8>, AllocError> {
     vec![in alloc; value; len]
@@ -43,6 +68,36 @@ pub fn reads(bytes: &[u8], at: usize, want: &[u8]) -> bool {
     }
 }
 
+/// Writes the components of an area with this XCOMP_BV, as far as there is room.
+fn put_places(bytes: &mut [u8], names: u64) {
+    for (form, _, at, value, many) in &PLACES {
+        if *form == names {
+            put_runs(bytes, &[(*at, *value, *many)]);
+        }
+    }
+}
+
+/// Whether an area that was blank has the components of `bits`, initial where `set` lacks them, and nothing of others.
+fn has_places(bytes: &[u8], names: u64, set: u64, bits: u64) -> bool {
+    for (form, bit, at, value, many) in &PLACES {
+        let want = value_of(bits & *bit != 0, set & *bit != 0, *value);
+        let outside = bits & *bit == 0 && *at + *many > bytes.len();
+        if *form == names && !outside && !has_run(bytes, *at, want, *many) {
+            return false;
+        }
+    }
+    true
+}
+
+/// The value of a component's bytes.
+fn value_of(written: bool, has: bool, value: u8) -> u8 {
+    match (written, has) {
+        (true, true) => value,
+        (true, false) => 0,
+        _ => 0x55,
+    }
+}
+
 /// Whether each run is there.
 pub fn has_runs(bytes: &[u8], runs: &[Run]) -> bool {
     for (at, value, many) in runs {
@@ -64,11 +119,6 @@ fn has_run(bytes: &[u8], at: usize, value: u8, many: usize) -> bool {
         }
     }
     true
-}
-
-/// The first runs, so many of them.
-pub fn first(runs: &[Run], many: usize) -> &[Run] {
-    &runs[..many.min(runs.len())]
 }
 
 /// An area of 55H with this XCOMP_BV and an empty XSTATE_BV.
@@ -95,12 +145,20 @@ pub fn stored(
     Ok(Area { id: 1, bytes })
 }
 
-/// Whether an area has the form of a blank one, these bits, this MXCSR and these runs.
-pub fn shows(area: &Area, names: u64, len: usize, bits: u64, control: u32, runs: &[Run]) -> bool {
+/// An area of zeros of this form with these bits, MXCSR 1FA0H and its components.
+fn placed(alloc: Global, (names, len): Form, bits: u64) -> Result<Area, AllocError> {
+    let mut area = stored(alloc, names, len, bits, &[])?;
+    put_places(&mut area.bytes, names);
+    Ok(area)
+}
+
+/// Whether an area has the form of a blank one, these bits, this MXCSR and the components of `set` among the bits.
+fn shows(area: &Area, names: u64, len: usize, set: u64, bits: u64, control: u32) -> bool {
     let bytes = area.bytes.as_slice();
     let form = area.id == 7 && bytes.len() == len && has_run(bytes, 528, 0x55, 48);
     let header = reads(bytes, 512, &bits.to_le_bytes()) && reads(bytes, 520, &names.to_le_bytes());
-    form && header && reads(bytes, 24, &control.to_le_bytes()) && has_runs(bytes, runs)
+    let control = reads(bytes, 24, &control.to_le_bytes());
+    form && header && control && has_places(bytes, names, set, bits)
 }
 
 /// `read_standard`, where the image is long enough.
@@ -116,19 +174,24 @@ pub fn read(
     Some(read_standard(layout, bytes, allowed, origin))
 }
 
-/// Whether `compact_of` makes a blank area of this form one with these bits and runs.
+/// Whether `compact_of` makes a blank area of this form one with these bits, where the image has this set and MXCSR.
 pub fn compacts(
     alloc: Global,
-    layout: &Layout,
-    bytes: &[u8],
-    parts: &Parts,
-    (names, len): (u64, usize),
+    set: u64,
+    mxcsr: u32,
+    (names, len): Form,
     bits: u64,
-    runs: &[Run],
 ) -> Result<bool, AllocError> {
+    let mut image = [0u8; 11008];
+    put_places(&mut image, 0);
     let mut area = blank(alloc, names, len)?;
-    let made = compact(layout, bytes, parts, &mut area);
-    Ok(made && shows(&area, names, len, bits, parts.mxcsr, runs))
+    let parts = Parts {
+        bits: Features(set),
+        mxcsr,
+        pkru: 0x0403_0201,
+    };
+    let made = compact(&Layout::amx(), &image, &parts, &mut area);
+    Ok(made && shows(&area, names, len, set, bits, mxcsr))
 }
 
 /// `compact_of`, where the area has room.
@@ -154,19 +217,29 @@ fn has_room_for(layout: &Layout, area: &[u8], set: Features) -> bool
     copied.with(Comp::PKRU, true).0 == wanted.0
 }
 
-/// Whether `copy_area` makes a blank area of this form one with these bits, this MXCSR and these runs.
+/// Whether `copy_area` makes a blank area of this form one with these bits and this MXCSR, and with this MXCSR in its
+/// standard bytes, where the other one is of this form and has this set.
 pub fn copies(
     alloc: Global,
-    layout: &Layout,
-    from: &Area,
-    (names, len): (u64, usize),
+    from: Form,
+    set: u64,
+    (names, len): Form,
     bits: u64,
     control: u32,
-    runs: &[Run],
+    given: u32,
 ) -> Result<bool, AllocError> {
+    let area = placed(alloc, from, set)?;
     let mut to = blank(alloc, names, len)?;
-    let made = copy(layout, from, &mut to);
-    Ok(made && shows(&to, names, len, bits, control, runs))
+    let made = copy(&Layout::amx(), &area, &mut to);
+    let sse = if bits & set & 2 != 0 { 0x11 } else { 0 };
+    Ok(made && shows(&to, names, len, set, bits, control) && gives_sse(&to, given, sse))
+}
+
+/// Whether the standard bytes of an area have this MXCSR and this value in each byte of the XMM registers.
+fn gives_sse(area: &Area, control: u32, value: u8) -> bool {
+    let mut out = [0xeeu8; 576];
+    let made = standard(&Layout::amx(), area, 0, Features(2), &mut out);
+    made && reads(&out, 24, &control.to_le_bytes()) && has_run(&out, 160, value, 256)
 }
 
 /// `copy_area`, where both areas have what it wants.
@@ -176,21 +249,6 @@ pub fn copy(layout: &Layout, from: &Area, to: &mut Area) -> bool {
     }
     copy_area(layout, from, to);
     true
-}
-
-/// Whether `standard_of` over so many bytes of EEH gives these runs.
-pub fn gives(
-    alloc: Global,
-    layout: &Layout,
-    area: &Area,
-    pkru: u32,
-    mask: Features,
-    len: usize,
-    runs: &[Run],
-) -> Result<bool, AllocError> {
-    let mut out = filled(alloc, len, 0xee)?;
-    let made = standard(layout, area, pkru, mask, &mut out);
-    Ok(made && has_runs(&out, runs))
 }
 
 /// `standard_of`, where the area can be read and `out` is long enough.

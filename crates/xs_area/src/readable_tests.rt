@@ -24,32 +24,38 @@ fn can_be_read(
     Ok(stands(&layout, &area))
 }
 
+const AMX: bool = true;
+
+const AVX: bool = false;
+
+/// The machine, the length of an area, its XSTATE_BV and XCOMP_BV, and whether it can be read.
+const AREAS: [(bool, usize, u64, u64, bool); 17] = [
+    // A header.
+    (AMX, 0, 0, 0, false),
+    (AMX, 575, 0, 0, false),
+    (AMX, 576, 0, 0, true),
+    // The standard format has every place.
+    (AMX, 11008, 0x602e7, 0, true),
+    (AMX, 11007, 0x602e7, 0, false),
+    (AMX, 2816, 0x202e7, 0, true),
+    (AMX, 11008, 0x8, 0, false),
+    (AMX, 11008, 1 << 63, 0, false),
+    (AVX, 832, 7, 0, true),
+    (AVX, 11008, 0x27, 0, false),
+    // The compacted format has the places that it names, the legacy ones too.
+    (AMX, 10688, 0x600e7, NAMES, true),
+    (AMX, 10687, 0x600e7, NAMES, false),
+    (AMX, 2496, 0x200e7, NAMES, true),
+    (AMX, 10688, 0x602e7, NAMES, false),
+    (AMX, 1088, 0x40, ZMM, true),
+    (AMX, 1087, 0x40, ZMM, false),
+    (AMX, 1088, 0x42, ZMM, false),
+];
+
 #[test]
 fn an_area_has_the_places_that_it_needs(rt: HostRuntime) -> Result<(), AllocError> {
-    let (amx, avx) = (true, false);
-    for (machine, len, bits, names, want) in [
-        // A header.
-        (amx, 0, 0, 0, false),
-        (amx, 575, 0, 0, false),
-        (amx, 576, 0, 0, true),
-        // The standard format has every place.
-        (amx, 11008, 0x602e7, 0, true),
-        (amx, 11007, 0x602e7, 0, false),
-        (amx, 2816, 0x202e7, 0, true),
-        (amx, 11008, 0x8, 0, false),
-        (amx, 11008, 1 << 63, 0, false),
-        (avx, 832, 7, 0, true),
-        (avx, 11008, 0x27, 0, false),
-        // The compacted format has the places that it names, the legacy ones too.
-        (amx, 10688, 0x600e7, NAMES, true),
-        (amx, 10687, 0x600e7, NAMES, false),
-        (amx, 2496, 0x200e7, NAMES, true),
-        (amx, 10688, 0x602e7, NAMES, false),
-        (amx, 1088, 0x40, ZMM, true),
-        (amx, 1087, 0x40, ZMM, false),
-        (amx, 1088, 0x42, ZMM, false),
-    ] {
-        assert!(rt; can_be_read(rt.alloc(), machine, len, bits, names)? == want);
+    for (machine, len, bits, names, want) in &AREAS {
+        assert!(rt; can_be_read(rt.alloc(), *machine, *len, *bits, *names)? == *want);
     }
     Ok(())
 }

@@ -1,18 +1,13 @@
 //! Images and areas at worked values.
 
-use crate::fixtures::{
-    blank, compact, compacts, copies, filled, gives, poke, put_runs, read, standard, stored,
-};
-use crate::{mxcsr, xcomp_bv, xstate_bv};
-use std::alloc::{AllocError, Global};
-use std::test::Fail;
+use crate::fixtures::{Run, blank, compact, has_runs, poke, put_runs, read, standard, stored};
+use crate::{Area, mxcsr, xcomp_bv, xstate_bv};
+use std::alloc::AllocError;
 use xs_base::{Features, HeaderError, Origin, Parts};
 use xs_layout::Layout;
 
-/// XCOMP_BV of an area of the machine `amx` without room for PKRU and TILEDATA, and with room for TILEDATA.
+/// XCOMP_BV of an area of the machine `amx` without room for PKRU and TILEDATA.
 const SMALL: u64 = 0x8000_0000_0002_00e7;
-
-const LARGE: u64 = 0x8000_0000_0006_00e7;
 
 /// The components of the machine `amx`.
 const ALL: Features = Features(0x602e7);
@@ -23,183 +18,145 @@ fn the_header_is_read_little_endian(rt: HostRuntime) {
     poke(&mut bytes, 24, &[0x80, 0x1f]);
     poke(&mut bytes, 512, &[0x02, 0, 0, 0, 0, 0, 0, 0x40]);
     poke(&mut bytes, 520, &[0xe7, 0, 0, 0, 0, 0, 0, 0x80]);
-    assert_eq!(rt;
-        [mxcsr(&bytes) as u64, xstate_bv(&bytes), xcomp_bv(&bytes)],
-        [0x1f80, 0x4000_0000_0000_0002, 0x8000_0000_0000_00e7]
-    );
+    let mut well = mxcsr(&bytes) == 0x1f80;
+    well &= xstate_bv(&bytes) == 0x4000_0000_0000_0002;
+    well &= xcomp_bv(&bytes) == 0x8000_0000_0000_00e7;
+    assert!(rt; well);
 }
 
-/// An image in the standard format with these bits in XSTATE_BV, MXCSR 1FA0H and PKRU 11223344H.
-fn image(alloc: Global, layout: &Layout, bits: u64) -> Result<Vec<u8>, AllocError> {
-    let mut bytes = filled(alloc, layout.full_size() as usize, 0)?;
-    poke(&mut bytes, 24, &[0xa0, 0x1f]);
-    poke(&mut bytes, 512, &bits.to_le_bytes());
-    poke(&mut bytes, 2688, &[0x44, 0x33, 0x22, 0x11]);
-    Ok(bytes)
+/// Makes zeros an image in the standard format with these bits in XSTATE_BV, MXCSR 1FA0H and PKRU 11223344H.
+fn put_image(bytes: &mut [u8], bits: u64) {
+    poke(bytes, 24, &[0xa0, 0x1f]);
+    poke(bytes, 512, &bits.to_le_bytes());
+    poke(bytes, 2688, &[0x44, 0x33, 0x22, 0x11]);
 }
 
-/// Makes an image fail one test.
-fn spoil(bytes: &mut [u8], error: HeaderError) {
-    match error {
-        HeaderError::Features => poke(bytes, 513, &[1]),
-        HeaderError::Compacted => poke(bytes, 527, &[0x80]),
-        HeaderError::Reserved => poke(bytes, 575, &[1]),
-        HeaderError::Mxcsr => poke(bytes, 26, &[1]),
-    }
-}
-
-const ERRORS: [HeaderError; 4] = [
-    HeaderError::Features,
-    HeaderError::Compacted,
-    HeaderError::Reserved,
-    HeaderError::Mxcsr,
+/// The tests in their order, each with a byte that makes an image fail it.
+const ERRORS: [(HeaderError, usize, u8); 4] = [
+    (HeaderError::Features, 513, 1),
+    (HeaderError::Compacted, 527, 0x80),
+    (HeaderError::Reserved, 575, 1),
+    (HeaderError::Mxcsr, 26, 1),
 ];
 
-/// Whether an image that fails these two tests is refused with the first of them.
-fn tells_first(
-    alloc: Global,
+/// What `read_standard` tells of an image where one byte or two are others.
+fn taken(
     layout: &Layout,
+    (bits, allowed): (u64, Features),
     origin: Origin,
-    first: HeaderError,
-    second: HeaderError,
-) -> Result<bool, AllocError> {
-    let mut bytes = image(alloc, layout, 7)?;
-    spoil(&mut bytes, second);
-    spoil(&mut bytes, first);
-    Ok(read(layout, &bytes, Features(7), origin) == Some(Err(first)))
+    first: (usize, u8),
+    second: (usize, u8),
+) -> Option<Result<Parts, HeaderError>> {
+    let mut zeros = [0u8; 11008];
+    let len = zeros.len().min(layout.full_size() as usize);
+    let bytes = &mut zeros[..len];
+    put_image(bytes, bits);
+    poke(bytes, second.0, &[second.1]);
+    poke(bytes, first.0, &[first.1]);
+    read(layout, bytes, allowed, origin)
 }
 
-/// Whether each pair of tests is told by its first.
-fn tells_each_first(alloc: Global, layout: &Layout, origin: Origin) -> Result<bool, AllocError> {
+/// Whether each pair of tests is told by its first, on the machine `amx` or `avx`.
+fn tells_each_first(amx: bool, origin: Origin) -> bool {
+    let layout = if amx { Layout::amx() } else { Layout::avx() };
+    let set = (7, Features(7));
     let mut well = true;
-    for (i, first) in ERRORS.iter().enumerate() {
-        for second in &ERRORS[i..] {
-            well &= tells_first(alloc, layout, origin, *first, *second)?;
+    for (i, (error, at, value)) in ERRORS.iter().enumerate() {
+        for (_, other, new) in &ERRORS[i..] {
+            let told = taken(&layout, set, origin, (*at, *value), (*other, *new));
+            well &= told == Some(Err(*error));
         }
     }
-    Ok(well)
+    well
+}
+
+const FRAMES: [(bool, Origin); 4] = [
+    (true, Origin::Frame(Features(7))),
+    (true, Origin::Regset),
+    (false, Origin::Frame(Features(7))),
+    (false, Origin::Regset),
+];
+
+#[test]
+fn the_first_test_that_fails_is_told(rt: HostRuntime) {
+    for (amx, origin) in &FRAMES {
+        assert!(rt; tells_each_first(*amx, *origin));
+    }
+}
+
+/// What an image has: its components, MXCSR and PKRU.
+type Has = (u64, u32, u32);
+
+/// The bits of an image, where it comes from, a byte that becomes 1, and the test that it fails or what it has. Byte 511
+/// is of no component and no header.
+const READ: [(u64, Origin, usize, Result<Has, HeaderError>); 20] = [
+    // The header.
+    (7, Origin::Regset, 511, Ok((7, 0x1fa0, 0))),
+    (7, Origin::Regset, 520, Err(HeaderError::Compacted)),
+    (7, Origin::Regset, 527, Err(HeaderError::Compacted)),
+    (7, Origin::Regset, 528, Err(HeaderError::Reserved)),
+    (7, Origin::Regset, 535, Err(HeaderError::Reserved)),
+    (7, Origin::Regset, 536, Err(HeaderError::Reserved)),
+    (7, Origin::Regset, 575, Err(HeaderError::Reserved)),
+    (7, Origin::Regset, 576, Ok((7, 0x1fa0, 0))),
+    // MXCSR.
+    (7, Origin::Frame(Features(5)), 26, Ok((5, 0x1f80, 0))),
+    (5, Origin::Frame(Features(2)), 26, Err(HeaderError::Mxcsr)),
+    (1, Origin::Regset, 26, Err(HeaderError::Mxcsr)),
+    (2, Origin::Regset, 26, Err(HeaderError::Mxcsr)),
+    (4, Origin::Regset, 26, Err(HeaderError::Mxcsr)),
+    (
+        0x602e0,
+        Origin::Regset,
+        26,
+        Ok((0x602e0, 0x1f80, 0x1122_3344)),
+    ),
+    // Parts.
+    (
+        0x602e7,
+        Origin::Frame(Features(0x202e7)),
+        511,
+        Ok((0x202e7, 0x1fa0, 0x1122_3344)),
+    ),
+    (
+        0x204,
+        Origin::Frame(Features(0x203)),
+        511,
+        Ok((0x200, 0x1fa0, 0x1122_3344)),
+    ),
+    (0x207, Origin::Frame(Features(5)), 511, Ok((5, 0x1f80, 0))),
+    (
+        0x602e7,
+        Origin::Regset,
+        511,
+        Ok((0x602e7, 0x1fa0, 0x1122_3344)),
+    ),
+    (4, Origin::Regset, 511, Ok((4, 0x1fa0, 0))),
+    (0x201, Origin::Regset, 511, Ok((0x201, 0x1f80, 0x1122_3344))),
+];
+
+/// Whether this was told of an image.
+fn is_told(told: Option<Result<Parts, HeaderError>>, want: Result<Has, HeaderError>) -> bool {
+    match (told, want) {
+        (Some(Ok(parts)), Ok(has)) => (parts.bits.0, parts.mxcsr, parts.pkru) == has,
+        (Some(Err(error)), Err(wanted)) => error == wanted,
+        _ => false,
+    }
 }
 
 #[test]
-fn the_first_test_that_fails_is_told(rt: HostRuntime) -> Result<(), AllocError> {
-    for origin in [Origin::Frame(Features(7)), Origin::Regset] {
-        let amx = tells_each_first(rt.alloc(), &Layout::amx(), origin)?;
-        let avx = tells_each_first(rt.alloc(), &Layout::avx(), origin)?;
-        assert!(rt; amx && avx);
-    }
-    Ok(())
-}
-
-/// What an image is refused with where one byte is another, if it is.
-fn refusal(
-    alloc: Global,
-    bits: u64,
-    origin: Origin,
-    at: usize,
-) -> Result<Option<HeaderError>, AllocError> {
+fn images_are_read(rt: HostRuntime) {
     let layout = Layout::amx();
-    let mut bytes = image(alloc, &layout, bits)?;
-    poke(&mut bytes, at, &[1]);
-    match read(&layout, &bytes, ALL, origin) {
-        Some(Err(error)) => Ok(Some(error)),
-        _ => Ok(None),
+    for (bits, origin, at, want) in &READ {
+        let byte = (*at, 1);
+        let told = taken(&layout, (*bits, ALL), *origin, byte, byte);
+        assert!(rt; is_told(told, *want));
     }
 }
 
-#[test]
-fn bytes_of_the_header_and_of_mxcsr_count(rt: HostRuntime) -> Result<(), AllocError> {
-    for (bits, origin, at, want) in [
-        (7, Origin::Regset, 511, None),
-        (7, Origin::Regset, 520, Some(HeaderError::Compacted)),
-        (7, Origin::Regset, 527, Some(HeaderError::Compacted)),
-        (7, Origin::Regset, 528, Some(HeaderError::Reserved)),
-        (7, Origin::Regset, 535, Some(HeaderError::Reserved)),
-        (7, Origin::Regset, 536, Some(HeaderError::Reserved)),
-        (7, Origin::Regset, 575, Some(HeaderError::Reserved)),
-        (7, Origin::Regset, 576, None),
-        (7, Origin::Frame(Features(5)), 26, None),
-        (5, Origin::Frame(Features(2)), 26, Some(HeaderError::Mxcsr)),
-        (1, Origin::Regset, 26, Some(HeaderError::Mxcsr)),
-        (2, Origin::Regset, 26, Some(HeaderError::Mxcsr)),
-        (4, Origin::Regset, 26, Some(HeaderError::Mxcsr)),
-        (0x602e0, Origin::Regset, 26, None),
-    ] {
-        assert!(rt;
-            refusal(rt.alloc(), bits, origin, at)? == want,
-            "{bits} {at}"
-        );
-    }
-    Ok(())
-}
-
-/// Parts of an image.
-fn parts(bits: u64, mxcsr: u32, pkru: u32) -> Parts {
-    Parts {
-        bits: Features(bits),
-        mxcsr,
-        pkru,
-    }
-}
-
-/// Whether an image with these bits has these parts.
-fn has_parts(alloc: Global, bits: u64, origin: Origin, parts: Parts) -> Result<bool, AllocError> {
-    let layout = Layout::amx();
-    let bytes = image(alloc, &layout, bits)?;
-    Ok(read(&layout, &bytes, ALL, origin) == Some(Ok(parts)))
-}
-
-#[test]
-fn the_parts_of_an_image(rt: HostRuntime) -> Result<(), AllocError> {
-    let xsave = Origin::Regset;
-    for (bits, origin, taken, control, pkru) in [
-        (
-            0x602e7,
-            Origin::Frame(Features(0x202e7)),
-            0x202e7,
-            0x1fa0,
-            0x1122_3344,
-        ),
-        (
-            0x204,
-            Origin::Frame(Features(0x203)),
-            0x200,
-            0x1fa0,
-            0x1122_3344,
-        ),
-        (0x207, Origin::Frame(Features(5)), 5, 0x1f80, 0),
-        (0x602e7, xsave, 0x602e7, 0x1fa0, 0x1122_3344),
-        (4, xsave, 4, 0x1fa0, 0),
-        (0x201, xsave, 0x201, 0x1f80, 0x1122_3344),
-    ] {
-        assert!(rt; has_parts(rt.alloc(), bits, origin, parts(taken, control, pkru))?);
-    }
-    Ok(())
-}
-
-#[test]
-fn mxcsr_alone_needs_bit_1(rt: HostRuntime) -> Result<(), AllocError> {
-    let layout = Layout::amx();
-    let bytes = image(rt.alloc(), &layout, 0)?;
-    for (control, bit, value) in [(0x1f80, 0, 0x55), (0x1f81, 2, 0)] {
-        let parts = parts(0x200, control, 9);
-        let runs = [(160, value, 256)];
-        assert!(rt;
-            compacts(
-                rt.alloc(),
-                &layout,
-                &bytes,
-                &parts,
-                (SMALL, 2496),
-                bit,
-                &runs
-            )?
-        );
-    }
-    Ok(())
-}
-
-/// The bytes that `standard_of` gives of an area with XMM, AVX and TILECFG, over EEH, where PKRU is 04030201H.
-const STANDARD: [(usize, u8, usize); 20] = [
+/// The bytes that `standard_of` gives of an area with XMM, AVX and TILECFG, over EEH, where PKRU is 04030201H; and those
+/// that it gives for x87 alone.
+const STANDARD: [Run; 27] = [
     (0, 0x7f, 1),
     (1, 3, 1),
     (2, 0, 22),
@@ -220,100 +177,81 @@ const STANDARD: [(usize, u8, usize); 20] = [
     (2692, 0, 4),
     (2696, 0xee, 56),
     (2752, 0x17, 64),
+    (2816, 0, 8192),
+    (0, 0x7f, 1),
+    (1, 3, 1),
+    (2, 0, 22),
+    (24, 0xee, 8),
+    (32, 0, 128),
+    (160, 0xee, 416),
+];
+
+/// What that area has.
+const STORED: [Run; 3] = [(160, 0x11, 256), (576, 0x22, 256), (2432, 0x17, 64)];
+
+/// Whether the standard bytes of that area for these components, so many bytes, have the runs from one to another.
+fn standard_has(area: &Area, mask: Features, len: usize, from: usize, to: usize) -> bool {
+    let mut all = [0xeeu8; 11008];
+    let out = &mut all[..len.min(11008)];
+    let made = standard(&Layout::amx(), area, 0x0403_0201, mask, out);
+    match STANDARD.get(from..to) {
+        Some(runs) => made && has_runs(out, runs),
+        None => false,
+    }
+}
+
+/// Components, so many bytes, and the runs of `STANDARD` that are there, from one to another.
+const MASKS: [(Features, usize, usize, usize); 3] = [
+    (ALL, 11008, 0, 21),
+    (Features(0x202e7), 2816, 0, 20),
+    (Features(1), 576, 21, 27),
 ];
 
 #[test]
 fn standard_bytes_of_a_compacted_area(rt: HostRuntime) -> Result<(), AllocError> {
-    let layout = Layout::amx();
-    let runs = [(160, 0x11, 256), (576, 0x22, 256), (2432, 0x17, 64)];
-    let area = stored(rt.alloc(), SMALL, 2496, 0x20006, &runs)?;
-    let small = Features(0x202e7);
-    let tiles = [(2816, 0, 8192)];
-    let x87 = [
-        (0, 0x7f, 1),
-        (1, 3, 1),
-        (2, 0, 22),
-        (24, 0xee, 8),
-        (32, 0, 128),
-        (160, 0xee, 416),
-    ];
-    for (mask, len, runs) in [
-        (ALL, 11008, STANDARD.as_slice()),
-        (ALL, 11008, tiles.as_slice()),
-        (small, 2816, STANDARD.as_slice()),
-        (Features(1), 576, x87.as_slice()),
-    ] {
-        assert!(rt; gives(rt.alloc(), &layout, &area, 0x0403_0201, mask, len, runs)?);
+    let area = stored(rt.alloc(), SMALL, 2496, 0x20006, &STORED)?;
+    for (mask, len, from, to) in &MASKS {
+        assert!(rt; standard_has(&area, *mask, *len, *from, *to));
     }
     Ok(())
 }
 
-#[test]
-fn a_large_area_and_a_small_one(rt: HostRuntime) -> Result<(), AllocError> {
-    let amx = Layout::amx();
-    let runs = [(832, 5, 64), (2432, 0x17, 64)];
-    for (from, to, bits, want, control) in [
-        ((SMALL, 2496), (LARGE, 10688), 0x20022, 0x20022, 0x1fa0),
-        ((LARGE, 10688), (SMALL, 2496), 0x60020, 0x20020, 0x1f80),
-    ] {
-        let area = stored(rt.alloc(), from.0, from.1, bits, &runs)?;
-        assert!(rt; copies(rt.alloc(), &amx, &area, to, want, control, &runs)?);
-    }
-    Ok(())
-}
-
-#[test]
-fn both_formats(rt: HostRuntime) -> Result<(), AllocError> {
-    let amx = Layout::amx();
-    let small = [(832, 5, 64)];
-    let plain = [(1088, 5, 64)];
-    let area = stored(rt.alloc(), SMALL, 2496, 0x20, &small)?;
-    assert!(rt; copies(rt.alloc(), &amx, &area, (0, 11008), 0x20, 0x1f80, &plain)?);
-    let area = stored(rt.alloc(), 0, 11008, 0x20, &plain)?;
-    let small = [(160, 0, 256), (832, 5, 64)];
-    assert!(rt; copies(rt.alloc(), &amx, &area, (SMALL, 2496), 0x22, 0x1fa0, &small)?);
-    Ok(())
-}
-
-/// The standard bytes of the area that an image of the machine `avx` was made to.
-fn returned(alloc: Global, bytes: &[u8], parts: &Parts) -> Result<Option<Vec<u8>>, AllocError> {
+/// Whether an image of the machine `avx` is read, and the area that it's made to has these standard bytes.
+fn returns(area: &mut Area, bytes: &[u8], want: &[u8]) -> bool {
     let avx = Layout::avx();
-    let mut area = blank(alloc, 0x8000_0000_0000_0007, 832)?;
-    let mut out = filled(alloc, 832, 0)?;
-    let made = compact(&avx, bytes, parts, &mut area);
-    if made && standard(&avx, &area, parts.pkru, Features(7), &mut out) {
-        return Ok(Some(out));
-    }
-    Ok(None)
+    let Some(Ok(parts)) = read(&avx, bytes, Features(7), Origin::Regset) else {
+        return false;
+    };
+    let mut out = [0u8; 832];
+    let made = compact(&avx, bytes, &parts, area);
+    made && standard(&avx, area, parts.pkru, Features(7), &mut out) && out.as_slice() == want
 }
 
-/// An image with bytes that belong to no register, or with zeros in their place and no XSTATE_BV.
-fn with_loose(alloc: Global, loose: u8, bits: u8) -> Result<Vec<u8>, AllocError> {
-    let mut bytes = image(alloc, &Layout::avx(), 7)?;
+/// An image of the machine `avx` with bytes that belong to no register, or with zeros in their place and no XSTATE_BV.
+fn with_loose(loose: u8, bits: u8) -> [u8; 832] {
+    let mut bytes = [0u8; 832];
+    put_image(&mut bytes, 7);
     poke(&mut bytes, 0, &[1, 2, 3, 4, 5, loose, 6, 7, 8]);
-    put_runs(
-        &mut bytes,
-        &[
-            (28, 0xff, 2),
-            (32, 0x44, 128),
-            (160, 0x11, 256),
-            (576, 0x22, 256),
-        ],
-    );
+    put_runs(&mut bytes, &REGISTERS);
     for slot in 0..8 {
         poke(&mut bytes, 42 + 16 * slot, &[loose; 6]);
     }
     poke(&mut bytes, 512, &[bits]);
-    Ok(bytes)
+    bytes
 }
 
+const REGISTERS: [Run; 4] = [
+    (28, 0xff, 2),
+    (32, 0x44, 128),
+    (160, 0x11, 256),
+    (576, 0x22, 256),
+];
+
 #[test]
-fn there_and_back(rt: HostRuntime) -> Result<(), Fail> {
-    let bytes = with_loose(rt.alloc(), 0xff, 7)?;
-    let want = with_loose(rt.alloc(), 0, 0)?;
-    let Some(Ok(parts)) = read(&Layout::avx(), &bytes, Features(7), Origin::Regset) else {
-        return Err(Fail::from("refused"));
-    };
-    assert!(rt; returned(rt.alloc(), &bytes, &parts)? == Some(want));
+fn there_and_back(rt: HostRuntime) -> Result<(), AllocError> {
+    let bytes = with_loose(0xff, 7);
+    let want = with_loose(0, 0);
+    let mut area = blank(rt.alloc(), 0x8000_0000_0000_0007, 832)?;
+    assert!(rt; returns(&mut area, &bytes, &want));
     Ok(())
 }
