@@ -1,0 +1,32 @@
+-- A task's area is accepted, and gives its registers.
+use Rattle.std.proofs.Common.{true≢false, sym, ap, ◌∙◌}
+use Rattle.xs_base.specs.declared.class.Class.TheVariants.{Large}
+use Rattle.xs_bank.specs.Load.{stops_tiles}
+use Rattle.xs_switch.proofs.AreaLemmas.{table, long, holds, no_tiles, covers, no_pkru}
+use Rattle.xs_switch.proofs.restoring.restore.Goals as goal
+
+pub xrstors-requires-clause-header : goal.xrstors-requires-clause-header
+xrstors-requires-clause-header g c = long c.args.layout.now c.args.lease.now c.requires.area
+
+pub xrstors-requires-clause-places : goal.xrstors-requires-clause-places
+xrstors-requires-clause-places g c = λ compact. rw (c.arm.ensures.machine) (holds c.args.layout.now c.args.lease.now c.requires.area)
+
+pub unreachable-requires : goal.unreachable-requires
+unreachable-requires g c =
+    let rows = c.args.layout.now in
+    let lease = c.args.lease.now in
+    let accepted = rw (c.arm.ensures.machine) at c.in-Err.ensures.accepted in
+    let stopped = accepted lease.class lease.area.id c.requires.area.loadable c.requires.area.compact in
+    let free = no_tiles rows lease c.requires.area c.class_features-mask.result.0 in
+    absurd (true≢false (sym stopped.0 ∙ ap (λ n. stops_tiles n c.class_features-mask.result.0 lease.area.bytes.items) c.arm.ensures.armed ∙ free))
+
+pub returns-clause-file : goal.returns-clause-file
+returns-clause-file g c = λ file good stands.
+    let rows = c.args.layout.now in
+    let whole = rw (c.arm.ensures.machine) at c.in-Ok.ensures.whole in
+    (whole file good stands).all (covers rows c.class_features-mask.result.0 (table rows c.args.lease.now c.requires.area) c.class_features-mask.ensures.bits)
+
+pub returns-clause-pkru : goal.returns-clause-pkru
+returns-clause-pkru g c =
+    let rows = c.args.layout.now in
+    c.in-Ok.ensures.loaded.others 9 (no_pkru rows Large c.class_features-mask.result.0 (table rows c.args.lease.now c.requires.area) c.class_features-mask.ensures.bits) ∙ c.arm.ensures.pkru
