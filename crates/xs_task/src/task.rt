@@ -58,6 +58,8 @@ impl Task {
         ensures last { IfOk result (λ task. task.last ≡ None) }
         ensures frame { IfOk result (λ task. task.frame.items ≡ zeros frame_bytes) }
         ensures buffer { IfOk result (λ task. task.buffer.items ≡ zeros buffer_bytes) }
+        ensures frame_len { IfOk result (λ task. length task.frame.items ≡ frame_bytes) }
+        ensures buffer_len { IfOk result (λ task. length task.buffer.items ≡ buffer_bytes) }
     {
         let frame = zeros_of(alloc, FRAME_BYTES)?;
         let buffer = zeros_of(alloc, BUFFER_BYTES)?;
@@ -125,7 +127,8 @@ fn make_zero(bytes: &mut [u8])
 /// A vector of `len` zeros.
 #[tactic(auto, unfolding(xs_base::specs::Bytes::zeros))]
 fn zeros_of(alloc: Global, len: usize) -> Result<Vec<u8>, AllocError>
-    ensures { IfOk result (λ v. v.items ≡ zeros len) }
+    ensures zeros { IfOk result (λ v. v.items ≡ zeros len) }
+    ensures len { IfOk result (λ v. length v.items ≡ len) }
 {
     vec![in alloc; 0u8; len]
 }

@@ -15,7 +15,7 @@ fn small_lease(alloc: Global, layout: &Layout) -> Result<Lease, AllocError>
     ensures area { IfOk result (λ lease. IsTaskArea layout.now lease) }
     ensures class { IfOk result (λ lease. lease.class ≡ Small) }
 {
-    let mut bytes = vec![in alloc; 0u8; class_size(layout, Class::Small) as usize];
+    let mut bytes = vec![in alloc; 0u8; class_size(layout, Class::Small) as usize]?;
     make_initial(layout, Class::Small, &mut bytes);
     Ok(Lease {
         class: Class::Small,
@@ -36,6 +36,6 @@ fn told(alloc: Global) -> Result<(u32, bool, Lane), AllocError> {
 #[test]
 fn a_born_task_tells_what_was_written(rt: HostRuntime) -> Result<(), AllocError> {
     let (pkru, need_load, lane) = told(rt.alloc())?;
-    assert!(rt; pkru == 0x5555_5554 && need_load && *lane.as_slice() == [0, 5, 6, 7, 8]);
+    assert!(rt; pkru == 0x5555_5554 && need_load && lane.as_slice() == [0, 5, 6, 7, 8].as_slice());
     Ok(())
 }
