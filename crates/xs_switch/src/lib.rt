@@ -11,6 +11,8 @@ mod restoring;
 mod saving;
 mod section;
 mod taking;
+#[cfg(test)]
+mod tests;
 
 pub use entering::{resume, switch_in};
 pub use leaving::switch_out;
