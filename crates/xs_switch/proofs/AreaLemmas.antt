@@ -15,7 +15,8 @@ use Rattle.xs_base.specs.KernelArea.{class_features, is_of_class, IsLoadable}
 use Rattle.xs_base.specs.Layout.{IsLayout, has_row}
 use Rattle.xs_base.specs.Sets.{has}
 use Rattle.xs_bank.specs.Bank.{disarmed_file}
-use Rattle.xs_bank.specs.Load.{stops_tiles, tiles}
+use Rattle.xs_bank.specs.declared.instruction.Trap.{Trap}
+use Rattle.xs_bank.specs.Load.{stops_tiles, tiles, IsStopped}
 use Rattle.xs_bank.specs.Registers.{AreRegisters}
 use Rattle.xs_bank.specs.Save.{IsInitialOutside, IsLoadableSave}
 use Rattle.xs_task.specs.TaskArea.{IsTaskArea}
@@ -89,6 +90,10 @@ module _ (rows : List Row) (lease : Lease) (area : IsTaskArea rows lease) where
         | inr off ↦ off_last (has (armed_for rows Small) 18) (has mask 18) (has (xstate_bv lease.area.bytes.items) 18) off
       ]
       here Large bits = three (has (armed_for rows Large) 18) (has mask 18) (has (xstate_bv lease.area.bytes.items) 18) (large_none (has_row rows 18))
+
+-- so no restore of it is
+pub never_stopped : (rows : List Row) (lease : Lease) → IsTaskArea rows lease → (armed mask : ℕ) (trap : Trap) → armed ≡ armed_for rows lease.class → IsStopped armed mask lease.area.bytes.items trap → ⊥
+never_stopped rows lease area armed mask trap is stopped = true≢false (sym stopped.0 ∙ ap (λ n. stops_tiles n mask lease.area.bytes.items) is ∙ no_tiles rows lease area mask)
 
 -- a restore takes every component of the machine but PKRU
 pub covers : (rows : List Row) (mask : ℕ) → IsLayout rows → mask ≡ class_features rows Large → (c : ℕ) → has_row rows c ≡ true → (c ≡ 9 → ⊥) → has mask c ≡ true

@@ -1,8 +1,7 @@
 -- A task's area is accepted, and gives its registers.
-use Rattle.std.proofs.Common.{true≢false, sym, ap, ◌∙◌}
+use Rattle.std.proofs.Common.{◌∙◌}
 use Rattle.xs_base.specs.declared.class.Class.TheVariants.{Large}
-use Rattle.xs_bank.specs.Load.{stops_tiles}
-use Rattle.xs_switch.proofs.AreaLemmas.{table, long, holds, no_tiles, covers, no_pkru}
+use Rattle.xs_switch.proofs.AreaLemmas.{table, long, holds, never_stopped, covers, no_pkru}
 use Rattle.xs_switch.proofs.restoring.restore.Goals as goal
 
 pub xrstors-requires-clause-header : goal.xrstors-requires-clause-header
@@ -16,9 +15,7 @@ unreachable-requires g c =
     let rows = c.args.layout.now in
     let lease = c.args.lease.now in
     let accepted = rw (c.arm.ensures.machine) at c.in-Err.ensures.accepted in
-    let stopped = accepted lease.class lease.area.id c.requires.area.loadable c.requires.area.compact in
-    let free = no_tiles rows lease c.requires.area c.class_features-mask.result.0 in
-    absurd (true≢false (sym stopped.0 ∙ ap (λ n. stops_tiles n c.class_features-mask.result.0 lease.area.bytes.items) c.arm.ensures.armed ∙ free))
+    absurd (never_stopped rows lease c.requires.area _ _ _ c.arm.ensures.armed (accepted lease.class lease.area.id c.requires.area.loadable c.requires.area.compact))
 
 pub returns-clause-file : goal.returns-clause-file
 returns-clause-file g c = λ file good stands.
