@@ -4,12 +4,12 @@
 ghost use Rattle.std.specs.Prelude.{◌≡◌, true, false, Some, None};
 ghost use Rattle.xs_area.specs.declared.area.Lease.{Lease};
 ghost use Rattle.xs_base.specs.Component.{pkru_number};
-ghost use Rattle.xs_base.specs.File.{part};
+ghost use Rattle.xs_base.specs.File.{part, write_place};
 ghost use Rattle.xs_base.specs.Task.{PrivateTask};
 ghost use Rattle.xs_bank.specs.SetUp.{WasSetUp};
 ghost use Rattle.xs_task.specs.Marks.{IsSavedIn};
 ghost use Rattle.xs_task.specs.TaskArea.{IsTask, KeepsArea};
-ghost use Rattle.xs_switch.specs.Counts.{counts_of, one_save, one_section};
+ghost use Rattle.xs_switch.specs.Counts.{counts_of, one_save, one_section, section_bytes, xmm0};
 ghost use Rattle.xs_switch.specs.Running.{CanSave, IsRunning};
 
 use crate::leaving::save_task;
@@ -39,6 +39,8 @@ pub fn kernel_section<B: Bank>(task: &mut Task, cpu: &mut Cpu<B>, byte: u8)
     ensures ready { CanSave cpu.new.layout task.new (B.state cpu.new.bank) }
     ensures saved { (lease : Lease) → task.new.lease ≡ Some lease → IsSavedIn cpu.old.layout lease (B.state cpu.old.bank).file }
     ensures running { (p : PrivateTask) → IsRunning cpu.old.layout task.old (B.state cpu.old.bank) p → IsRunning cpu.new.layout task.new (B.state cpu.new.bank) p }
+    ensures file { (B.state cpu.new.bank).file ≡ write_place (B.state cpu.old.bank).file xmm0 (section_bytes byte) }
+    ensures armed { (B.state cpu.new.bank).armed ≡ (B.state cpu.old.bank).armed }
     ensures counts { counts_of (B.state cpu.new.bank) ≡ one_section byte (one_save (counts_of (B.state cpu.old.bank))) }
 {
     save_task(task, cpu);
@@ -52,6 +54,8 @@ pub fn kernel_section<B: Bank>(task: &mut Task, cpu: &mut Cpu<B>, byte: u8)
 pub fn thread_section<B: Bank>(cpu: &mut Cpu<B>, byte: u8)
     requires set_up { WasSetUp cpu.old.layout (B.state cpu.old.bank) cpu.old.initial }
     ensures set_up { WasSetUp cpu.new.layout (B.state cpu.new.bank) cpu.new.initial }
+    ensures file { (B.state cpu.new.bank).file ≡ write_place (B.state cpu.old.bank).file xmm0 (section_bytes byte) }
+    ensures armed { (B.state cpu.new.bank).armed ≡ (B.state cpu.old.bank).armed }
     ensures pkru { part (B.state cpu.new.bank).file pkru_number ≡ part (B.state cpu.old.bank).file pkru_number }
     ensures counts { counts_of (B.state cpu.new.bank) ≡ one_section byte (counts_of (B.state cpu.old.bank)) }
     ensures cpu { cpu.new ≡ record cpu.old { bank = cpu.new.bank; mark = None } }
