@@ -6,11 +6,11 @@ use Rattle.xs_task.specs.declared.memory.Mem.{Mem}
 use Rattle.xs_task.specs.declared.memory.Mem.TheVariants.{Frame, Buffer}
 
 -- A frame has 16,384 bytes and 4 for the second magic word.
-abbrev pub frame_bytes : ℕ
-frame_bytes = 16388
+abbrev pub frame_length : ℕ
+frame_length = 16388
 
-abbrev pub buffer_bytes : ℕ
-buffer_bytes = 16384
+abbrev pub buffer_length : ℕ
+buffer_length = 16384
 
 -- the bytes of a memory
 abbrev pub memory : Mem → Task → List ℕ

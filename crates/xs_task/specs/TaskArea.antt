@@ -9,7 +9,7 @@ use Rattle.xs_task.specs.declared.task.Task.{Task}
 use Rattle.xs_base.specs.Compact.{is_compacted}
 use Rattle.xs_base.specs.Header.{xcomp_bv}
 use Rattle.xs_base.specs.KernelArea.{class_size, IsLoadable}
-use Rattle.xs_task.specs.Memory.{frame_bytes, buffer_bytes}
+use Rattle.xs_task.specs.Memory.{frame_length, buffer_length}
 
 -- An area that a task of the machine may have: it can be loaded, is compacted, and has the length of its class.
 pub record IsTaskArea (rows : List Row) (lease : Lease) : Type 0 where
@@ -19,8 +19,8 @@ pub record IsTaskArea (rows : List Row) (lease : Lease) : Type 0 where
 
 -- The task has both memories and an area: it is born and hasn't ended.
 pub record IsTask (rows : List Row) (task : Task) : Type 0 where
-  pub frame : length task.frame.items ≡ frame_bytes
-  pub buffer : length task.buffer.items ≡ buffer_bytes
+  pub frame : length task.frame.items ≡ frame_length
+  pub buffer : length task.buffer.items ≡ buffer_length
   pub some : task.lease ≡ None → ⊥
   pub area : (lease : Lease) → task.lease ≡ Some lease → IsTaskArea rows lease
 

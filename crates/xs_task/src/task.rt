@@ -4,7 +4,7 @@ ghost use Rattle.std.specs.Prelude.{◌≡◌, true, false, length, IfOk, None};
 ghost use Rattle.xs_base.specs.declared.class.Class.TheVariants.{Small};
 ghost use Rattle.xs_base.specs.Bytes.{zeros};
 ghost use Rattle.xs_base.specs.Task.{root_task};
-ghost use Rattle.xs_task.specs.Memory.{frame_bytes, buffer_bytes};
+ghost use Rattle.xs_task.specs.Memory.{frame_length, buffer_length};
 ghost use Rattle.xs_task.specs.Parked.{IsParked};
 ghost use Rattle.xs_task.specs.TaskArea.{IsTask, IsTaskArea};
 
@@ -56,10 +56,10 @@ impl Task {
         ensures name { IfOk result (λ task. task.name ≡ name) }
         ensures lease { IfOk result (λ task. task.lease ≡ None) }
         ensures last { IfOk result (λ task. task.last ≡ None) }
-        ensures frame { IfOk result (λ task. task.frame.items ≡ zeros frame_bytes) }
-        ensures buffer { IfOk result (λ task. task.buffer.items ≡ zeros buffer_bytes) }
-        ensures frame_len { IfOk result (λ task. length task.frame.items ≡ frame_bytes) }
-        ensures buffer_len { IfOk result (λ task. length task.buffer.items ≡ buffer_bytes) }
+        ensures frame { IfOk result (λ task. task.frame.items ≡ zeros frame_length) }
+        ensures buffer { IfOk result (λ task. task.buffer.items ≡ zeros buffer_length) }
+        ensures frame_len { IfOk result (λ task. length task.frame.items ≡ frame_length) }
+        ensures buffer_len { IfOk result (λ task. length task.buffer.items ≡ buffer_length) }
     {
         let frame = zeros_of(alloc, FRAME_BYTES)?;
         let buffer = zeros_of(alloc, BUFFER_BYTES)?;
@@ -80,8 +80,8 @@ impl Task {
 
     /// Makes it a task that no fork has made, before its first turn, with this Small area. Whatever state the area has is lost.
     pub fn born(&mut self, layout: &Layout, lease: Lease)
-        requires frame { length self.old.frame.items ≡ frame_bytes }
-        requires buffer { length self.old.buffer.items ≡ buffer_bytes }
+        requires frame { length self.old.frame.items ≡ frame_length }
+        requires buffer { length self.old.buffer.items ≡ buffer_length }
         requires area { IsTaskArea layout.now lease }
         requires small { lease.class ≡ Small }
         ensures whole { IsTask layout.now self.new }
@@ -99,10 +99,10 @@ impl Task {
 
     /// Makes its memories zero and sets it before its first line, with its registers in its area.
     fn renew(&mut self)
-        requires frame { length self.old.frame.items ≡ frame_bytes }
-        requires buffer { length self.old.buffer.items ≡ buffer_bytes }
-        ensures frame { self.new.frame.items ≡ zeros frame_bytes }
-        ensures buffer { self.new.buffer.items ≡ zeros buffer_bytes }
+        requires frame { length self.old.frame.items ≡ frame_length }
+        requires buffer { length self.old.buffer.items ≡ buffer_length }
+        ensures frame { self.new.frame.items ≡ zeros frame_length }
+        ensures buffer { self.new.buffer.items ≡ zeros buffer_length }
         ensures others { self.new ≡ record self.old { frame = self.new.frame; buffer = self.new.buffer; last = None; need_load = true; handling = false; place = 0; back = 0 } }
     {
         make_zero(&mut self.frame);
