@@ -60,8 +60,8 @@ module _ (rows : List Row) (lease : Lease) (area : IsTaskArea rows lease) where
   long = let low = compact_size_low rows (class_features rows lease.class) in omega (arith, area.len)
 
   -- it has the places that it names
-  pub holds : HasPlaces rows lease.area.bytes.items (xcomp_bv lease.area.bytes.items)
-  holds = compacted_places rows (class_features rows lease.class) lease.area.bytes.items table names (omega (arith, area.len))
+  pub has_places : HasPlaces rows lease.area.bytes.items (xcomp_bv lease.area.bytes.items)
+  has_places = compacted_places rows (class_features rows lease.class) lease.area.bytes.items table names (omega (arith, area.len))
 
   -- nothing of it is stopped by what is armed for its class
   pub no_tiles : (mask : ℕ) → stops_tiles (armed_for rows lease.class) mask lease.area.bytes.items ≡ false

@@ -17,7 +17,7 @@ use Rattle.xs_task.specs.Marks.{IsSavedIn}
 use Rattle.xs_task.specs.Private.{HasForm, private_of}
 use Rattle.xs_task.specs.TaskArea.{KeepsArea, has_large, is_large}
 use Rattle.xs_switch.specs.Armed.{armed_for}
-use Rattle.xs_switch.specs.Running.{IsRunning, IsHeld}
+use Rattle.xs_switch.specs.Running.{IsRunning, IsInBank}
 
 -- a file with PKRU written beside the same registers
 pub same_file : (file bank : File) (pkru : ℕ) → IsFile file → IsFile bank → AreSameButPkru file bank → part file 9 ≡ pkru_bytes pkru → with_pkru bank pkru ≡ file
@@ -50,18 +50,18 @@ pkru_read bank pkru good is = ap (λ (f : File). part f 9) (sym is) ∙ get_or-s
 
 -- ---- a task in a turn
 
-pub running_held : (rows : List Row) (task : Task) (bank : banks.Bank) (private : PrivateTask) → IsPrivateTask rows private → HasForm task private → task.need_load ≡ false → bank.file ≡ private.file → IsRunning rows task bank private
-running_held rows task bank private valid form clear same = record {
+pub running_in_bank : (rows : List Row) (task : Task) (bank : banks.Bank) (private : PrivateTask) → IsPrivateTask rows private → HasForm task private → task.need_load ≡ false → bank.file ≡ private.file → IsRunning rows task bank private
+running_in_bank rows task bank private valid form clear same = record {
   valid = valid;
   form = form;
   pkru = ap (λ (f : File). part f 9) same;
   saved = λ flag. absurd (false≢true (sym clear ∙ flag));
-  held = λ flag. same;
+  whole = λ flag. same;
 }
 
 -- what holds of a task's area holds of each area that it is
 pub the_lease : (P : Lease → Type 0) (o : Option Lease) (lease : Lease) → o ≡ Some lease → P lease → (other : Lease) → o ≡ Some other → P other
-the_lease P o lease here holds other is = let same : other ≡ lease = cc (sym here ∙ is) in rw same holds
+the_lease P o lease here known other is = let same : other ≡ lease = cc (sym here ∙ is) in rw same known
 
 pub running_saved : (rows : List Row) (task : Task) (bank : banks.Bank) (private : PrivateTask) → IsPrivateTask rows private → HasForm task private → task.need_load ≡ true → part bank.file 9 ≡ part private.file 9 → ((lease : Lease) → task.lease ≡ Some lease → IsSavedIn rows lease private.file) → IsRunning rows task bank private
 running_saved rows task bank private valid form set pkru saved = record {
@@ -69,15 +69,15 @@ running_saved rows task bank private valid form set pkru saved = record {
   form = form;
   pkru = pkru;
   saved = λ flag. saved;
-  held = λ flag. absurd (false≢true (sym flag ∙ set));
+  whole = λ flag. absurd (false≢true (sym flag ∙ set));
 }
 
 -- 'the bank holds the task' in terms of its area, and back
 large_is : (task : Task) (private : PrivateTask) (lease : Lease) → HasForm task private → task.lease ≡ Some lease → private.large ≡ is_large lease.class
 large_is task private lease form is = ap (λ (q : PrivateTask). q.large) form ∙ ap has_large is
 
-pub held_from : (rows : List Row) (task : Task) (bank : banks.Bank) (private : PrivateTask) (lease : Lease) → HasForm task private → task.lease ≡ Some lease → private.file.rows ≡ rows → Holds bank private → IsHeld rows lease bank private.file
-held_from rows task bank private lease form is rows_are holds = record {
+pub in_bank_from : (rows : List Row) (task : Task) (bank : banks.Bank) (private : PrivateTask) (lease : Lease) → HasForm task private → task.lease ≡ Some lease → private.file.rows ≡ rows → Holds bank private → IsInBank rows lease bank private.file
+in_bank_from rows task bank private lease form is rows_are holds = record {
   same = holds.file;
   armed = holds.armed ∙ ap (λ (rs : List Row). if has_row rs 18 && not private.large then tiles else 0) rows_are ∙ ap (λ (b : Bool). if has_row rows 18 && not b then tiles else 0) (large_is task private lease form is);
 }

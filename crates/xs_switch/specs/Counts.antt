@@ -38,7 +38,7 @@ abbrev pub load_if : Bool → Counts → Counts
 load_if needed counts = if needed then one_load counts else counts
 
 abbrev pub save_if : Bool → Counts → Counts
-save_if held counts = if held then one_save counts else counts
+save_if in_bank counts = if in_bank then one_save counts else counts
 
 abbrev pub xmm0 : Place
 xmm0 = place_at sse_number 0 16

@@ -15,7 +15,7 @@ use Rattle.xs_task.specs.Private.{HasForm}
 use Rattle.xs_switch.specs.Armed.{armed_for}
 
 -- The bank has this file, PKRU aside, and is armed for the area's class.
-pub record IsHeld (rows : List Row) (lease : Lease) (bank : banks.Bank) (file : File) : Type 0 where
+pub record IsInBank (rows : List Row) (lease : Lease) (bank : banks.Bank) (file : File) : Type 0 where
   pub same : AreSameButPkru file bank.file
   pub armed : bank.armed ≡ armed_for rows lease.class
 
@@ -34,4 +34,4 @@ pub record IsRunning (rows : List Row) (task : Task) (bank : banks.Bank) (privat
   pub form : HasForm task private
   pub pkru : part bank.file pkru_number ≡ part private.file pkru_number
   pub saved : task.need_load ≡ true → (lease : Lease) → task.lease ≡ Some lease → IsSavedIn rows lease private.file
-  pub held : task.need_load ≡ false → bank.file ≡ private.file
+  pub whole : task.need_load ≡ false → bank.file ≡ private.file

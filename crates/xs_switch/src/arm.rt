@@ -21,8 +21,8 @@ fn armed_for(layout: &Layout, class: Class) -> Features
     match class {
         Class::Large => Features(0),
         Class::Small => {
-            if layout.has_row(Comp(18)) {
-                Features(0x40000)
+            if layout.has_row(Comp::TILEDATA) {
+                Features::TILEDATA
             } else {
                 Features(0)
             }

@@ -19,7 +19,7 @@ use xs_task::Task;
 
 /// Begins a turn of the parked task on the processor: its registers come from its area, or the bank still holds them; PKRU is
 /// written apart (Linux 6.6, arch/x86/kernel/fpu/context.h, fpregs_restore_userregs; arch/x86/kernel/process_64.c,
-/// x86_pkru_load). Where they are still held, the processor's mark is the task and the task's last processor is this one.
+/// x86_pkru_load). Where the bank still holds them, the processor's mark is the task and the task's last processor is this one.
 pub fn switch_in<B: Bank>(task: &mut Task, cpu: &mut Cpu<B>, how: How)
     requires set_up { WasSetUp cpu.old.layout (B.state cpu.old.bank) cpu.old.initial }
     requires task { IsTask cpu.old.layout task.old }

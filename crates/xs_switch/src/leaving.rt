@@ -20,7 +20,7 @@ use xs_task::{Task, a_saved_task_is_parked};
 pub fn save_task<B: Bank>(task: &mut Task, cpu: &mut Cpu<B>)
     requires set_up { WasSetUp cpu.old.layout (B.state cpu.old.bank) cpu.old.initial }
     requires task { IsTask cpu.old.layout task.old }
-    requires held { task.old.need_load ≡ false }
+    requires in_bank { task.old.need_load ≡ false }
     requires ready { CanSave cpu.old.layout task.old (B.state cpu.old.bank) }
     ensures set_up { WasSetUp cpu.new.layout (B.state cpu.new.bank) cpu.new.initial }
     ensures whole { IsTask cpu.old.layout task.new }

@@ -19,7 +19,7 @@ use xs_task::Task;
 
 /// The place of XMM0.
 const XMM0: Place = Place {
-    comp: Comp(1),
+    comp: Comp::SSE,
     offset: 0,
     len: 16,
 };
@@ -29,7 +29,7 @@ const XMM0: Place = Place {
 pub fn kernel_section<B: Bank>(task: &mut Task, cpu: &mut Cpu<B>, byte: u8)
     requires set_up { WasSetUp cpu.old.layout (B.state cpu.old.bank) cpu.old.initial }
     requires task { IsTask cpu.old.layout task.old }
-    requires held { task.old.need_load ≡ false }
+    requires in_bank { task.old.need_load ≡ false }
     requires ready { CanSave cpu.old.layout task.old (B.state cpu.old.bank) }
     ensures set_up { WasSetUp cpu.new.layout (B.state cpu.new.bank) cpu.new.initial }
     ensures whole { IsTask cpu.new.layout task.new }

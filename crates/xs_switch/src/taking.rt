@@ -9,7 +9,7 @@ ghost use Rattle.xs_base.specs.KernelArea.{class_features};
 ghost use Rattle.xs_bank.specs.Bank.{IsReady};
 ghost use Rattle.xs_task.specs.TaskArea.{IsTaskArea};
 ghost use Rattle.xs_switch.specs.Counts.{counts_of, after_start};
-ghost use Rattle.xs_switch.specs.Running.{IsHeld};
+ghost use Rattle.xs_switch.specs.Running.{IsInBank};
 
 use crate::restoring::restore;
 use xs_area::Lease;
@@ -23,8 +23,8 @@ pub fn take_registers<B: Bank>(bank: &mut B, layout: &Layout, lease: &Lease, how
     requires area { IsTaskArea layout.now lease.now }
     requires user { how ≡ hows.Kern → ⊥ }
     ensures machine { (B.state bank.new).file.rows ≡ layout.now }
-    ensures held { (file : File) → IsFile file → StandsFor layout.now lease.now.area.bytes.items file → (how ≡ hows.Skip → IsHeld layout.now lease.now (B.state bank.old) file) → IsHeld layout.now lease.now (B.state bank.new) file }
-    ensures ready { (file : File) → IsFile file → StandsFor layout.now lease.now.area.bytes.items file → (how ≡ hows.Skip → IsHeld layout.now lease.now (B.state bank.old) file) → IsReady (B.state bank.new) lease.now.area.id (class_features layout.now lease.now.class) lease.now.area.bytes.items }
+    ensures in_bank { (file : File) → IsFile file → StandsFor layout.now lease.now.area.bytes.items file → (how ≡ hows.Skip → IsInBank layout.now lease.now (B.state bank.old) file) → IsInBank layout.now lease.now (B.state bank.new) file }
+    ensures ready { (file : File) → IsFile file → StandsFor layout.now lease.now.area.bytes.items file → (how ≡ hows.Skip → IsInBank layout.now lease.now (B.state bank.old) file) → IsReady (B.state bank.new) lease.now.area.id (class_features layout.now lease.now.class) lease.now.area.bytes.items }
     ensures pkru { part (B.state bank.new).file pkru_number ≡ part (B.state bank.old).file pkru_number }
     ensures counts { counts_of (B.state bank.new) ≡ after_start how (counts_of (B.state bank.old)) }
 {

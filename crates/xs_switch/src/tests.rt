@@ -53,7 +53,7 @@ fn look<B: Bank>(cpu: &mut Cpu<B>, reads: bool)
     let _ = cpu.bank.loads();
     if reads {
         let xmm0 = Place {
-            comp: Comp(1),
+            comp: Comp::SSE,
             offset: 0,
             len: 16,
         };

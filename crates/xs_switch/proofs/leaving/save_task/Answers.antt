@@ -3,7 +3,7 @@ use Rattle.std.proofs.Common.{◌≡◌}
 use Rattle.xs_switch.proofs.leaving.save_task.Goals as goal
 
 pub save-requires-clause-ready : goal.save-requires-clause-ready
-save-requires-clause-ready g c = (c.requires.ready c.requires.held c.in-Some.lease c.in-Some.is).ready
+save-requires-clause-ready g c = (c.requires.ready c.requires.in_bank c.in-Some.lease c.in-Some.is).ready
 
 pub returns-clause-saved : goal.returns-clause-saved
 returns-clause-saved g c = λ lease is.

@@ -20,7 +20,7 @@ returns-clause-parked g c = λ p run.
     let value = c.rdpkru-task.result in
     let saved : (lease : Lease) → new ≡ Some lease → IsSavedIn rows lease p.file = λ lease is. elim (cases_Bool task.need_load) [
       | inl set ↦ run.saved set lease (sym (c.settle.ensures.unchanged set) ∙ is)
-      | inr clear ↦ (rw (run.held clear) at c.settle.ensures.saved clear lease is)
+      | inr clear ↦ (rw (run.whole clear) at c.settle.ensures.saved clear lease is)
     ] in
     let same : part p.file 9 ≡ part bank.file 9 = sym run.pkru ∙ ap (λ (f : File). part f 9) (sym c.settle.ensures.file) in
     let own : part p.file 9 ≡ pkru_bytes value = same ∙ pkru_read bank.file value c.loads.ensures.file c.rdpkru-task.ensures.kept in

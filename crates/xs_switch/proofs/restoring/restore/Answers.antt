@@ -1,14 +1,14 @@
 -- A task's area is accepted, and gives its registers.
 use Rattle.std.proofs.Common.{◌∙◌}
 use Rattle.xs_base.specs.declared.class.Class.TheVariants.{Large}
-use Rattle.xs_switch.proofs.AreaLemmas.{table, long, holds, never_stopped, covers, no_pkru}
+use Rattle.xs_switch.proofs.AreaLemmas.{table, long, has_places, never_stopped, covers, no_pkru}
 use Rattle.xs_switch.proofs.restoring.restore.Goals as goal
 
 pub xrstors-requires-clause-header : goal.xrstors-requires-clause-header
 xrstors-requires-clause-header g c = long c.args.layout.now c.args.lease.now c.requires.area
 
 pub xrstors-requires-clause-places : goal.xrstors-requires-clause-places
-xrstors-requires-clause-places g c = λ compact. rw (c.arm.ensures.machine) (holds c.args.layout.now c.args.lease.now c.requires.area)
+xrstors-requires-clause-places g c = λ compact. rw (c.arm.ensures.machine) (has_places c.args.layout.now c.args.lease.now c.requires.area)
 
 pub unreachable-requires : goal.unreachable-requires
 unreachable-requires g c =

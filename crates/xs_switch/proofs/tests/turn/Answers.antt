@@ -24,7 +24,7 @@ returns-clause-parked g c =
       form = run.form;
       pkru = ap (λ (f : File). part f 9) c.look.ensures.file ∙ run.pkru;
       saved = run.saved;
-      held = λ flag. c.look.ensures.file ∙ run.held flag;
+      whole = λ flag. c.look.ensures.file ∙ run.whole flag;
     }) in
     let layout : c.switch_out.new.cpu.layout ≡ c.args.layout.now = ap (λ (x : Cpu g.row.B.Denot). x.layout) c.switch_out.ensures.cpu ∙ looked ∙ ap (λ (x : Cpu g.row.B.Denot). x.layout) c.switch_in.ensures.cpu ∙ c.requires.layout in
     (parked p, rw layout at c.switch_out.ensures.parked p after)
