@@ -1,6 +1,5 @@
 -- A task's area is accepted, and gives its registers.
 use Rattle.std.proofs.Common.{◌∙◌}
-use Rattle.xs_base.specs.declared.class.Class.TheVariants.{Large}
 use Rattle.xs_switch.proofs.AreaLemmas.{table, long, has_places, never_stopped, covers, no_pkru}
 use Rattle.xs_switch.proofs.restoring.restore.Goals as goal
 
@@ -25,5 +24,6 @@ returns-clause-file g c = λ file good stands.
 
 pub returns-clause-pkru : goal.returns-clause-pkru
 returns-clause-pkru g c =
-    let rows = c.args.layout.now in
-    c.in-Ok.ensures.loaded.others 9 (no_pkru rows Large c.class_features-mask.result.0 (table rows c.args.lease.now c.requires.area) c.class_features-mask.ensures.bits) ∙ c.arm.ensures.pkru
+    let good = table c.args.layout.now c.args.lease.now c.requires.area in
+    let bits = c.class_features-mask.ensures.bits in
+    c.in-Ok.ensures.loaded.others 9 (search (no_pkru, good, bits)) ∙ c.arm.ensures.pkru
