@@ -1,0 +1,4 @@
+-- What switches take and leave, one file a noun.
+pub mod Counts
+pub mod Armed
+pub mod Running

@@ -1,0 +1,4 @@
+pub mod MemoryLemmas
+pub mod MarkLemmas
+pub mod ParkLemmas
+pub mod BirthLemmas
