@@ -8,6 +8,7 @@ ghost use Rattle.xs_bank.specs.Bank.{IsReady};
 ghost use Rattle.xs_bank_tests.specs.Turn.{KeepsReady};
 
 use std::alloc::{AllocError, Global};
+#[cfg(test)]
 use std::process::Abort;
 use xs_area::{Area, Class, has_named_places, make_initial, xcomp_bv, xstate_bv};
 use xs_bank::{Bank, PlainBank, TrackBank, Trap};
@@ -24,6 +25,7 @@ pub enum Refusal {
     Trapped(Trap),
 }
 
+#[cfg(test)]
 /// An area of zeros.
 pub fn zeros(rt: &impl Abort, alloc: Global, id: u64, len: usize) -> Area
     ensures id { result.id ≡ id }
@@ -34,17 +36,19 @@ pub fn zeros(rt: &impl Abort, alloc: Global, id: u64, len: usize) -> Area
 }
 
 /// A vector of `len` zeros.
-fn zeros_of(alloc: Global, len: usize) -> Result<Vec<u8>, AllocError>
+pub fn zeros_of(alloc: Global, len: usize) -> Result<Vec<u8>, AllocError>
     ensures { IfOk result (λ v. length v.items ≡ len) }
 {
     vec![in alloc; 0u8; len]
 }
 
+#[cfg(test)]
 /// A bank that writes every component.
 pub fn plain(rt: &impl Abort, alloc: Global) -> PlainBank {
     PlainBank::new(alloc).expect(rt, "memory")
 }
 
+#[cfg(test)]
 /// A bank that leaves out what it may.
 pub fn track(rt: &impl Abort, alloc: Global) -> TrackBank {
     TrackBank::new(alloc).expect(rt, "memory")

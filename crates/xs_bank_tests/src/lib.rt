@@ -6,17 +6,13 @@
 mod bank_tests;
 #[cfg(test)]
 mod checked;
-#[cfg(test)]
-mod fixtures;
-#[cfg(test)]
-mod log;
+pub mod fixtures;
+pub mod log;
 #[cfg(test)]
 mod optimisation_tests;
-#[cfg(test)]
-mod random;
+pub mod random;
 #[cfg(test)]
 mod trap_tests;
 #[cfg(test)]
 mod turn_tests;
-#[cfg(test)]
-mod turns;
+pub mod turns;
