@@ -8,8 +8,6 @@ ghost use Rattle.xs_bank.specs.Bank.{IsReady};
 ghost use Rattle.xs_bank_tests.specs.Turn.{KeepsReady};
 
 use std::alloc::{AllocError, Global};
-#[cfg(test)]
-use std::process::Abort;
 use xs_area::{Area, Class, has_named_places, make_initial, xcomp_bv, xstate_bv};
 use xs_bank::{Bank, PlainBank, TrackBank, Trap};
 use xs_base::{Comp, Features, Lane, Place};
@@ -25,33 +23,29 @@ pub enum Refusal {
     Trapped(Trap),
 }
 
-#[cfg(test)]
 /// An area of zeros.
-pub fn zeros(rt: &impl Abort, alloc: Global, id: u64, len: usize) -> Area
-    ensures id { result.id ≡ id }
-    ensures len { length result.bytes.items ≡ len }
+pub fn zeros(alloc: Global, id: u64, len: usize) -> Result<Area, AllocError>
+    ensures id { IfOk result (λ area. area.id ≡ id) }
+    ensures len { IfOk result (λ area. length area.bytes.items ≡ len) }
 {
-    let bytes = zeros_of(alloc, len).expect(rt, "memory");
-    Area { id, bytes }
+    let bytes = vec![in alloc; 0u8; len]?;
+    Ok(Area { id, bytes })
 }
 
-/// A vector of `len` zeros.
-pub fn zeros_of(alloc: Global, len: usize) -> Result<Vec<u8>, AllocError>
-    ensures { IfOk result (λ v. length v.items ≡ len) }
-{
-    vec![in alloc; 0u8; len]
+/// A bank of each kind.
+#[derive(Drop)]
+pub struct Banks {
+    /// The one that writes every component.
+    pub plain: PlainBank,
+    /// The one that leaves out what it may.
+    pub track: TrackBank,
 }
 
-#[cfg(test)]
-/// A bank that writes every component.
-pub fn plain(rt: &impl Abort, alloc: Global) -> PlainBank {
-    PlainBank::new(alloc).expect(rt, "memory")
-}
-
-#[cfg(test)]
-/// A bank that leaves out what it may.
-pub fn track(rt: &impl Abort, alloc: Global) -> TrackBank {
-    TrackBank::new(alloc).expect(rt, "memory")
+/// A bank of each kind, with no instruction so far.
+pub fn both_banks(alloc: Global) -> Result<Banks, AllocError> {
+    let plain = PlainBank::new(alloc)?;
+    let track = TrackBank::new(alloc)?;
+    Ok(Banks { plain, track })
 }
 
 /// Makes it a Small area of the machine `amx` without state, where it has a header.

@@ -4,15 +4,19 @@
 
 #[cfg(test)]
 mod bank_tests;
-#[cfg(test)]
-mod checked;
+pub mod checked;
 pub mod fixtures;
 pub mod log;
+pub mod optimisation;
 #[cfg(test)]
 mod optimisation_tests;
+pub mod processors;
 pub mod random;
+pub mod rounds;
+pub mod switches;
 #[cfg(test)]
 mod trap_tests;
+pub mod traps;
 #[cfg(test)]
 mod turn_tests;
 pub mod turns;
