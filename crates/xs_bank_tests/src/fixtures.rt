@@ -15,7 +15,7 @@ use xs_layout::Layout;
 use xs_regs::place_of;
 
 /// Why a call of a test isn't answered: it can't be made, since the machine or the area has no room for it, or it traps.
-#[derive(Clone, Copy, PartialEq, Eq, Debug)]
+#[derive(Clone, Copy, PartialEq, Eq)]
 pub enum Refusal {
     /// The machine or the area has no room for it.
     NoRoom,
@@ -30,6 +30,29 @@ pub fn zeros(alloc: Global, id: u64, len: usize) -> Result<Area, AllocError>
 {
     let bytes = vec![in alloc; 0u8; len]?;
     Ok(Area { id, bytes })
+}
+
+/// Three areas.
+#[derive(Drop)]
+pub struct Trio {
+    /// One.
+    pub first: Area,
+    /// Another.
+    pub second: Area,
+    /// And a third.
+    pub third: Area,
+}
+
+/// Three areas of zeros with room for every component.
+pub fn three_areas(alloc: Global) -> Result<Trio, AllocError> {
+    let first = zeros(alloc, 7, 16384)?;
+    let second = zeros(alloc, 0, 16384)?;
+    let third = zeros(alloc, 0, 16384)?;
+    Ok(Trio {
+        first,
+        second,
+        third,
+    })
 }
 
 /// A bank of each kind.

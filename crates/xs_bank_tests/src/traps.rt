@@ -3,7 +3,7 @@
 ghost use Rattle.std.specs.Prelude.{◌≡◌};
 
 use crate::checked::{arms, reads, saves, writes};
-use crate::fixtures::{Refusal, load_compacted, load_standard, zeros};
+use crate::fixtures::{Refusal, load_compacted, load_standard, three_areas};
 use std::alloc::{AllocError, Global};
 use xs_area::Area;
 use xs_bank::{Bank, Trap};
@@ -198,14 +198,12 @@ fn every_set<B: Bank>(bank: &mut B, format: Format, mask: u64, area: &mut Area) 
 
 /// The same for loads of both formats. In the standard one MXCSR is looked at with SSE and with AVX.
 pub fn every_load<B: Bank>(bank: &mut B, area: &mut Area) -> bool {
-    let answers = [
-        every_set(bank, Format::Compacted, 0x600e7, area),
-        every_set(bank, Format::Compacted, 0x40002, area),
-        every_set(bank, Format::Standard, 0x600e7, area),
-        every_set(bank, Format::Standard, 0x40002, area),
-        every_set(bank, Format::Standard, 0x40004, area),
-    ];
-    answers == [true; 5]
+    let mut well = every_set(bank, Format::Compacted, 0x600e7, area);
+    well &= every_set(bank, Format::Compacted, 0x40002, area);
+    well &= every_set(bank, Format::Standard, 0x600e7, area);
+    well &= every_set(bank, Format::Standard, 0x40002, area);
+    well &= every_set(bank, Format::Standard, 0x40004, area);
+    well
 }
 
 /// Whether a cause doesn't stop a load.
@@ -219,18 +217,14 @@ fn takes<B: Bank>(bank: &mut B, format: Format, mask: u64, area: &mut Area, caus
 /// Whether loads are taken with causes that no load of a bank looks at.
 pub fn are_not_refused<B: Bank>(bank: &mut B, area: &mut Area) -> bool {
     // A compacted load looks at MXCSR with SSE in the mask and in XSTATE_BV alone.
-    let compacted = [
-        takes(bank, Format::Compacted, 0x600e5, area, Cause::WrongMxcsr),
-        takes(bank, Format::Compacted, 0x200e7, area, Cause::Tiles),
-    ];
+    let mut well = takes(bank, Format::Compacted, 0x600e5, area, Cause::WrongMxcsr);
+    well &= takes(bank, Format::Compacted, 0x200e7, area, Cause::Tiles);
     // A standard one looks at it with SSE or AVX in the mask alone, and at no byte from 536 on.
-    let standard = [
-        takes(bank, Format::Standard, 0x600e1, area, Cause::WrongMxcsr),
-        takes(bank, Format::Standard, 0x200e7, area, Cause::Tiles),
-        takes(bank, Format::Standard, 0x600e7, area, Cause::Byte(536)),
-        takes(bank, Format::Standard, 0x600e7, area, Cause::Byte(575)),
-    ];
-    compacted == [true; 2] && standard == [true; 4]
+    well &= takes(bank, Format::Standard, 0x600e1, area, Cause::WrongMxcsr);
+    well &= takes(bank, Format::Standard, 0x200e7, area, Cause::Tiles);
+    well &= takes(bank, Format::Standard, 0x600e7, area, Cause::Byte(536));
+    well &= takes(bank, Format::Standard, 0x600e7, area, Cause::Byte(575));
+    well
 }
 
 /// What an instruction on tiles answers where they are armed.
@@ -240,27 +234,21 @@ const ARMED: Refusal = Refusal::Trapped(Trap::Nm(Features::TILEDATA));
 pub fn tiles_trap<B: Bank>(bank: &mut B) -> bool {
     let amx = Layout::amx();
     bank.set_up(&amx);
-    let armed = [
-        reads(bank, &amx, "tmm3.7", Err(ARMED)),
-        reads(bank, &amx, "tilecfg", Ok([0; 64])),
-        writes(bank, &amx, "tilecfg", Err(ARMED)),
-        writes(bank, &amx, "tmm3.7", Err(ARMED)),
-        writes(bank, &amx, "zmm16", Ok(())),
-    ];
-    let disarmed = [
-        arms(bank, &amx, false),
-        writes(bank, &amx, "tilecfg", Ok(())),
-        writes(bank, &amx, "tmm3.7", Ok(())),
-        reads(bank, &amx, "tmm3.7", Ok([1; 64])),
-    ];
+    let mut well = reads(bank, &amx, "tmm3.7", Err(ARMED));
+    well &= reads(bank, &amx, "tilecfg", Ok([0; 64]));
+    well &= writes(bank, &amx, "tilecfg", Err(ARMED));
+    well &= writes(bank, &amx, "tmm3.7", Err(ARMED));
+    well &= writes(bank, &amx, "zmm16", Ok(()));
+    well &= arms(bank, &amx, false);
+    well &= writes(bank, &amx, "tilecfg", Ok(()));
+    well &= writes(bank, &amx, "tmm3.7", Ok(()));
+    well &= reads(bank, &amx, "tmm3.7", Ok([1; 64]));
     // Arming makes TILEDATA initial, and leaves TILECFG.
-    let again = [
-        arms(bank, &amx, true),
-        reads(bank, &amx, "tilecfg", Ok([1; 64])),
-        arms(bank, &amx, false),
-        reads(bank, &amx, "tmm3.7", Ok([0; 64])),
-    ];
-    armed == [true; 5] && disarmed == [true; 4] && again == [true; 4]
+    well &= arms(bank, &amx, true);
+    well &= reads(bank, &amx, "tilecfg", Ok([1; 64]));
+    well &= arms(bank, &amx, false);
+    well &= reads(bank, &amx, "tmm3.7", Ok([0; 64]));
+    well
 }
 
 /// Whether a cause stops a load.
@@ -289,19 +277,15 @@ fn all_trap<B: Bank>(bank: &mut B, layout: &Layout, area: &mut Area) -> bool
     requires { (B.state bank.old).file.rows ≡ layout.now }
     ensures { (B.state bank.new).file.rows ≡ layout.now }
 {
-    let loads = [
-        refuses(bank, layout, Format::Compacted, area, Cause::NoPlace),
-        refuses(bank, layout, Format::Standard, area, Cause::SomeName),
-        refuses(bank, layout, Format::Compacted, area, Cause::Byte(528)),
-        refuses(bank, layout, Format::Compacted, area, Cause::Tiles),
-        refuses(bank, layout, Format::Standard, area, Cause::WrongMxcsr),
-    ];
-    let tiles = [
-        reads(bank, layout, "tmm0.0", Err(ARMED)),
-        writes(bank, layout, "tilecfg", Err(ARMED)),
-        writes(bank, layout, "tmm7.15", Err(ARMED)),
-    ];
-    loads == [true; 5] && tiles == [true; 3]
+    let mut well = refuses(bank, layout, Format::Compacted, area, Cause::NoPlace);
+    well &= refuses(bank, layout, Format::Standard, area, Cause::SomeName);
+    well &= refuses(bank, layout, Format::Compacted, area, Cause::Byte(528));
+    well &= refuses(bank, layout, Format::Compacted, area, Cause::Tiles);
+    well &= refuses(bank, layout, Format::Standard, area, Cause::WrongMxcsr);
+    well &= reads(bank, layout, "tmm0.0", Err(ARMED));
+    well &= writes(bank, layout, "tilecfg", Err(ARMED));
+    well &= writes(bank, layout, "tmm7.15", Err(ARMED));
+    well
 }
 
 /// Whether after traps of every kind each register is as a save had it before, and so is each count.
@@ -313,23 +297,19 @@ fn change_nothing<B: Bank>(
 ) -> bool {
     let amx = Layout::amx();
     bank.set_up(&amx);
-    let written = [
-        writes(bank, &amx, "st0", Ok(())),
-        writes(bank, &amx, "mxcsr", Ok(())),
-        writes(bank, &amx, "zmm16", Ok(())),
-        saves(bank, &amx, before),
-    ];
+    let mut well = writes(bank, &amx, "st0", Ok(()));
+    well &= writes(bank, &amx, "mxcsr", Ok(()));
+    well &= writes(bank, &amx, "zmm16", Ok(()));
+    well &= saves(bank, &amx, before);
     let counts = counts_of(bank);
-    let trapped = all_trap(bank, &amx, area);
+    well &= all_trap(bank, &amx, area);
     let same = counts_of(bank) == counts;
-    let saved = saves(bank, &amx, after);
-    written == [true; 4] && [trapped, same, saved] == [true; 3] && before.bytes == after.bytes
+    well &= saves(bank, &amx, after);
+    well && same && before.bytes == after.bytes
 }
 
 /// The same with areas of its own.
 pub fn traps_change_nothing<B: Bank>(alloc: Global, bank: &mut B) -> Result<bool, AllocError> {
-    let mut area = zeros(alloc, 7, 16384)?;
-    let mut before = zeros(alloc, 0, 11008)?;
-    let mut after = zeros(alloc, 0, 11008)?;
-    Ok(change_nothing(bank, &mut area, &mut before, &mut after))
+    let mut areas = three_areas(alloc)?;
+    Ok(change_nothing(bank, &mut areas.first, &mut areas.second, &mut areas.third))
 }
