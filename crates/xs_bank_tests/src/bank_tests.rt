@@ -1,10 +1,9 @@
 //! Banks and processors at worked values.
 
-use crate::fixtures::{both_banks, zeros};
-use crate::processors::new_processor;
+use crate::fixtures::{both_banks, kit_of};
+use crate::processors::{both_processors, loads_its_area};
 use crate::switches::{releases, saved_and_loaded};
 use std::alloc::AllocError;
-use xs_bank::{PlainBank, TrackBank};
 
 #[test]
 fn releases_leave_their_trail(rt: HostRuntime) -> Result<(), AllocError> {
@@ -17,21 +16,21 @@ fn releases_leave_their_trail(rt: HostRuntime) -> Result<(), AllocError> {
 
 #[test]
 fn what_one_bank_saves_another_loads(rt: HostRuntime) -> Result<(), AllocError> {
-    let mut area = zeros(rt.alloc(), 7, 16384)?;
-    let mut from = both_banks(rt.alloc())?;
-    let mut to = both_banks(rt.alloc())?;
-    let plain = saved_and_loaded(&mut from.plain, &mut to.plain, &mut area);
-    let track = saved_and_loaded(&mut from.track, &mut to.track, &mut area);
+    let mut kit = kit_of(rt.alloc(), 16384)?;
+    let mut others = both_banks(rt.alloc())?;
+    let area = &mut kit.areas.first;
+    let plain = saved_and_loaded(&mut kit.banks.plain, &mut others.plain, area);
+    let track = saved_and_loaded(&mut kit.banks.track, &mut others.track, area);
     assert!(rt; plain & track);
     Ok(())
 }
 
 #[test]
 fn a_processor_loads_its_initial_area(rt: HostRuntime) -> Result<(), AllocError> {
-    let alloc = rt.alloc();
-    let mut fresh = both_banks(alloc)?;
-    let plain = new_processor(alloc, PlainBank::new(alloc)?, &mut fresh.plain)?;
-    let track = new_processor(alloc, TrackBank::new(alloc)?, &mut fresh.track)?;
+    let mut kit = kit_of(rt.alloc(), 16384)?;
+    let mut cpus = both_processors(rt.alloc())?;
+    let plain = loads_its_area(&mut cpus.plain, &mut kit.banks.plain, &mut kit.areas);
+    let track = loads_its_area(&mut cpus.track, &mut kit.banks.track, &mut kit.areas);
     assert!(rt; plain & track);
     Ok(())
 }

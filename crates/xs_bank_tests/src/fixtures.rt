@@ -43,16 +43,23 @@ pub struct Trio {
     pub third: Area,
 }
 
-/// Three areas of zeros with room for every component.
-pub fn three_areas(alloc: Global) -> Result<Trio, AllocError> {
-    let first = zeros(alloc, 7, 16384)?;
-    let second = zeros(alloc, 0, 16384)?;
-    let third = zeros(alloc, 0, 16384)?;
+/// Areas of `len` zeros, with the numbers 7, 8 and 7.
+fn three_areas(alloc: Global, len: usize) -> Result<Trio, AllocError> {
+    let first = zeros(alloc, 7, len)?;
+    let second = zeros(alloc, 8, len)?;
+    let third = zeros(alloc, 7, len)?;
     Ok(Trio {
         first,
         second,
         third,
     })
+}
+
+/// Makes all their bytes zero.
+pub fn clear(areas: &mut Trio) {
+    areas.first.bytes.fill(0);
+    areas.second.bytes.fill(0);
+    areas.third.bytes.fill(0);
 }
 
 /// A bank of each kind.
@@ -69,6 +76,22 @@ pub fn both_banks(alloc: Global) -> Result<Banks, AllocError> {
     let plain = PlainBank::new(alloc)?;
     let track = TrackBank::new(alloc)?;
     Ok(Banks { plain, track })
+}
+
+/// What a test of both banks needs.
+#[derive(Drop)]
+pub struct Kit {
+    /// The banks.
+    pub banks: Banks,
+    /// Areas of one length.
+    pub areas: Trio,
+}
+
+/// Banks with no instruction so far, and areas of `len` zeros.
+pub fn kit_of(alloc: Global, len: usize) -> Result<Kit, AllocError> {
+    let banks = both_banks(alloc)?;
+    let areas = three_areas(alloc, len)?;
+    Ok(Kit { banks, areas })
 }
 
 /// Makes it a Small area of the machine `amx` without state, where it has a header.

@@ -3,11 +3,10 @@
 ghost use Rattle.std.specs.Prelude.{◌≡◌};
 
 use crate::fixtures::{
-    Refusal, load_compacted, load_standard, of_machine, renew, save_compacted, save_standard,
-    start, write, zeros,
+    Refusal, Trio, load_compacted, load_standard, of_machine, renew, save_compacted, save_standard,
+    start, write,
 };
 use crate::switches::MASK;
-use std::alloc::{AllocError, Global};
 use xs_area::Area;
 use xs_bank::Bank;
 use xs_base::{Features, put};
@@ -28,15 +27,17 @@ pub const X87: [Option<u8>; 2] = [Some(0), Some(9)];
 /// Where both were.
 pub const BOTH: [Option<u8>; 2] = [Some(0), Some(0)];
 
-/// An area with state of x87 and SSE, all zero but XMM0, and with both traces. AVX has its place at 576 in either format.
-fn traced(alloc: Global, id: u64, names: u64) -> Result<Area, AllocError> {
-    let mut area = zeros(alloc, id, 2816)?;
+/// Makes it an area with state of x87 and SSE, all zero but XMM0, and with both traces. AVX has its place at 576 in either format.
+fn put_traces(area: &mut Area, names: u64) {
+    area.bytes.fill(0);
+    if area.bytes.len() < 2816 {
+        return;
+    }
     put(&mut area.bytes, 5, &[1]);
     put(&mut area.bytes, 160, &[7]);
     put(&mut area.bytes, 512, &3u64.to_le_bytes());
     put(&mut area.bytes, 520, &names.to_le_bytes());
     put(&mut area.bytes, 576, &[9]);
-    Ok(area)
 }
 
 /// The traces after a load and a save into the same area, and after one more save where ST0 was written between.
@@ -97,14 +98,15 @@ fn traces<B: Bank>(
 
 /// Whether the bank leaves these traces.
 pub fn leaves_traces<B: Bank>(
-    alloc: Global,
     bank: &mut B,
+    areas: &mut Trio,
     expected: [[Option<u8>; 2]; 5],
-) -> Result<bool, AllocError> {
-    let mut area = traced(alloc, 7, NAMES)?;
-    let mut short = traced(alloc, 7, 0)?;
-    let mut other = traced(alloc, 8, NAMES)?;
-    Ok(traces(bank, &mut area, &mut short, &mut other) == Ok(expected))
+) -> bool {
+    put_traces(&mut areas.first, NAMES);
+    put_traces(&mut areas.second, NAMES);
+    put_traces(&mut areas.third, 0);
+    let left = traces(bank, &mut areas.first, &mut areas.third, &mut areas.second);
+    left == Ok(expected)
 }
 
 /// A turn of a task that writes XMM3 and nothing else, from an area without state.
@@ -123,22 +125,24 @@ const XMM3: [u8; 16] = [
     0x00, 0x11, 0x22, 0x33, 0x44, 0x55, 0x66, 0x77, 0x88, 0x99, 0xaa, 0xbb, 0xcc, 0xdd, 0xee, 0xff,
 ];
 
-/// The Small area of the machine `amx` after that turn, with these two bytes at its front.
-fn after_first_turn(alloc: Global, front: [u8; 2]) -> Result<Area, AllocError> {
-    let mut area = zeros(alloc, 7, 2496)?;
+/// Makes it the Small area of the machine `amx` after that turn, with these two bytes at its front.
+fn put_first_turn(area: &mut Area, front: [u8; 2]) {
+    area.bytes.fill(0);
+    if area.bytes.len() < 2496 {
+        return;
+    }
     put(&mut area.bytes, 0, &front);
     put(&mut area.bytes, 24, &[0x80, 0x1f, 0, 0, 0xff, 0xff, 0, 0]);
     put(&mut area.bytes, 208, &XMM3);
     put(&mut area.bytes, 512, &[2]);
     put(&mut area.bytes, 520, &[0xe7, 0, 2, 0, 0, 0, 0, 0x80]);
-    Ok(area)
 }
 
-/// Whether the turn leaves these bytes in the area.
-pub fn leaves<B: Bank>(alloc: Global, bank: &mut B, front: [u8; 2]) -> Result<bool, AllocError> {
-    let mut area = zeros(alloc, 7, 2496)?;
-    let expected = after_first_turn(alloc, front)?;
-    renew(&mut area);
-    let turned = first_turn(bank, &mut area).is_ok();
-    Ok(turned && area.bytes == expected.bytes)
+/// Whether the turn leaves these bytes in an area.
+pub fn leaves<B: Bank>(bank: &mut B, areas: &mut Trio, front: [u8; 2]) -> bool {
+    areas.first.bytes.fill(0);
+    renew(&mut areas.first);
+    let turned = first_turn(bank, &mut areas.first).is_ok();
+    put_first_turn(&mut areas.second, front);
+    turned && areas.first.bytes == areas.second.bytes
 }

@@ -3,9 +3,9 @@
 ghost use Rattle.std.specs.Prelude.{◌≡◌};
 
 use crate::checked::{arms, loads, saves, writes};
-use crate::fixtures::{Trio, bits_of, three_areas};
+use crate::fixtures::{Trio, bits_of, clear};
 use std::alloc::{AllocError, Global};
-use xs_bank::{Bank, Cpu};
+use xs_bank::{Bank, Cpu, PlainBank, TrackBank};
 use xs_layout::Layout;
 
 /// Writes a register of every component: whether each is answered.
@@ -33,8 +33,9 @@ fn is_unmarked<B: Bank>(cpu: &Cpu<B>, rows: usize) -> bool {
 }
 
 /// A processor that is set up for the machine `amx`: whether its bank loads the initial area, and then is as a fresh bank.
-fn loads_its_area<B: Bank>(cpu: &mut Cpu<B>, fresh: &mut B, images: &mut Trio) -> bool {
+pub fn loads_its_area<B: Bank>(cpu: &mut Cpu<B>, fresh: &mut B, images: &mut Trio) -> bool {
     let amx = Layout::amx();
+    clear(images);
     let mut well = is_unmarked(cpu, 3);
     cpu.mark = Some(4);
     cpu.set_up(&amx);
@@ -50,9 +51,18 @@ fn loads_its_area<B: Bank>(cpu: &mut Cpu<B>, fresh: &mut B, images: &mut Trio) -
     well && images.second.bytes == images.third.bytes && bits == [0, 0, 0x602e7]
 }
 
-/// The same of a processor of its own.
-pub fn new_processor<B: Bank>(alloc: Global, bank: B, fresh: &mut B) -> Result<bool, AllocError> {
-    let mut cpu = Cpu::new(alloc, 3, bank)?;
-    let mut images = three_areas(alloc)?;
-    Ok(loads_its_area(&mut cpu, fresh, &mut images))
+/// A processor of each kind.
+#[derive(Drop)]
+pub struct Processors {
+    /// The one whose bank writes every component.
+    pub plain: Cpu<PlainBank>,
+    /// The one whose bank leaves out what it may.
+    pub track: Cpu<TrackBank>,
+}
+
+/// Processors of the number 3 that aren't set up.
+pub fn both_processors(alloc: Global) -> Result<Processors, AllocError> {
+    let plain = Cpu::new(alloc, 3, PlainBank::new(alloc)?)?;
+    let track = Cpu::new(alloc, 3, TrackBank::new(alloc)?)?;
+    Ok(Processors { plain, track })
 }

@@ -61,10 +61,26 @@ pub struct Side {
 }
 
 /// A side whose areas have no state, with the first random number.
-pub fn side_of(alloc: Global) -> Result<Side, AllocError> {
+fn side_of(alloc: Global) -> Result<Side, AllocError> {
     let areas = areas_of(alloc)?;
     let tools = tools_of(alloc)?;
     Ok(Side { areas, tools })
+}
+
+/// What belongs to both.
+#[derive(Drop)]
+pub struct Sides {
+    /// To the one that writes every component.
+    pub plain: Side,
+    /// To the one that leaves out what it may.
+    pub track: Side,
+}
+
+/// Two equal sides.
+pub fn both_sides(alloc: Global) -> Result<Sides, AllocError> {
+    let plain = side_of(alloc)?;
+    let track = side_of(alloc)?;
+    Ok(Sides { plain, track })
 }
 
 /// A turn.
@@ -157,20 +173,15 @@ fn are_many(answered: &[u32; CALLS]) -> bool {
 
 /// Whether 1,500 rounds of both banks show the same, each kind of call often enough, and 5,000 saves of areas that stand for
 /// registers at least.
-pub fn rounds<A: Bank, B: Bank>(
-    plain: &mut A,
-    track: &mut B,
-    side: &mut Side,
-    other: &mut Side,
-) -> bool {
+pub fn rounds<A: Bank, B: Bank>(plain: &mut A, track: &mut B, sides: &mut Sides) -> bool {
     let mut tally = Tally {
         answered: [0; CALLS],
         images: 0,
     };
     for _ in 0..1500 {
-        round(plain, &mut side.areas, &mut side.tools);
-        round(track, &mut other.areas, &mut other.tools);
-        if !compare(&side.tools.log, &other.tools.log, &mut tally) {
+        round(plain, &mut sides.plain.areas, &mut sides.plain.tools);
+        round(track, &mut sides.track.areas, &mut sides.track.tools);
+        if !compare(&sides.plain.tools.log, &sides.track.tools.log, &mut tally) {
             return false;
         }
     }

@@ -3,8 +3,7 @@
 ghost use Rattle.std.specs.Prelude.{◌≡◌};
 
 use crate::checked::{arms, reads, saves, writes};
-use crate::fixtures::{Refusal, load_compacted, load_standard, three_areas};
-use std::alloc::{AllocError, Global};
+use crate::fixtures::{Refusal, Trio, clear, load_compacted, load_standard};
 use xs_area::Area;
 use xs_bank::{Bank, Trap};
 use xs_base::{Features, HeaderError, put};
@@ -289,27 +288,17 @@ fn all_trap<B: Bank>(bank: &mut B, layout: &Layout, area: &mut Area) -> bool
 }
 
 /// Whether after traps of every kind each register is as a save had it before, and so is each count.
-fn change_nothing<B: Bank>(
-    bank: &mut B,
-    area: &mut Area,
-    before: &mut Area,
-    after: &mut Area,
-) -> bool {
+pub fn traps_change_nothing<B: Bank>(bank: &mut B, areas: &mut Trio) -> bool {
     let amx = Layout::amx();
+    clear(areas);
     bank.set_up(&amx);
     let mut well = writes(bank, &amx, "st0", Ok(()));
     well &= writes(bank, &amx, "mxcsr", Ok(()));
     well &= writes(bank, &amx, "zmm16", Ok(()));
-    well &= saves(bank, &amx, before);
+    well &= saves(bank, &amx, &mut areas.second);
     let counts = counts_of(bank);
-    well &= all_trap(bank, &amx, area);
+    well &= all_trap(bank, &amx, &mut areas.first);
     let same = counts_of(bank) == counts;
-    well &= saves(bank, &amx, after);
-    well && same && before.bytes == after.bytes
-}
-
-/// The same with areas of its own.
-pub fn traps_change_nothing<B: Bank>(alloc: Global, bank: &mut B) -> Result<bool, AllocError> {
-    let mut areas = three_areas(alloc)?;
-    Ok(change_nothing(bank, &mut areas.first, &mut areas.second, &mut areas.third))
+    well &= saves(bank, &amx, &mut areas.third);
+    well && same && areas.second.bytes == areas.third.bytes
 }
