@@ -8,7 +8,6 @@ ghost use Rattle.xs_bank.specs.Bank.{IsReady};
 ghost use Rattle.xs_bank_tests.specs.Turn.{KeepsReady};
 
 use std::alloc::{AllocError, Global};
-use std::process::Abort;
 use xs_area::{Area, Class, has_named_places, make_initial, xcomp_bv, xstate_bv};
 use xs_bank::{Bank, PlainBank, TrackBank, Trap};
 use xs_base::{Comp, Features, Lane, Place};
@@ -16,7 +15,7 @@ use xs_layout::Layout;
 use xs_regs::place_of;
 
 /// Why a call of a test isn't answered: it can't be made, since the machine or the area has no room for it, or it traps.
-#[derive(Clone, Copy, PartialEq, Eq, Debug)]
+#[derive(Clone, Copy, PartialEq, Eq)]
 pub enum Refusal {
     /// The machine or the area has no room for it.
     NoRoom,
@@ -25,29 +24,74 @@ pub enum Refusal {
 }
 
 /// An area of zeros.
-pub fn zeros(rt: &impl Abort, alloc: Global, id: u64, len: usize) -> Area
-    ensures id { result.id ≡ id }
-    ensures len { length result.bytes.items ≡ len }
+pub fn zeros(alloc: Global, id: u64, len: usize) -> Result<Area, AllocError>
+    ensures id { IfOk result (λ area. area.id ≡ id) }
+    ensures len { IfOk result (λ area. length area.bytes.items ≡ len) }
 {
-    let bytes = zeros_of(alloc, len).expect(rt, "memory");
-    Area { id, bytes }
+    let bytes = vec![in alloc; 0u8; len]?;
+    Ok(Area { id, bytes })
 }
 
-/// A vector of `len` zeros.
-fn zeros_of(alloc: Global, len: usize) -> Result<Vec<u8>, AllocError>
-    ensures { IfOk result (λ v. length v.items ≡ len) }
-{
-    vec![in alloc; 0u8; len]
+/// Three areas.
+#[derive(Drop)]
+pub struct Trio {
+    /// One.
+    pub first: Area,
+    /// Another.
+    pub second: Area,
+    /// And a third.
+    pub third: Area,
 }
 
-/// A bank that writes every component.
-pub fn plain(rt: &impl Abort, alloc: Global) -> PlainBank {
-    PlainBank::new(alloc).expect(rt, "memory")
+/// Areas of `len` zeros, with the numbers 7, 8 and 7.
+fn three_areas(alloc: Global, len: usize) -> Result<Trio, AllocError> {
+    let first = zeros(alloc, 7, len)?;
+    let second = zeros(alloc, 8, len)?;
+    let third = zeros(alloc, 7, len)?;
+    Ok(Trio {
+        first,
+        second,
+        third,
+    })
 }
 
-/// A bank that leaves out what it may.
-pub fn track(rt: &impl Abort, alloc: Global) -> TrackBank {
-    TrackBank::new(alloc).expect(rt, "memory")
+/// Makes all their bytes zero.
+pub fn clear(areas: &mut Trio) {
+    areas.first.bytes.fill(0);
+    areas.second.bytes.fill(0);
+    areas.third.bytes.fill(0);
+}
+
+/// A bank of each kind.
+#[derive(Drop)]
+pub struct Banks {
+    /// The one that writes every component.
+    pub plain: PlainBank,
+    /// The one that leaves out what it may.
+    pub track: TrackBank,
+}
+
+/// A bank of each kind, with no instruction so far.
+pub fn both_banks(alloc: Global) -> Result<Banks, AllocError> {
+    let plain = PlainBank::new(alloc)?;
+    let track = TrackBank::new(alloc)?;
+    Ok(Banks { plain, track })
+}
+
+/// What a test of both banks needs.
+#[derive(Drop)]
+pub struct Kit {
+    /// The banks.
+    pub banks: Banks,
+    /// Areas of one length.
+    pub areas: Trio,
+}
+
+/// Banks with no instruction so far, and areas of `len` zeros.
+pub fn kit_of(alloc: Global, len: usize) -> Result<Kit, AllocError> {
+    let banks = both_banks(alloc)?;
+    let areas = three_areas(alloc, len)?;
+    Ok(Kit { banks, areas })
 }
 
 /// Makes it a Small area of the machine `amx` without state, where it has a header.

@@ -4,19 +4,19 @@
 
 #[cfg(test)]
 mod bank_tests;
-#[cfg(test)]
-mod checked;
-#[cfg(test)]
-mod fixtures;
-#[cfg(test)]
-mod log;
+pub mod checked;
+pub mod fixtures;
+pub mod log;
+pub mod optimisation;
 #[cfg(test)]
 mod optimisation_tests;
-#[cfg(test)]
-mod random;
+pub mod processors;
+pub mod random;
+pub mod rounds;
+pub mod switches;
 #[cfg(test)]
 mod trap_tests;
+pub mod traps;
 #[cfg(test)]
 mod turn_tests;
-#[cfg(test)]
-mod turns;
+pub mod turns;

@@ -4,7 +4,7 @@ use crate::fixtures::Refusal;
 use xs_bank::{Bank, Execs};
 
 /// The calls of a bank.
-#[derive(Clone, Copy, PartialEq, Eq, Debug)]
+#[derive(Clone, Copy, PartialEq, Eq)]
 pub enum Call {
     SetUp,
     Read,
@@ -24,7 +24,7 @@ pub const CALLS: usize = 11;
 
 /// What a call answers: nothing, the bytes of a register, or why it is refused. After a save it is what was saved: XSTATE_BV,
 /// XCOMP_BV, and a number that takes up what the area stands for.
-#[derive(Clone, Copy, PartialEq, Eq, Debug)]
+#[derive(Clone, Copy, PartialEq, Eq)]
 pub enum Answer {
     Nothing,
     Register([u8; 64]),
@@ -41,7 +41,7 @@ pub fn answer_of(outcome: Result<(), Refusal>) -> Answer {
 }
 
 /// A call, its answer, and what the bank tells after it.
-#[derive(Clone, Copy, PartialEq, Eq, Debug)]
+#[derive(Clone, Copy, PartialEq, Eq)]
 pub struct Shown {
     /// Which call it is.
     pub call: Call,

@@ -1,168 +1,25 @@
 //! What a save leaves out: a bank with both optimisations leaves bytes as they were, and a plain one writes them. And the bytes
 //! of an area after a first turn.
 
-ghost use Rattle.std.specs.Prelude.{◌≡◌};
+use crate::fixtures::kit_of;
+use crate::optimisation::{BOTH, NEITHER, X87, leaves, leaves_traces};
+use std::alloc::AllocError;
 
-use crate::fixtures::{
-    Refusal, load_compacted, load_standard, of_machine, plain, renew, save_compacted,
-    save_standard, start, track, write, zeros,
-};
-use std::alloc::Global;
-use std::process::Abort;
-use xs_area::Area;
-use xs_bank::Bank;
-use xs_base::{Features, put};
-use xs_layout::Layout;
-
-/// Every component of the machine `amx` but PKRU and TILEDATA.
-const MASK: Features = Features(0x200e7);
-
-/// Bytes of an area by which a test sees what was written. Byte 5 belongs to x87 and to no register, and a save of x87 makes it
-/// zero. Byte 576, the first of AVX, which is initial here, becomes zero where AVX is written.
-fn traces_of(area: &Area) -> [Option<u8>; 2] {
-    [area.bytes.get(5).copied(), area.bytes.get(576).copied()]
-}
-
-/// Where nothing was written.
-const NEITHER: [Option<u8>; 2] = [Some(1), Some(9)];
-
-/// Where x87 was written.
-const X87: [Option<u8>; 2] = [Some(0), Some(9)];
-
-/// Where both were.
-const BOTH: [Option<u8>; 2] = [Some(0), Some(0)];
-
-/// An area with state of x87 and SSE, all zero but XMM0, and with both traces. AVX has its place at 576 in either format.
-fn traced(rt: &impl Abort, alloc: Global, id: u64, names: u64) -> Area {
-    let mut area = zeros(rt, alloc, id, 2816);
-    put(&mut area.bytes, 5, &[1]);
-    put(&mut area.bytes, 160, &[7]);
-    put(&mut area.bytes, 512, &3u64.to_le_bytes());
-    put(&mut area.bytes, 520, &names.to_le_bytes());
-    put(&mut area.bytes, 576, &[9]);
-    area
-}
-
-/// The traces after a load and a save into the same area, and after one more save where ST0 was written between.
-fn compacted<B: Bank>(bank: &mut B, area: &mut Area) -> Result<[[Option<u8>; 2]; 2], Refusal> {
-    let amx = Layout::amx();
-    let mask = of_machine(&amx, MASK);
-    start(bank, &amx);
-    load_compacted(bank, &amx, MASK, area)?;
-    save_compacted(bank, &amx, mask, area)?;
-    let unchanged = traces_of(area);
-    write(bank, &amx, "st0", [1; 64])?;
-    save_compacted(bank, &amx, mask, area)?;
-    Ok([unchanged, traces_of(area)])
-}
-
-/// The same in the standard format.
-fn standard<B: Bank>(bank: &mut B, area: &mut Area) -> Result<[[Option<u8>; 2]; 2], Refusal> {
-    let amx = Layout::amx();
-    let mask = of_machine(&amx, MASK);
-    start(bank, &amx);
-    load_standard(bank, &amx, MASK, area)?;
-    save_standard(bank, &amx, mask, area)?;
-    let unchanged = traces_of(area);
-    write(bank, &amx, "st0", [1; 64])?;
-    save_standard(bank, &amx, mask, area)?;
-    Ok([unchanged, traces_of(area)])
-}
-
-/// The traces of an area of another number than the one that was loaded, after a save.
-fn moved<B: Bank>(bank: &mut B, from: &Area, to: &mut Area) -> Result<[Option<u8>; 2], Refusal> {
-    let amx = Layout::amx();
-    let mask = of_machine(&amx, MASK);
-    if from.id == to.id {
-        return Err(Refusal::NoRoom);
-    }
-    start(bank, &amx);
-    load_compacted(bank, &amx, MASK, from)?;
-    save_compacted(bank, &amx, mask, to)?;
-    Ok(traces_of(to))
-}
-
-/// XCOMP_BV of a compacted area with the places of the mask.
-const NAMES: u64 = 0x8000_0000_0002_00e7;
-
-/// The traces that a bank leaves: in an area that wasn't loaded, and after a load and a save and then a write of ST0 and one more
-/// save, in both formats.
-fn traces<B: Bank>(
-    bank: &mut B,
-    area: &mut Area,
-    short: &mut Area,
-    other: &mut Area,
-) -> Result<[[Option<u8>; 2]; 5], Refusal> {
-    let moved = moved(bank, area, other)?;
-    let [a, b] = compacted(bank, area)?;
-    let [c, d] = standard(bank, short)?;
-    Ok([moved, a, b, c, d])
-}
-
-/// The bank leaves these traces.
-fn leaves_traces<B: Bank>(
-    rt: &impl Abort,
-    alloc: Global,
-    bank: &mut B,
-    expected: [[Option<u8>; 2]; 5],
-) {
-    let mut area = traced(rt, alloc, 7, NAMES);
-    let mut short = traced(rt, alloc, 7, 0);
-    let mut other = traced(rt, alloc, 8, NAMES);
-    assert!(rt; traces(bank, &mut area, &mut short, &mut other) == Ok(expected));
+#[test]
+fn a_save_leaves_out_what_was_not_changed(rt: HostRuntime) -> Result<(), AllocError> {
+    let mut kit = kit_of(rt.alloc(), 2816)?;
+    let kept = [X87, NEITHER, X87, NEITHER, X87];
+    let track = leaves_traces(&mut kit.banks.track, &mut kit.areas, kept);
+    let plain = leaves_traces(&mut kit.banks.plain, &mut kit.areas, [BOTH; 5]);
+    assert!(rt; track & plain);
+    Ok(())
 }
 
 #[test]
-fn a_save_leaves_out_what_was_not_changed(rt: HostRuntime) {
-    let alloc = rt.alloc();
-    leaves_traces(
-        &rt,
-        alloc,
-        &mut track(&rt, alloc),
-        [X87, NEITHER, X87, NEITHER, X87],
-    );
-    leaves_traces(&rt, alloc, &mut plain(&rt, alloc), [BOTH; 5]);
-}
-
-/// A turn of a task that writes XMM3 and nothing else, from an area without state.
-fn first_turn<B: Bank>(bank: &mut B, area: &mut Area) -> Result<(), Refusal> {
-    let amx = Layout::amx();
-    let mut bytes = [0; 64];
-    put(&mut bytes, 0, &XMM3);
-    bank.set_up(&amx);
-    load_compacted(bank, &amx, Features(0x600e7), area)?;
-    write(bank, &amx, "xmm3", bytes)?;
-    save_compacted(bank, &amx, of_machine(&amx, MASK), area)
-}
-
-/// What the turn writes into XMM3.
-const XMM3: [u8; 16] = [
-    0x00, 0x11, 0x22, 0x33, 0x44, 0x55, 0x66, 0x77, 0x88, 0x99, 0xaa, 0xbb, 0xcc, 0xdd, 0xee, 0xff,
-];
-
-/// The Small area of the machine `amx` after that turn, with these two bytes at its front.
-fn after_first_turn(rt: &impl Abort, alloc: Global, front: [u8; 2]) -> Area {
-    let mut area = zeros(rt, alloc, 7, 2496);
-    put(&mut area.bytes, 0, &front);
-    put(&mut area.bytes, 24, &[0x80, 0x1f, 0, 0, 0xff, 0xff, 0, 0]);
-    put(&mut area.bytes, 208, &XMM3);
-    put(&mut area.bytes, 512, &[2]);
-    put(&mut area.bytes, 520, &[0xe7, 0, 2, 0, 0, 0, 0, 0x80]);
-    area
-}
-
-/// The turn leaves these bytes in the area.
-fn leaves<B: Bank>(rt: &impl Abort, alloc: Global, bank: &mut B, front: [u8; 2]) {
-    let mut area = zeros(rt, alloc, 7, 2496);
-    renew(&mut area);
-    let turned = first_turn(bank, &mut area);
-    let expected = after_first_turn(rt, alloc, front);
-    assert!(rt; turned.is_ok() && area.bytes == expected.bytes);
-}
-
-#[test]
-fn the_area_of_a_first_turn(rt: HostRuntime) {
-    let alloc = rt.alloc();
-    leaves(&rt, alloc, &mut track(&rt, alloc), [0, 0]);
-    leaves(&rt, alloc, &mut plain(&rt, alloc), [0x7f, 3]);
+fn the_area_of_a_first_turn(rt: HostRuntime) -> Result<(), AllocError> {
+    let mut kit = kit_of(rt.alloc(), 2496)?;
+    let track = leaves(&mut kit.banks.track, &mut kit.areas, [0, 0]);
+    let plain = leaves(&mut kit.banks.plain, &mut kit.areas, [0x7f, 3]);
+    assert!(rt; track & plain);
+    Ok(())
 }

@@ -1,4 +1,4 @@
-use Rattle.xs_bank_tests.proofs.bank_tests.switch_out.Goals as goal
+use Rattle.xs_bank_tests.proofs.switches.switch_out.Goals as goal
 
 pub save_compacted-requires-clause-ready : goal.save_compacted-requires-clause-ready
 save_compacted-requires-clause-ready g c =
