@@ -1,5 +1,5 @@
 //! Tests of `xs_bank`, each over both kinds of bank. They stand in a library of their own, so that a change of a test proves
-//! `xs_bank` no second time.
+//! `xs_bank` no second time. Its functions call the banks and answer whether all was as it should be; the tests assert the answers.
 #![tactic(auto)]
 
 #[cfg(test)]
