@@ -1,16 +1,8 @@
--- What instructions on registers keep, and areas that a bank doesn't track.
+-- Areas that a bank doesn't track.
 use Rattle.std.proofs.Common.{◌≡◌, ℕ, false, List, Some, None, refl, sym, ap, ◌∙◌}
 use Rattle.std.proofs.lemmas.Bool.{false≢true, ne_eqb}
 use Rattle.xs_base.specs.Header.{xcomp_bv}
 use Rattle.xs_bank.specs.Bank.{Bank, Tracked, IsReady, is_unmodified}
-use Rattle.xs_bank_tests.specs.Turn.{KeepsReady}
-
--- one after the other
-pub keeps_both : {old mid new : Bank} → KeepsReady old mid → KeepsReady mid new → KeepsReady old new
-keeps_both first second = record {
-  rows = second.rows ∙ first.rows;
-  ready = λ id mask area ready. second.ready id mask area (first.ready id mask area ready);
-}
 
 -- a bank that tracks no area, and one that tracks another
 pub ready_none : (bank : Bank) (id mask : ℕ) (area : List ℕ) → bank.tracked ≡ None → IsReady bank id mask area

@@ -1,4 +1,4 @@
-use Rattle.xs_bank_tests.proofs.optimisation.first_turn.Goals as goal
+use Rattle.xs_bank_compare.proofs.optimisation.first_turn.Goals as goal
 
 pub save_compacted-requires-clause-ready : goal.save_compacted-requires-clause-ready
 save_compacted-requires-clause-ready g c =

@@ -1,5 +1,5 @@
 use Rattle.std.proofs.Common.{sym}
-use Rattle.xs_bank_tests.proofs.turns.switch.Goals as goal
+use Rattle.xs_bank_compare.proofs.turns.switch.Goals as goal
 
 pub save-requires-clause-ready : goal.save-requires-clause-ready
 save-requires-clause-ready g c =

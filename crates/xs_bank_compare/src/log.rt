@@ -1,7 +1,7 @@
 //! What calls of a bank show, for tests.
 
-use crate::fixtures::Refusal;
 use xs_bank::{Bank, Execs};
+use xs_bank_tests::fixtures::Refusal;
 
 /// The calls of a bank.
 #[derive(Clone, Copy, PartialEq, Eq)]

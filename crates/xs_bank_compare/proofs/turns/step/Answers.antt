@@ -1,5 +1,5 @@
-use Rattle.xs_bank_tests.proofs.turns.step.Goals as goal
-use Rattle.xs_bank_tests.proofs.turns.step.Goals.{in-11, in-12, in-13, in-0-to-4, in-5-to-10, in_default}
+use Rattle.xs_bank_compare.proofs.turns.step.Goals as goal
+use Rattle.xs_bank_compare.proofs.turns.step.Goals.{in-11, in-12, in-13, in-0-to-4, in-5-to-10, in_default}
 
 pub returns : goal.returns
 returns g c = elim c.match-below.branch [

@@ -2,13 +2,13 @@
 
 ghost use Rattle.std.specs.Prelude.{◌≡◌};
 
-use crate::fixtures::{
+use xs_area::Area;
+use xs_bank::Bank;
+use xs_bank_tests::fixtures::{
     Refusal, Trio, load_compacted, load_standard, of_machine, renew, save_compacted, save_standard,
     start, write,
 };
-use crate::switches::MASK;
-use xs_area::Area;
-use xs_bank::Bank;
+use xs_bank_tests::switches::MASK;
 use xs_base::{Features, put};
 use xs_layout::Layout;
 

@@ -1,4 +1,4 @@
-use Rattle.xs_bank_tests.proofs.turns.begin.Goals as goal
+use Rattle.xs_bank_compare.proofs.turns.begin.Goals as goal
 
 pub save-requires-clause-ready : goal.save-requires-clause-ready
 save-requires-clause-ready g c =

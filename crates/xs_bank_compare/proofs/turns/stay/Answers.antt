@@ -1,4 +1,4 @@
-use Rattle.xs_bank_tests.proofs.turns.stay.Goals as goal
+use Rattle.xs_bank_compare.proofs.turns.stay.Goals as goal
 
 pub save-requires-clause-ready : goal.save-requires-clause-ready
 save-requires-clause-ready g c =

@@ -1,8 +1,8 @@
 //! Two banks with the same calls show the same.
 
-use crate::fixtures::both_banks;
 use crate::rounds::{both_sides, rounds};
 use std::alloc::AllocError;
+use xs_bank_tests::fixtures::both_banks;
 
 #[test]
 fn both_banks_show_the_same(rt: HostRuntime) -> Result<(), AllocError> {

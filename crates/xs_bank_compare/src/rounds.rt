@@ -2,13 +2,13 @@
 
 ghost use Rattle.std.specs.Prelude.{◌≡◌};
 
-use crate::fixtures::zeros;
 use crate::log::{Answer, CALLS, Log, MOST, Shown};
 use crate::random::Random;
 use crate::turns::{Tools, begin, renew, spoil, stay, switch};
 use std::alloc::{AllocError, Global};
 use xs_area::Area;
 use xs_bank::{Bank, PlainBank};
+use xs_bank_tests::fixtures::zeros;
 use xs_layout::Layout;
 
 /// Areas of distinct numbers: one without room for TILEDATA and one with room for all in the compacted format, and the same in

@@ -1,9 +1,9 @@
 //! What a save leaves out: a bank with both optimisations leaves bytes as they were, and a plain one writes them. And the bytes
 //! of an area after a first turn.
 
-use crate::fixtures::kit_of;
 use crate::optimisation::{BOTH, NEITHER, X87, leaves, leaves_traces};
 use std::alloc::AllocError;
+use xs_bank_tests::fixtures::kit_of;
 
 #[test]
 fn a_save_leaves_out_what_was_not_changed(rt: HostRuntime) -> Result<(), AllocError> {

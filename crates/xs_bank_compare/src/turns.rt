@@ -6,14 +6,14 @@ ghost use Rattle.xs_base.specs.Sets.{has};
 ghost use Rattle.xs_bank.specs.Bank.{IsReady};
 ghost use Rattle.xs_bank_tests.specs.Turn.{KeepsReady};
 
-use crate::fixtures::{
-    Refusal, arm, bits_of, load_compacted, load_standard, names_of, of_machine, read, release,
-    save_buffer, save_compacted, save_standard, start, write, write_pkru,
-};
 use crate::log::{Answer, Call, Log, answer_of, look};
 use crate::random::Random;
 use xs_area::{Area, Class, make_initial};
 use xs_bank::{Bank, PlainBank};
+use xs_bank_tests::fixtures::{
+    Refusal, arm, bits_of, load_compacted, load_standard, names_of, of_machine, read, release,
+    save_buffer, save_compacted, save_standard, start, write, write_pkru,
+};
 use xs_base::Features;
 use xs_layout::Layout;
 

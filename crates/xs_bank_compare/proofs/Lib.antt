@@ -1,0 +1,2 @@
+-- What the proofs of the turns cite.
+pub mod TurnLemmas
