@@ -7,7 +7,6 @@ use Rattle.std.proofs.lemmas.Option.{slice_get_read}
 use Rattle.std.specs.List.{list_any}
 use Rattle.std.specs.Prelude.{slice_get, slice_range}
 use Rattle.xs_base.specs.declared.class.Class.{Class}
-use Rattle.xs_base.specs.declared.class.Class.TheVariants.{Small, Large}
 use Rattle.xs_base.specs.declared.component.Row.{Row}
 use Rattle.xs_base.specs.Area.{StandsAt, StandsFor, control_in}
 use Rattle.xs_base.specs.Bytes.{is_within}
@@ -265,14 +264,6 @@ loadable_saved file mask written class id before after is_file long s save stand
   reserved = ap (list_any (λ byte. not (byte == 0))) (reserved_kept file mask written before after is_file.layout long s) ∙ save.reserved;
   numbered = save.numbered;
 }
-
--- the components of a class have SSE
-pub class_sse : (rows : List Row) (class : Class) (mask : ℕ) → IsLayout rows → mask ≡ class_features rows class → has mask 1 ≡ true
-class_sse rows class mask table is = ap (λ m. has m 1) is ∙ has_class rows class table 1 ∙ ap (λ b. b && is_of_class class 1) (has_sse rows table) ∙ here class
-  where
-    here : (class : Class) → is_of_class class 1 ≡ true
-    here Small = refl
-    here Large = refl
 
 -- ---- what stands in the area is ready for a save
 

@@ -13,6 +13,8 @@ use Rattle.xs_base.specs.Compact.{place, is_compacted, compacted}
 use Rattle.xs_base.specs.File.{File, part, with_part, with_pkru, initial_file, write_place, in_use, is_saved}
 use Rattle.xs_base.specs.Header.{xstate_bv, xcomp_bv}
 use Rattle.xs_base.specs.Area.{StandsAt, control_in}
+use Rattle.xs_base.specs.Counts.{Counts}
+use Rattle.xs_base.specs.Tile.{released_file}
 use Rattle.xs_base.specs.Trail.{mixed, read_numbers, write_numbers, release_numbers, counted}
 use Rattle.xs_bank.specs.Load.{tiles}
 use Rattle.xs_bank.specs.Save.{IsStandardSave, IsCompactedSave}
@@ -38,6 +40,10 @@ pub record HasCountedNothing (bank : Bank) : Type 0 where
   pub loads : bank.loads ≡ 0
   pub saves : bank.saves ≡ 0
 
+-- the counts alone
+abbrev pub counts_of : Bank → Counts
+counts_of bank = record { execs = bank.execs.count; trail = bank.execs.trail; loads = bank.loads; saves = bank.saves }
+
 -- ---- what instructions leave
 
 -- the bank after an instruction of these numbers
@@ -60,7 +66,7 @@ after_write bank place bytes = executed (changed bank (write_place bank.file pla
 
 -- TILECFG and TILEDATA are initial.
 abbrev pub after_release : Bank → Bank
-after_release bank = executed (changed bank (with_part (with_part bank.file tilecfg_number (initial_part tilecfg_number)) tiledata_number (initial_part tiledata_number)) 0x60000) release_numbers
+after_release bank = executed (changed bank (released_file bank.file) 0x60000) release_numbers
 
 abbrev pub after_wrpkru : Bank → ℕ → Bank
 after_wrpkru bank value = changed bank (with_pkru bank.file value) (2 ^ pkru_number)

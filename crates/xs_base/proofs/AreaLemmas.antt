@@ -14,10 +14,12 @@ use Rattle.xs_base.specs.Component.{component_count, component_size, initial_par
 use Rattle.xs_base.specs.Compact.{is_compacted, place, has_place}
 use Rattle.xs_base.specs.File.{File, IsFile, part, is_own}
 use Rattle.xs_base.specs.Header.{xstate_bv, xcomp_bv, mxcsr}
+use Rattle.xs_base.specs.Image.{taken_part}
 use Rattle.xs_base.specs.Layout.{IsLayout, has_row, row_of}
 use Rattle.xs_base.specs.Sets.{has}
 use Rattle.xs_base.proofs.ComponentLemmas.{length_initial}
 use Rattle.xs_base.proofs.FileLemmas.{initial_clean}
+use Rattle.xs_base.proofs.ImageLemmas.{length_taken, taken_byte, taken_clean}
 use Rattle.xs_base.proofs.LayoutLemmas.{sound_at}
 use Rattle.xs_base.proofs.RowLemmas.{row_of_at}
 
@@ -28,34 +30,18 @@ abbrev pub place_in : List Row → List ℕ → Option Row → ℕ
 place_in rows area None = 0
 place_in rows area (Some r) = place rows (xcomp_bv area) r
 
--- component c as a load takes it from byte `at` on
-abbrev pub loaded_part : List ℕ → ℕ → ℕ → List ℕ
-loaded_part area at c = map (λ k. if is_own c k then get_or area (at + k) 0 else 0) (range_with_len 0 (component_size c))
-
 -- component c of the file: PKRU is kept beside the area
 unfoldable pub part_of : List Row → List ℕ → ℕ → List ℕ
 part_of rows area c =
-    if has (xstate_bv area) c && not (c == 9) then loaded_part area (place_in rows area (row_of rows c)) c else initial_part c
+    if has (xstate_bv area) c && not (c == 9) then taken_part area (place_in rows area (row_of rows c)) c else initial_part c
 
 abbrev pub file_of : List Row → List ℕ → File
 file_of rows area = record { rows = rows; parts = map (part_of rows area) (range_with_len 0 component_count); mxcsr = control_in area }
 
 -- ---- its parts
 
-length_loaded : (area : List ℕ) (at c : ℕ) → length (loaded_part area at c) ≡ component_size c
-length_loaded area at c = length-map-range_with_len (λ k. if is_own c k then get_or area (at + k) 0 else 0) 0 (component_size c)
-
-loaded_byte : (area : List ℕ) (at c k : ℕ) → k < component_size c → get_or (loaded_part area at c) k 0 ≡ (if is_own c k then get_or area (at + k) 0 else 0)
-loaded_byte area at c k lt = get_or-map-range_with_len (λ j. if is_own c j then get_or area (at + j) 0 else 0) 0 (component_size c) k k 0 lt (omega arith)
-
-loaded_clean : (area : List ℕ) (at c k : ℕ) → is_own c k ≡ false → get_or (loaded_part area at c) k 0 ≡ 0
-loaded_clean area at c k loose = elim (cases_lt k (component_size c)) [
-  | inl lt ↦ loaded_byte area at c k lt ∙ ap (λ t. if t then get_or area (at + k) 0 else 0) loose
-  | inr past ↦ get_or_past (loaded_part area at c) k 0 (omega (arith, length_loaded area at c))
-]
-
 -- A part that the bits name is loaded, any other is initial.
-part_loaded : (rows : List Row) (area : List ℕ) (c : ℕ) → (c ≡ 9 → ⊥) → has (xstate_bv area) c ≡ true → part_of rows area c ≡ loaded_part area (place_in rows area (row_of rows c)) c
+part_loaded : (rows : List Row) (area : List ℕ) (c : ℕ) → (c ≡ 9 → ⊥) → has (xstate_bv area) c ≡ true → part_of rows area c ≡ taken_part area (place_in rows area (row_of rows c)) c
 unfolding part_of
 part_loaded rows area c other named = rw (named, ne_eqb c 9 other) refl
 
@@ -70,8 +56,8 @@ length_part rows area c = choose (has (xstate_bv area) c && not (c == 9))
     at : ℕ
     at = place_in rows area (row_of rows c)
 
-    choose : (b : Bool) → length (if b then loaded_part area at c else initial_part c) ≡ component_size c
-    choose true = length_loaded area at c
+    choose : (b : Bool) → length (if b then taken_part area at c else initial_part c) ≡ component_size c
+    choose true = length_taken area at c
     choose false = length_initial c
 
 part_clean : (rows : List Row) (area : List ℕ) (c k : ℕ) → is_own c k ≡ false → get_or (part_of rows area c) k 0 ≡ 0
@@ -81,8 +67,8 @@ part_clean rows area c k loose = choose (has (xstate_bv area) c && not (c == 9))
     at : ℕ
     at = place_in rows area (row_of rows c)
 
-    choose : (b : Bool) → get_or (if b then loaded_part area at c else initial_part c) k 0 ≡ 0
-    choose true = loaded_clean area at c k loose
+    choose : (b : Bool) → get_or (if b then taken_part area at c else initial_part c) k 0 ≡ 0
+    choose true = taken_clean area at c k loose
     choose false = initial_clean c k loose
 
 part_at : (rows : List Row) (area : List ℕ) (c : ℕ) → c < component_count → part (file_of rows area) c ≡ part_of rows area c
@@ -123,8 +109,8 @@ module _ (rows : List Row) (area : List ℕ) (table : IsLayout rows) (placed : (
     present = λ i r row other named k small own.
         let c = r.comp.0 in
         let at = place rows (xcomp_bv area) r in
-        let loaded : part (file_of rows area) c ≡ loaded_part area at c = part_at rows area c (number i r row) ∙ part_loaded rows area c other named ∙ ap (λ o. loaded_part area (place_in rows area o) c) (found i r row) in
-        sym (ap (λ l. get_or l k 0) loaded ∙ loaded_byte area at c k small ∙ ap (λ t. if t then get_or area (at + k) 0 else 0) own);
+        let loaded : part (file_of rows area) c ≡ taken_part area at c = part_at rows area c (number i r row) ∙ part_loaded rows area c other named ∙ ap (λ o. taken_part area (place_in rows area o) c) (found i r row) in
+        sym (ap (λ l. get_or l k 0) loaded ∙ taken_byte area at c k small ∙ ap (λ t. if t then get_or area (at + k) 0 else 0) own);
     absent = λ i r row other none. part_at rows area r.comp.0 (number i r row) ∙ part_initial rows area r.comp.0 none;
     control = refl;
   }

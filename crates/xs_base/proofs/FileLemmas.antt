@@ -88,7 +88,7 @@ pub part_is_file : (file : File) (c : ℕ) (bytes : List ℕ) → c < component_
 part_is_file file c bytes lt len clean has h = other_is_file file c bytes lt len clean (λ gone other. absurd (false≢true (sym gone ∙ has))) h
 
 -- the bytes of PKRU
-pkru_clean : (value k : ℕ) → is_own 9 k ≡ false → get_or (pkru_bytes value) k 0 ≡ 0
+pub pkru_clean : (value k : ℕ) → is_own 9 k ≡ false → get_or (pkru_bytes value) k 0 ≡ 0
 pkru_clean value k loose =
     let high : 4 ≤ k = grind (arith, nat_tests, loose) in
     let rest : get_or (to_le_bytes w32 value ++ zeros 4) k 0 ≡ get_or (zeros 4) (k - 4) 0 = search (rules, places) in

@@ -1,6 +1,7 @@
 pub mod SetLemmas
 pub mod ByteLemmas
 pub mod ComponentLemmas
+pub mod ByteRangeLemmas
 pub mod LayoutLemmas
 pub mod FaultLemmas
 pub mod FeatureLemmas
@@ -13,7 +14,12 @@ pub mod FileLemmas
 pub mod TaskLemmas
 pub mod Registers
 pub mod WorkedValues
+pub mod ImageLemmas
 pub mod AreaLemmas
+pub mod FrameLemmas
+pub mod ValidLemmas
+pub mod AcceptedLemmas
+pub mod ReplyLemmas
 pub mod ZeroLemmas
 pub mod HeaderLemmas
 pub mod CompactedLemmas

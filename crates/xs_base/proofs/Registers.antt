@@ -1,21 +1,16 @@
 -- The registers of every machine, one by one: each name has one place, and each place lies in its component.
-use Rattle.std.proofs.Common.{◌≡◌, ℕ, ◌+◌, ◌-◌, ◌*◌, ◌/◌, ◌%◌, ◌<◌, ◌≤◌, Bool, true, false, not, ◌&&◌, ◌||◌, ◌==◌, nat_le, nat_lt, slice_index_or, List, [], ◌∷◌, ◌++◌, length, map, Option, Some, None, if◌then◌else◌, refl, sym, ap, ◌∙◌, inl, inr, arith, codes, decimal}
+use Rattle.std.proofs.Common.{◌≡◌, ℕ, ◌+◌, ◌-◌, ◌/◌, ◌%◌, ◌<◌, ◌≤◌, Bool, true, false, not, ◌&&◌, ◌||◌, ◌==◌, nat_le, nat_lt, slice_index_or, List, [], ◌∷◌, ◌++◌, length, Option, Some, None, refl, sym, ap, ◌∙◌, inl, inr, arith, decimal}
 use Rattle.std.proofs.lemmas.List.Folds.{list_all_at}
 use Rattle.std.proofs.lemmas.List.FromFn.{length-range_with_len, get_or-range_with_len}
 use Rattle.std.proofs.lemmas.Bool.{cases_lt, cases_Bool, and_parts, false≢true, leb-true, ltb-true, eqb-true, cond-true, cond-false, lt-ltb, le-ltb}
 use Rattle.std.proofs.lemmas.Fmt.{decimal_digit, decimal_step}
 use Rattle.std.specs.List.{list_all, range_with_len}
-use Rattle.std.specs.Str.{bytes_eq}
 use Rattle.xs_base.specs.declared.component.Place.{Place}
 use Rattle.xs_base.specs.Component.{component_count, component_size, sizes}
 use Rattle.xs_base.specs.File.{is_own, is_mxcsr}
-use Rattle.xs_base.specs.Register.{Single, Family, families, singles, place_at, IsNamed, Alone, Member, TileRow}
+use Rattle.xs_base.specs.Register.{Single, Family, families, singles, IsNamed, Alone, Member, TileRow, index_text, member, tile_row, registers, place_among, place_or_none, place_of}
 
 -- ---- the text of an index
-
--- an index below 100 in decimal
-abbrev pub index_text : ℕ → List ℕ
-index_text n = if nat_lt n 10 then (48 + n) ∷ [] else (48 + n / 10) ∷ (48 + n % 10) ∷ []
 
 -- a number of two digits
 pub decimal_two : (n : ℕ) → 10 ≤ n → n < 100 → decimal n ≡ (48 + n / 10) ∷ (48 + n % 10) ∷ []
@@ -29,31 +24,6 @@ decimal_index n small =
       | inl lt ↦ decimal_digit n lt ∙ sym (cond-true (nat_lt n 10) _ _ (lt-ltb n 10 lt))
       | inr ge ↦ decimal_two n ge small ∙ sym (cond-false (nat_lt n 10) _ _ (le-ltb n 10 ge))
     ]
-
--- ---- the list of them
-
--- the family's register of this index
-abbrev pub member : Family → ℕ → Single
-member f i = record { name = f.stem ++ index_text (f.from + i); place = place_at f.component (f.offset + f.stride * i) f.len }
-
-abbrev pub members : Family → List Single
-members f = map (member f) (range_with_len 0 f.count)
-
-abbrev pub members_of : List Family → List Single
-members_of [] = []
-members_of (f ∷ fs) = members f ++ members_of fs
-
--- row n % 16 of tile n / 16
-abbrev pub tile_row : ℕ → ℕ → Single
-tile_row tile row = record { name = codes "tmm" ++ (index_text tile ++ codes "." ++ index_text row); place = place_at 18 (1024 * tile + 64 * row) 64 }
-
-unfoldable pub registers : List Single
-registers = singles ++ (members_of families ++ map (λ n. tile_row (n / 16) (n % 16)) (range_with_len 0 128))
-
--- the place of the first register of this name
-abbrev pub place_among : List Single → List ℕ → Option Place
-place_among [] name = None
-place_among (s ∷ ss) name = if bytes_eq s.name name then Some s.place else place_among ss name
 
 -- ---- a test of each
 
@@ -132,6 +102,11 @@ pub place_found : (name : List ℕ) (place : Place) → IsNamed name place → p
 unfolding registers
 place_found name place h =
     place_from_test place _ (each_register (λ s. is_place s.place (place_among registers s.name)) name place refl h)
+
+-- The place of a register is a function of its name.
+pub named_place : (name : List ℕ) (place : Place) → IsNamed name place → place_of name ≡ place
+unfolding place_of
+named_place name place h = ap place_or_none (place_found name place h)
 
 -- A register has one place, on every machine that has it.
 pub one_place : (name : List ℕ) (p q : Place) → IsNamed name p → IsNamed name q → p ≡ q

@@ -65,6 +65,14 @@ row_of_at rows table i r lt is =
     found.1 ∙ ap (λ x. Some x) same
 
 -- A machine has x87 and SSE.
+pub has_x87 : (rows : List Row) → IsLayout rows → has_row rows 0 ≡ true
+unfolding table_error
+has_x87 rows table = both (has_row rows 0) (has_row rows 1) (else_none (not (has_row rows 0 && has_row rows 1)) errors.LegacyMissing _ (layout_parts rows table).1).0
+  where
+    both : (a b : Bool) → not (a && b) ≡ false → a ≡ true
+    both true b h = refl
+    both false b h = absurd (true≢false h)
+
 pub has_sse : (rows : List Row) → IsLayout rows → has_row rows 1 ≡ true
 unfolding table_error
 has_sse rows table = both (has_row rows 0) (has_row rows 1) (else_none (not (has_row rows 0 && has_row rows 1)) errors.LegacyMissing _ (layout_parts rows table).1).0

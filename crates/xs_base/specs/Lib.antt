@@ -12,5 +12,10 @@ pub mod Header
 pub mod HeaderCheck
 pub mod Area
 pub mod KernelArea
+pub mod Image
 pub mod Task
+pub mod Frame
+pub mod RegisterSet
+pub mod Tile
 pub mod Trail
+pub mod Counts

@@ -1,7 +1,9 @@
 -- The names of registers and where each stands in its component. The names are this project's, the places are those
 -- of SDM volume 1, 10.5.1, 13.4 and 13.5, and of its chapter on AMX. That MXCSR is named by a place of its own behind the
 -- XMM registers is this project's own.
-use Rattle.std.specs.Prelude.{◌≡◌, ℕ, ◌+◌, ◌*◌, ◌<◌, true, List, [], ◌∷◌, ◌++◌, codes, decimal, Any}
+use Rattle.std.specs.Prelude.{◌≡◌, ℕ, ◌+◌, ◌*◌, ◌/◌, ◌%◌, ◌<◌, true, nat_lt, List, [], ◌∷◌, ◌++◌, map, codes, decimal, Any, Option, Some, None, if◌then◌else◌}
+use Rattle.std.specs.List.{range_with_len}
+use Rattle.std.specs.Str.{bytes_eq}
 use Rattle.xs_base.specs.declared.component.Row.{Row}
 use Rattle.xs_base.specs.declared.component.Place.{Place}
 use Rattle.xs_base.specs.Component.{tiledata_number}
@@ -70,3 +72,39 @@ pub data IsNamed (name : List ℕ) (place : Place) : Type 0 where
 -- components.
 abbrev pub IsRegister : List Row → List ℕ → Place → Type 0
 IsRegister rows name place = IsNamed name place × (has_row rows place.comp.0 ≡ true)
+
+-- ---- the place as a function of the name
+
+-- an index below 100 in decimal
+abbrev pub index_text : ℕ → List ℕ
+index_text n = if nat_lt n 10 then (48 + n) ∷ [] else (48 + n / 10) ∷ (48 + n % 10) ∷ []
+
+-- the family's register of this index
+abbrev pub member : Family → ℕ → Single
+member f i = record { name = f.stem ++ index_text (f.from + i); place = place_at f.component (f.offset + f.stride * i) f.len }
+
+abbrev pub members_of : List Family → List Single
+members_of [] = []
+members_of (f ∷ fs) = map (member f) (range_with_len 0 f.count) ++ members_of fs
+
+-- this row of this tile
+abbrev pub tile_row : ℕ → ℕ → Single
+tile_row tile row = record { name = codes "tmm" ++ (index_text tile ++ codes "." ++ index_text row); place = place_at tiledata_number (1024 * tile + 64 * row) 64 }
+
+-- every register, each with its name
+unfoldable pub registers : List Single
+registers = singles ++ (members_of families ++ map (λ n. tile_row (n / 16) (n % 16)) (range_with_len 0 128))
+
+-- the place of the first register of this name
+abbrev pub place_among : List Single → List ℕ → Option Place
+place_among [] name = None
+place_among (s ∷ ss) name = if bytes_eq s.name name then Some s.place else place_among ss name
+
+-- the place, and that of no byte where there is none
+abbrev pub place_or_none : Option Place → Place
+place_or_none (Some place) = place
+place_or_none None = place_at 0 0 0
+
+-- The place of the register of this name: where none has it, a place of no byte.
+unfoldable pub place_of : List ℕ → Place
+place_of name = place_or_none (place_among registers name)

@@ -1,6 +1,7 @@
 -- The bytes of the standard format, byte by byte (SDM volume 1, 10.5.1 and 13.4). XSAVE writes them over what the memory
 -- had before, its base.
-use Rattle.std.specs.Prelude.{◌≡◌, ℕ, ◌-◌, ◌<◌, Bool, not, ◌&&◌, ◌||◌, List, [], ◌∷◌, ◌++◌, length, slice_index, if◌then◌else◌}
+use Rattle.std.specs.Prelude.{◌≡◌, ℕ, ◌-◌, ◌<◌, Bool, not, ◌&&◌, ◌||◌, List, [], ◌∷◌, ◌++◌, length, map, slice_index, if◌then◌else◌}
+use Rattle.std.specs.List.{range_with_len}
 use Rattle.std.specs.Int.{to_le_bytes, w32}
 use Rattle.xs_base.specs.declared.component.Row.{Row}
 use Rattle.xs_base.specs.Sets.{has}
@@ -36,6 +37,10 @@ abbrev pub standard_byte : File → ℕ → List ℕ → ℕ → ℕ
 standard_byte file mask base i =
     if is_within 24 8 i && has_control mask then slice_index (control_bytes file.mxcsr) (i - 24)
     else component_byte (saved_byte file) (λ r. r.offset) mask i file.rows (slice_index base i)
+
+-- The standard bytes of the file for the mask, over the base.
+unfoldable pub standard_bytes : File → ℕ → List ℕ → List ℕ
+standard_bytes file mask base = map (standard_byte file mask base) (range_with_len 0 (length base))
 
 -- These are the standard bytes of the file for the mask, over the base.
 pub record IsStandard (file : File) (mask : ℕ) (base out : List ℕ) : Type 0 where

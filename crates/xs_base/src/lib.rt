@@ -28,6 +28,6 @@ pub use lane::Lane;
 pub use layout_error::{LayoutError, LayoutFault};
 pub use little_endian::four_bytes_again;
 pub use mxcsr::{INITIAL_MXCSR, MOST_MXCSR};
-pub use task::{a_root_task_is_valid, the_initial_file_is_valid};
+pub use task::{START_PKRU, a_root_task_is_valid, the_initial_file_is_valid};
 pub use words::{Errno, How, Set, Signo};
 pub use zeros::are_zero;

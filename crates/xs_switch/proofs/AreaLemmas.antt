@@ -25,7 +25,7 @@ use Rattle.xs_base.proofs.ClassLemmas.{has_class}
 use Rattle.xs_base.proofs.CompactLemmas.{compact_size_low}
 use Rattle.xs_base.proofs.CompactedLemmas.{compacted_places}
 use Rattle.xs_base.proofs.LayoutLemmas.{has_row_at}
-use Rattle.xs_base.proofs.RowLemmas.{has_sse, row_index}
+use Rattle.xs_base.proofs.RowLemmas.{row_index}
 use Rattle.xs_base.proofs.SetLemmas.{has_none}
 
 -- ---- arming
@@ -113,14 +113,6 @@ no_pkru rows class mask table is = ap (λ m. has m 9) is ∙ has_class rows clas
     here Small false = refl
     here Large true = refl
     here Large false = refl
-
--- the components of a class have SSE
-pub class_sse : (rows : List Row) (class : Class) (mask : ℕ) → IsLayout rows → mask ≡ class_features rows class → has mask 1 ≡ true
-class_sse rows class mask table is = ap (λ m. has m 1) is ∙ has_class rows class table 1 ∙ ap (λ b. b && is_of_class class 1) (has_sse rows table) ∙ here class
-  where
-    here : (class : Class) → is_of_class class 1 ≡ true
-    here Small = refl
-    here Large = refl
 
 -- ---- saves
 

@@ -1,4 +1,3 @@
 -- What switches take and leave, one file a noun.
-pub mod Counts
 pub mod Armed
 pub mod Running

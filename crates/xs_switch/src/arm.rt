@@ -4,9 +4,9 @@ ghost use Rattle.std.specs.Prelude.{◌≡◌, ◌⊎◌, true};
 ghost use Rattle.xs_base.specs.Component.{pkru_number, tiledata_number};
 ghost use Rattle.xs_base.specs.File.{part};
 ghost use Rattle.xs_base.specs.Layout.{has_row};
+ghost use Rattle.xs_bank.specs.Bank.{counts_of};
 ghost use Rattle.xs_bank.specs.Load.{tiles};
 ghost use Rattle.xs_switch.specs.Armed as armed;
-ghost use Rattle.xs_switch.specs.Counts.{counts_of};
 
 use xs_bank::Bank;
 use xs_base::{Class, Comp, Features};

@@ -2,12 +2,13 @@
 
 ghost use Rattle.std.specs.Prelude.{◌≡◌, false, Some, if◌then◌else◌};
 ghost use Rattle.xs_base.specs.declared.words.How.TheVariants as hows;
+ghost use Rattle.xs_base.specs.Counts.{after_start, load_if};
 ghost use Rattle.xs_base.specs.Task.{PrivateTask};
+ghost use Rattle.xs_bank.specs.Bank.{counts_of};
 ghost use Rattle.xs_bank.specs.Holds.{Holds};
 ghost use Rattle.xs_bank.specs.SetUp.{WasSetUp};
 ghost use Rattle.xs_task.specs.Parked.{IsParked};
 ghost use Rattle.xs_task.specs.TaskArea.{IsTask};
-ghost use Rattle.xs_switch.specs.Counts.{counts_of, after_start, load_if};
 ghost use Rattle.xs_switch.specs.Running.{CanSave, IsRunning};
 
 use crate::pkru::give_pkru;

@@ -2,14 +2,15 @@
 
 ghost use Rattle.std.specs.Prelude.{◌≡◌, true, false, not, Some};
 ghost use Rattle.xs_area.specs.declared.area.Lease.{Lease};
+ghost use Rattle.xs_base.specs.Counts.{save_if};
 ghost use Rattle.xs_base.specs.File.{pkru_of};
 ghost use Rattle.xs_base.specs.Task.{PrivateTask, parked};
 ghost use Rattle.xs_base.specs.Trail.{counted};
+ghost use Rattle.xs_bank.specs.Bank.{counts_of};
 ghost use Rattle.xs_bank.specs.SetUp.{WasSetUp};
 ghost use Rattle.xs_task.specs.Marks.{IsSavedIn};
 ghost use Rattle.xs_task.specs.Parked.{IsParked};
 ghost use Rattle.xs_task.specs.TaskArea.{IsTask, KeepsArea};
-ghost use Rattle.xs_switch.specs.Counts.{counts_of, save_if};
 ghost use Rattle.xs_switch.specs.Running.{CanSave, IsRunning};
 
 use crate::saving::save;

@@ -4,15 +4,11 @@ ghost use Rattle.std.specs.Prelude.{◌≡◌, ℕ, List};
 ghost use Rattle.xs_base.specs.Component.{pkru_number};
 ghost use Rattle.xs_base.specs.File.{File, IsFile, AreSameButPkru, part, pkru_bytes, with_pkru};
 ghost use Rattle.xs_base.specs.Task.{start_pkru};
-ghost use Rattle.xs_bank.specs.Bank.{IsReady};
+ghost use Rattle.xs_bank.specs.Bank.{counts_of, IsReady};
 ghost use Rattle.xs_bank.specs.SetUp.{WasSetUp};
-ghost use Rattle.xs_switch.specs.Counts.{counts_of};
 
 use xs_bank::{Bank, Cpu};
-
-/// The PKRU of a kernel thread, for its whole life: only key 0 may be used (Linux 6.6, arch/x86/mm/pkeys.c,
-/// init_pkru_value; that a kernel thread keeps it is this project's own).
-const KERNEL_PKRU: u32 = 0x5555_5554;
+use xs_base::START_PKRU;
 
 /// Gives the bank this PKRU, and writes it only where the bank has another (Linux 6.6, arch/x86/include/asm/pkru.h,
 /// write_pkru).
@@ -31,7 +27,8 @@ pub fn give_pkru<B: Bank>(bank: &mut B, value: u32)
     }
 }
 
-/// Gives the bank the PKRU of a kernel thread. Everything else stays.
+/// Gives the bank the PKRU of a kernel thread, which is that of a task's start for its whole life (Linux 6.6,
+/// arch/x86/kernel/process.c, copy_thread; that a kernel thread keeps it is this project's own). Everything else stays.
 pub fn to_kernel<B: Bank>(cpu: &mut Cpu<B>)
     requires set_up { WasSetUp cpu.old.layout (B.state cpu.old.bank) cpu.old.initial }
     ensures set_up { WasSetUp cpu.new.layout (B.state cpu.new.bank) cpu.new.initial }
@@ -40,5 +37,5 @@ pub fn to_kernel<B: Bank>(cpu: &mut Cpu<B>)
     ensures counts { counts_of (B.state cpu.new.bank) ≡ counts_of (B.state cpu.old.bank) }
     ensures cpu { cpu.new ≡ record cpu.old { bank = cpu.new.bank } }
 {
-    give_pkru(&mut cpu.bank, KERNEL_PKRU);
+    give_pkru(&mut cpu.bank, START_PKRU);
 }

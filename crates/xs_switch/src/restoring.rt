@@ -3,11 +3,11 @@
 ghost use Rattle.std.specs.Prelude.{◌≡◌, ℕ};
 ghost use Rattle.xs_base.specs.Area.{StandsFor};
 ghost use Rattle.xs_base.specs.Component.{pkru_number};
+ghost use Rattle.xs_base.specs.Counts.{one_load};
 ghost use Rattle.xs_base.specs.File.{File, IsFile, AreSameButPkru, part};
-ghost use Rattle.xs_bank.specs.Bank.{IsReady};
+ghost use Rattle.xs_bank.specs.Bank.{counts_of, IsReady};
 ghost use Rattle.xs_task.specs.TaskArea.{IsTaskArea};
 ghost use Rattle.xs_switch.specs.Armed.{armed_for};
-ghost use Rattle.xs_switch.specs.Counts.{counts_of, one_load};
 
 use crate::arm::arm;
 use xs_area::{Class, Lease, class_features};

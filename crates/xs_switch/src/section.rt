@@ -4,12 +4,13 @@
 ghost use Rattle.std.specs.Prelude.{◌≡◌, true, false, Some, None};
 ghost use Rattle.xs_area.specs.declared.area.Lease.{Lease};
 ghost use Rattle.xs_base.specs.Component.{pkru_number};
+ghost use Rattle.xs_base.specs.Counts.{one_save, one_section, section_bytes, xmm0};
 ghost use Rattle.xs_base.specs.File.{part, write_place};
 ghost use Rattle.xs_base.specs.Task.{PrivateTask};
+ghost use Rattle.xs_bank.specs.Bank.{counts_of};
 ghost use Rattle.xs_bank.specs.SetUp.{WasSetUp};
 ghost use Rattle.xs_task.specs.Marks.{IsSavedIn};
 ghost use Rattle.xs_task.specs.TaskArea.{IsTask, KeepsArea};
-ghost use Rattle.xs_switch.specs.Counts.{counts_of, one_save, one_section, section_bytes, xmm0};
 ghost use Rattle.xs_switch.specs.Running.{CanSave, IsRunning};
 
 use crate::leaving::save_task;
@@ -50,7 +51,7 @@ pub fn kernel_section<B: Bank>(task: &mut Task, cpu: &mut Cpu<B>, byte: u8)
 
 /// A kernel section in a kernel thread, which has no registers to save: the owner mark is cleared, and 16 times this byte is
 /// written to XMM0.
-#[tactic(auto, unfolding(crate::specs::Counts::section_bytes))]
+#[tactic(auto, unfolding(xs_base::specs::Counts::section_bytes))]
 pub fn thread_section<B: Bank>(cpu: &mut Cpu<B>, byte: u8)
     requires set_up { WasSetUp cpu.old.layout (B.state cpu.old.bank) cpu.old.initial }
     ensures set_up { WasSetUp cpu.new.layout (B.state cpu.new.bank) cpu.new.initial }

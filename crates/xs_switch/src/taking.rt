@@ -4,11 +4,11 @@ ghost use Rattle.std.specs.Prelude.{◌≡◌, ℕ};
 ghost use Rattle.xs_base.specs.declared.words.How.TheVariants as hows;
 ghost use Rattle.xs_base.specs.Area.{StandsFor};
 ghost use Rattle.xs_base.specs.Component.{pkru_number};
+ghost use Rattle.xs_base.specs.Counts.{after_start};
 ghost use Rattle.xs_base.specs.File.{File, IsFile, part};
 ghost use Rattle.xs_base.specs.KernelArea.{class_features};
-ghost use Rattle.xs_bank.specs.Bank.{IsReady};
+ghost use Rattle.xs_bank.specs.Bank.{counts_of, IsReady};
 ghost use Rattle.xs_task.specs.TaskArea.{IsTaskArea};
-ghost use Rattle.xs_switch.specs.Counts.{counts_of, after_start};
 ghost use Rattle.xs_switch.specs.Running.{IsInBank};
 
 use crate::restoring::restore;

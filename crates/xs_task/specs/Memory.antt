@@ -1,16 +1,9 @@
 -- The two memories of a task: that of its signal frame (Linux 6.6, arch/x86/kernel/signal.c, get_sigframe) and a buffer for
--- register sets (arch/x86/kernel/fpu/regset.c). That a task owns them, and their lengths, is this project's own.
+-- register sets (arch/x86/kernel/fpu/regset.c). That a task owns them is this project's own.
 use Rattle.std.specs.Prelude.{◌≡◌, ℕ, List}
 use Rattle.xs_task.specs.declared.task.Task.{Task}
 use Rattle.xs_task.specs.declared.memory.Mem.{Mem}
 use Rattle.xs_task.specs.declared.memory.Mem.TheVariants.{Frame, Buffer}
-
--- A frame has 16,384 bytes and 4 for the second magic word.
-abbrev pub frame_length : ℕ
-frame_length = 16388
-
-abbrev pub buffer_length : ℕ
-buffer_length = 16384
 
 -- the bytes of a memory
 abbrev pub memory : Mem → Task → List ℕ

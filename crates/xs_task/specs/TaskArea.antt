@@ -5,11 +5,11 @@ use Rattle.xs_base.specs.declared.class.Class.{Class}
 use Rattle.xs_base.specs.declared.class.Class.TheVariants.{Small, Large}
 use Rattle.xs_base.specs.declared.component.Row.{Row}
 use Rattle.xs_area.specs.declared.area.Lease.{Lease}
+use Rattle.xs_base.specs.Task.{frame_length, buffer_length}
 use Rattle.xs_task.specs.declared.task.Task.{Task}
 use Rattle.xs_base.specs.Compact.{is_compacted}
 use Rattle.xs_base.specs.Header.{xcomp_bv}
 use Rattle.xs_base.specs.KernelArea.{class_size, IsLoadable}
-use Rattle.xs_task.specs.Memory.{frame_length, buffer_length}
 
 -- An area that a task of the machine may have: it can be loaded, is compacted, and has the length of its class.
 pub record IsTaskArea (rows : List Row) (lease : Lease) : Type 0 where

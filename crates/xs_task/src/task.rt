@@ -3,14 +3,13 @@
 ghost use Rattle.std.specs.Prelude.{◌≡◌, true, false, length, IfOk, None};
 ghost use Rattle.xs_base.specs.declared.class.Class.TheVariants.{Small};
 ghost use Rattle.xs_base.specs.Bytes.{zeros};
-ghost use Rattle.xs_base.specs.Task.{root_task};
-ghost use Rattle.xs_task.specs.Memory.{frame_length, buffer_length};
+ghost use Rattle.xs_base.specs.Task.{root_task, frame_length, buffer_length};
 ghost use Rattle.xs_task.specs.Parked.{IsParked};
 ghost use Rattle.xs_task.specs.TaskArea.{IsTask, IsTaskArea};
 
 use std::alloc::{AllocError, Global};
 use xs_area::{Lease, make_initial};
-use xs_base::{Class, clear};
+use xs_base::{Class, START_PKRU, clear};
 use xs_layout::Layout;
 
 /// The bytes of the memory of a signal frame, with 4 for the second magic word.
@@ -18,9 +17,6 @@ const FRAME_BYTES: usize = 16388;
 
 /// The bytes of the buffer for register sets.
 const BUFFER_BYTES: usize = 16384;
-
-/// The PKRU that a task starts with: only key 0 may be used (Linux 6.6, arch/x86/mm/pkeys.c, init_pkru_value).
-const START_PKRU: u32 = 0x5555_5554;
 
 /// A task as the kernel keeps it (Linux 6.6, arch/x86/include/asm/fpu/types.h, struct fpu, and
 /// arch/x86/include/asm/processor.h, struct thread_struct). Between its turns its area and `pkru` stand for its registers.

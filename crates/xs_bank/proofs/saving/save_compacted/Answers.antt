@@ -5,7 +5,8 @@ use Rattle.xs_bank.specs.Save.{IsCompactedSave}
 use Rattle.xs_base.proofs.CompactedLemmas.{compact_room}
 use Rattle.xs_bank.proofs.SaveLemmas.{compacted_saved}
 use Rattle.xs_bank.proofs.StandLemmas.{compacted_stands, stands_whole}
-use Rattle.xs_bank.proofs.WholeLemmas.{class_sse, loadable_saved}
+use Rattle.xs_base.proofs.ClassLemmas.{class_sse}
+use Rattle.xs_bank.proofs.WholeLemmas.{loadable_saved}
 use Rattle.xs_bank.proofs.saving.save_compacted.Goals as goal
 
 pub put_area-requires-clause-header : goal.put_area-requires-clause-header

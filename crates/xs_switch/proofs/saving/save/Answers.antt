@@ -2,7 +2,8 @@
 use Rattle.std.proofs.Common.{ap, sym, refl, ◌∙◌}
 use Rattle.xs_base.specs.Compact.{compacted}
 use Rattle.xs_bank.specs.Save.{IsInitialOutside}
-use Rattle.xs_switch.proofs.AreaLemmas.{table, names, initial_outside, loadable_save, saved_area, class_sse}
+use Rattle.xs_base.proofs.ClassLemmas.{class_sse}
+use Rattle.xs_switch.proofs.AreaLemmas.{table, names, initial_outside, loadable_save, saved_area}
 use Rattle.xs_switch.proofs.saving.save.Goals as goal
 
 pub returns-clause-area : goal.returns-clause-area

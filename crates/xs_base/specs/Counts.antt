@@ -6,16 +6,12 @@ use Rattle.xs_base.specs.declared.words.How.TheVariants.{Load, Skip, Kern}
 use Rattle.xs_base.specs.Component.{sse_number}
 use Rattle.xs_base.specs.Register.{place_at}
 use Rattle.xs_base.specs.Trail.{mixed, counted, write_numbers}
-use Rattle.xs_bank.specs.Bank.{Bank}
 
 pub record Counts : Type 0 where
   pub execs : ℕ
   pub trail : ℕ
   pub loads : ℕ
   pub saves : ℕ
-
-abbrev pub counts_of : Bank → Counts
-counts_of bank = record { execs = bank.execs.count; trail = bank.execs.trail; loads = bank.loads; saves = bank.saves }
 
 abbrev pub one_load : Counts → Counts
 one_load counts = record counts { loads = counted counts.loads }
