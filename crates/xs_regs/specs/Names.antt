@@ -1,5 +1,5 @@
 -- What the readers of names find, in tables that have the entries of the definitions.
-use Rattle.std.specs.Prelude.{◌≡◌, ℕ, List, Any}
+use Rattle.std.specs.Prelude.{◌≡◌, ℕ, ◌+◌, ◌≤◌, List, Any}
 use Rattle.xs_base.specs.declared.component.Place.{Place}
 use Rattle.xs_base.specs.Register as register
 use Rattle.xs_base.specs.Register.{IsMember}
@@ -12,6 +12,10 @@ single_of s = record { name = s.name.now; place = s.place }
 
 abbrev pub family_of : Family → register.Family
 family_of f = record { stem = f.stem.now; from = f.from; count = f.count; component = f.component; offset = f.offset; stride = f.stride; len = f.len }
+
+-- the numbers of the family have at most two digits
+abbrev pub HasTwoDigits : Family → Type 0
+HasTwoDigits f = f.from + f.count ≤ 100
 
 -- one of these has the name and stands at the place
 abbrev pub IsAlone : List register.Single → List ℕ → Place → Type 0

@@ -7,7 +7,8 @@ ghost use Rattle.xs_base.specs.Component.{component_size};
 ghost use Rattle.xs_base.specs.File.{is_mxcsr};
 ghost use Rattle.xs_base.specs.Register.{IsMember, IsTileRow, IsNamed, IsRegister, singles, families};
 ghost use Rattle.xs_regs.specs.Finds.{Finds};
-ghost use Rattle.xs_regs.specs.Names.{IsAlone, IsNumbered, single_of, family_of};
+ghost use Rattle.std.specs.List.{AllByRecursion};
+ghost use Rattle.xs_regs.specs.Names.{HasTwoDigits, IsAlone, IsNumbered, single_of, family_of};
 
 use crate::number::{read_digit, read_index};
 use crate::tables::{FAMILIES, Family, SINGLES, Single};
@@ -56,6 +57,7 @@ fn find_alone(entries: &[Single], name: &[u8]) -> Option<Place>
 
 /// The place of the register with this name, if it is one of the family.
 fn find_member(family: &Family, name: &[u8]) -> Option<Place>
+    requires { HasTwoDigits family.now }
     ensures { Finds (λ (place : Place). IsMember name.now place (family_of family.now)) result }
 {
     let digits = after(family.stem, name)?;
@@ -76,6 +78,7 @@ fn find_member(family: &Family, name: &[u8]) -> Option<Place>
 
 /// The place of the register whose name is a stem of these and a number.
 fn find_numbered(entries: &[Family], name: &[u8]) -> Option<Place>
+    requires { AllByRecursion HasTwoDigits entries.now }
     ensures { Finds (IsNumbered (map family_of entries.now) name.now) result }
 {
     'each: for family in entries {

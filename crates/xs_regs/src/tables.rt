@@ -1,7 +1,5 @@
 //! The table of registers: names, components, and places in them (SDM volume 1, 10.5.1, 13.4 and 13.5).
 
-ghost use Rattle.std.specs.Prelude.{◌+◌, ◌≤◌};
-
 use xs_base::{Comp, Place};
 
 /// A register with a name of its own.
@@ -31,7 +29,6 @@ pub struct Family {
     pub stride: u16,
     /// The bytes of each.
     pub len: u8,
-    ghost two_digits: { from + count ≤ 100 },
 }
 
 macro_rules! single {
@@ -62,7 +59,7 @@ macro_rules! family {
 }
 
 /// The registers that are no family's.
-pub const SINGLES: [Single; 9] = [
+pub static SINGLES: [Single; 9] = [
     single!(b"fcw", 0, 0, 2),
     single!(b"fsw", 0, 2, 2),
     single!(b"ftw", 0, 4, 1),
@@ -75,7 +72,7 @@ pub const SINGLES: [Single; 9] = [
 ];
 
 /// The families.
-pub const FAMILIES: [Family; 6] = [
+pub static FAMILIES: [Family; 6] = [
     family!(b"st", 0, 8, 0, 32, 16, 10),
     family!(b"xmm", 0, 16, 1, 0, 16, 16),
     family!(b"ymmh", 0, 16, 2, 0, 16, 16),

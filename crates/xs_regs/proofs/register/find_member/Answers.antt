@@ -11,7 +11,7 @@ returns-in_err-digits c =
 
 pub returns-in_err-number : goal.returns-in_err-number
 returns-in_err-number c =
-    let small = c.args.family.now.two_digits in
+    let small = c.requires in
     rw c.from_residual-in_err-number.ensures (λ place m.
     let n = member_index c.args.name.now c.in_ok-digits.digits.now (family_of c.args.family.now) place small c.in_ok-digits.ensures m in
     c.in_err-number.ensures n.0 n.1)
@@ -25,7 +25,7 @@ returns-then-number-from c =
 
 pub returns-else-from-number : goal.returns-else-from-number
 returns-else-from-number c = λ place m.
-    let small = c.args.family.now.two_digits in
+    let small = c.requires in
     let n = member_index c.args.name.now c.in_ok-digits.digits.now (family_of c.args.family.now) place small c.in_ok-digits.ensures m in
     let same : c.in_ok-number.number ≡ n.0 = one_index c.in_ok-digits.digits.now c.in_ok-number.number n.0 c.in_ok-number.ensures n.1 in
     let from : c.args.family.now.from ≤ n.0 = n.2 in
