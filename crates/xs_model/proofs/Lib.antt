@@ -1,2 +1,44 @@
-pub mod LatestTurn
-pub mod FilesStay
+-- Lemmas of the machine, one file a theme.
+mod RowScripts
+mod ProcessorRows
+mod CommandRows
+mod TurnOrder
+mod NoteLaws
+mod KeptLaws
+mod LineNumbers
+mod Touched
+mod EventTurns
+mod DueTurns
+mod LegalTurns
+mod MachineShape
+mod ReadyCounts
+mod ReadySteps
+mod RiserLaws
+mod DuePlaces
+mod BuiltBlocks
+mod BuiltSteps
+mod UnseenLaws
+mod EngineSteps
+mod TasksStay
+mod TaskWrites
+mod TaskSets
+mod TaskLines
+mod LocalLines
+mod MachineTasks
+mod Replaying
+mod Bookkeeping
+mod LineCosts
+mod DueOrders
+mod BlockSums
+mod ReachCosts
+mod StepCosts
+mod FreshTurns
+mod OuterCosts
+mod EventBound
+mod Family
+mod Families
+mod FamilyMoves
+mod FamilySteps
+mod TurnFits
+mod ShortTurns
+mod FitSteps

@@ -1,74 +1,65 @@
--- Held: the bank of a processor still holds a task's current state. It is said by looking back through the
--- history, and knows no owner mark and no last processor, by which Linux decides the same (Linux 6.6,
--- arch/x86/kernel/fpu/context.h, fpregs_state_valid).
-use Rattle.std.specs.Prelude.{ℕ, Bool, true, false, not, ◌&&◌, ◌==◌, List, [], ◌∷◌, Option, Some, None, if◌then◌else◌}
-use Rattle.std.specs.List.{list_any}
-use Rattle.xs_base.specs.declared.words.How.{How}
-use Rattle.xs_base.specs.declared.words.How.TheVariants.{Load, Skip, Kern}
+-- Held: the bank of a processor still holds a task's current state. It is said by looking back through the past, and knows
+-- no owner mark and no last processor, by which Linux decides the same (Linux 6.6, arch/x86/kernel/fpu/context.h,
+-- fpregs_state_valid).
+use Rattle.std.specs.Prelude.{ℕ, Bool, true, false, not, ◌&&◌, ◌==◌, List, [], ◌∷◌, if◌then◌else◌}
+use Rattle.xs_model.specs.declared.script.Script.{Script}
 use Rattle.xs_model.specs.declared.event.Event.{Event}
-use Rattle.xs_model.specs.declared.event.Event.TheVariants.{Start, Local, Outer, Grow, Kill, End}
+use Rattle.xs_model.specs.Script.{is_user}
+use Rattle.xs_model.specs.Note.{Act, Starts, Section, Grows, Sets, Plain, Note, notes_of, is_at, cpu_of, is_on}
 
--- the latest turn of a task: the processor of its Start, and the events after that Start
-pub record LatestTurn : Type 0 where
-  pub cpu : ℕ
-  pub after : List Event
+-- A turn that ends with this act leaves the task's state in the bank.
+abbrev pub keeps : Act → Bool
+keeps (Starts c) = true
+keeps Section = false
+keeps Grows = false
+keeps (Sets u) = true
+keeps Plain = true
 
--- the processor, where the event is a Start of the task
-abbrev pub started_on : ℕ → Event → Option ℕ
-started_on task (Start t cpu how signal) = if t == task then Some cpu else None
-started_on task (Local t line reply) = None
-started_on task (Outer t line reply) = None
-started_on task (Grow t) = None
-started_on task (Kill t signo why) = None
-started_on task (End t) = None
+abbrev pub sets_block : Act → ℕ → Bool
+sets_block (Starts c) t = false
+sets_block Section t = false
+sets_block Grows t = false
+sets_block (Sets u) t = u == t
+sets_block Plain t = false
 
-abbrev pub turn_since : Option ℕ → List Event → Option LatestTurn
-turn_since None later = None
-turn_since (Some cpu) later = Some (record { cpu = cpu; after = later })
+-- The block's latest event is neither a section nor Grow, and after it nobody set the block's registers.
+abbrev pub is_current : List Note → ℕ → Bool
+is_current [] t = false
+is_current (n ∷ past) t = if n.task == t then keeps n.act else not (sets_block n.act t) && is_current past t
 
-abbrev pub or_else : {A : Type 0} → Option A → Option A → Option A
-or_else None other = other
-or_else (Some x) other = Some x
+abbrev pub is_start : Act → Bool
+is_start (Starts c) = true
+is_start Section = false
+is_start Grows = false
+is_start (Sets u) = false
+is_start Plain = false
 
--- the latest turn of the task in the history, if it had one
-abbrev pub latest_turn : ℕ → List Event → Option LatestTurn
-latest_turn task [] = None
-latest_turn task (event ∷ later) = or_else (latest_turn task later) (turn_since (started_on task event) later)
+-- The act overwrites the registers of another task: a user task starts, or a kernel thread has a section.
+abbrev pub displaces : Bool → Act → Bool
+displaces true (Starts c) = true
+displaces true Section = false
+displaces true Grows = false
+displaces true (Sets u) = false
+displaces true Plain = false
+displaces false (Starts c) = false
+displaces false Section = true
+displaces false Grows = false
+displaces false (Sets u) = false
+displaces false Plain = false
 
-abbrev pub is_kernel : How → Bool
-is_kernel Load = false
-is_kernel Skip = false
-is_kernel Kern = true
+-- the note is of another block than t, on processor c, and overwrites the registers there
+abbrev pub is_displacing : (ℕ → Bool) → List Note → Note → ℕ → ℕ → Bool
+is_displacing user past n c t = not (n.task == t) && is_on past n c && displaces (user n.task) n.act
 
--- The event is a Start of another user task on the processor: its registers overwrite the task's.
-abbrev pub displaces : ℕ → ℕ → Event → Bool
-displaces cpu task (Start t c how signal) = (c == cpu) && not (t == task) && not (is_kernel how)
-displaces cpu task (Local t line reply) = false
-displaces cpu task (Outer t line reply) = false
-displaces cpu task (Grow t) = false
-displaces cpu task (Kill t signo why) = false
-displaces cpu task (End t) = false
+-- After the block's latest Start no other user task started on the processor, and no kernel thread had a section there.
+abbrev pub is_calm : (ℕ → Bool) → List Note → ℕ → ℕ → Bool
+is_calm user [] c t = true
+is_calm user (n ∷ past) c t = if n.task == t && is_start n.act then true else not (is_displacing user past n c t) && is_calm user past c t
 
--- The event is Grow of the task. It ends the turn, and the task's state goes on in another area.
-abbrev pub moves_area : ℕ → Event → Bool
-moves_area task (Start t c how signal) = false
-moves_area task (Local t line reply) = false
-moves_area task (Outer t line reply) = false
-moves_area task (Grow t) = t == task
-moves_area task (Kill t signo why) = false
-moves_area task (End t) = false
+-- The block had a turn, the latest one was on the processor, and since then nothing came between.
+abbrev pub held_by : (ℕ → Bool) → List Note → ℕ → ℕ → Bool
+held_by user past c t = is_at (cpu_of past t) c && is_current past t && is_calm user past c t
 
-abbrev pub is_displaced : List Event → ℕ → ℕ → Bool
-is_displaced events cpu task = list_any (displaces cpu task) events
-
-abbrev pub is_stale_after : List Event → ℕ → Bool
-is_stale_after events task = list_any (moves_area task) events
-
-abbrev pub held_since : ℕ → ℕ → Option LatestTurn → Bool
-held_since cpu task None = false
-held_since cpu task (Some turn) = (turn.cpu == cpu) && not (is_displaced turn.after cpu task) && not (is_stale_after turn.after task)
-
--- The task had a turn, the latest one was on the processor and didn't end in Grow, and after its Start no other
--- user task was started there.
-abbrev pub held : List Event → ℕ → ℕ → Bool
-held history cpu task = held_since cpu task (latest_turn task history)
+-- the bank of processor `cpu` holds the current state of the user task
+abbrev pub held : Script → List Event → ℕ → ℕ → Bool
+held script past cpu task = held_by (is_user script) (notes_of script past) cpu task

@@ -1,173 +1,139 @@
--- The private machine: a state for each block of a script, and the steps from one state to the next. Every task owns
--- its whole register file; a bank, a save area or an owner mark is nowhere in it. One relation stands for each kind
--- of event; an event of a kind that no line of this version makes is no step.
-use Rattle.std.specs.Prelude.{◌≡◌, ℕ, ◌+◌, ◌<◌, Bool, true, false, ◌==◌, nat_lt, List, [], ◌∷◌, ◌++◌, length, map, slice_get, slice_set, Option, Some, None, if◌then◌else◌}
-use Rattle.std.specs.List.{list_any, AllByRecursion}
-use Rattle.xs_base.specs.declared.component.Row.{Row}
-use Rattle.xs_base.specs.declared.component.Place.{Place}
-use Rattle.xs_base.specs.declared.words.How.{How}
-use Rattle.xs_base.specs.declared.words.How.TheVariants.{Load, Skip, Kern}
+-- The private machine: which event is a step, and what it does. Every task owns its whole register file; a bank, a save
+-- area or an owner mark is nowhere in it. A step is the event that is due, made while no other block's commit is open; its
+-- effect is what it does to the other blocks, and then to its own. This project's own.
+use Rattle.std.specs.Prelude.{◌≡◌, ℕ, ◌+◌, Bool, true, not, ◌&&◌, ◌==◌, nat_lt, List, [], ◌∷◌, length, map, Option, Some, None, if◌then◌else◌}
+use Rattle.std.specs.List.{AllByRecursion}
 use Rattle.xs_base.specs.declared.words.Signo.{Signo}
-use Rattle.xs_base.specs.File.{read_place, write_place}
-use Rattle.xs_base.specs.Register.{IsRegister}
-use Rattle.xs_base.specs.Task.{PrivateTask, IsFileOf, root_task, parked}
-use Rattle.xs_model.specs.declared.script.BlockKind.{BlockKind}
-use Rattle.xs_model.specs.declared.script.BlockKind.TheVariants.{Task, Child, Kthread}
+use Rattle.xs_base.specs.Task.{PrivateTask, IsPrivateTask, parked}
+use Rattle.xs_base.specs.Frame.{delivered}
+use Rattle.xs_base.specs.Tile.{grown}
 use Rattle.xs_model.specs.declared.script.Command.{Command}
-use Rattle.xs_model.specs.declared.script.Command.TheVariants.{Set, Get}
-use Rattle.xs_model.specs.declared.script.Order.{Order}
-use Rattle.xs_model.specs.declared.script.Block.{Block}
 use Rattle.xs_model.specs.declared.script.Script.{Script}
-use Rattle.xs_model.specs.declared.event.Reply.{Reply}
-use Rattle.xs_model.specs.declared.event.Reply.TheVariants.{Done, Bytes}
 use Rattle.xs_model.specs.declared.event.Event.{Event}
 use Rattle.xs_model.specs.declared.event.Event.TheVariants.{Start, Local, Outer, Grow, Kill, End}
 use Rattle.xs_model.specs.declared.stage.Stage.{Stage}
-use Rattle.xs_model.specs.declared.stage.Stage.TheVariants.{Unborn, Ready, Turn, Stopped, Waiting, Ended}
-use Rattle.xs_model.specs.Held.{held}
+use Rattle.xs_model.specs.declared.stage.Stage.TheVariants.{Ready, Turn, Ended}
+use Rattle.xs_model.specs.Script.{command_at, is_yield}
+use Rattle.xs_model.specs.Line.{local_after, killed}
+use Rattle.xs_model.specs.Note.{task_of}
+use Rattle.xs_model.specs.State.{BlockState, Machine, opening, turn_of, changed}
+use Rattle.xs_model.specs.Outer.{freed, outer_reach, outer_own}
+use Rattle.xs_model.specs.Due.{due, start_due}
 
--- The state of one block. A kernel thread uses the place of its private task alone.
-pub record BlockState : Type 0 where
-  pub stage : Stage
-  pub task : PrivateTask
-  pub parent : Option ℕ
-  pub pending : List ℕ
+-- ---- what an event does to its own block
 
--- The state of the machine: `committing` is the block whose turn has made a Local event and isn't over.
-pub record Machine : Type 0 where
-  pub script : Script
-  pub blocks : List BlockState
-  pub committing : Option ℕ
-  pub history : List Event
+abbrev pub later_signals : List Signo → List Signo
+later_signals [] = []
+later_signals (signo ∷ pending) = pending
 
-abbrev pub opening_stage : BlockKind → Stage
-opening_stage Task = Ready
-opening_stage Child = Unborn
-opening_stage Kthread = Ready
+-- a turn starts, and a signal is delivered
+abbrev pub started : ℕ → Option Signo → BlockState → BlockState
+started cpu None block = record block { stage = Turn cpu 0 }
+started cpu (Some signo) block = record block { stage = Turn cpu 0; task = delivered block.task; pending = later_signals block.pending }
 
-abbrev pub opening_block : List Row → Block → BlockState
-opening_block rows block = record { stage = opening_stage block.kind; task = root_task rows; parent = None; pending = [] }
+-- The turn goes on after a local line: the line is no yield, and fewer Local events than the quantum were made.
+abbrev pub goes_on : Script → Command → ℕ → Bool
+goes_on script command ran = not (is_yield command) && nat_lt (ran + 1) script.quantum
 
--- the machine before the first event
-abbrev pub opening : Script → Machine
-opening script = record { script = script; blocks = map (opening_block script.layout) script.blocks; committing = None; history = [] }
+-- a local line ran; a turn that ends gives the task its marks
+abbrev pub ran_in : Script → Command → Stage → BlockState → BlockState
+ran_in script command (Turn cpu ran) block =
+    if goes_on script command ran then record block { stage = Turn cpu (ran + 1); task = local_after block.task command }
+    else record block { stage = Ready; task = parked (local_after block.task command) }
+ran_in script command other block = block
 
--- the machine after an event, with a new state of one block
-abbrev pub happened : Machine → Event → ℕ → BlockState → Option ℕ → Machine
-happened m event t block committing = record { script = m.script; blocks = slice_set m.blocks t block; committing = committing; history = m.history ++ event ∷ [] }
+abbrev pub ran_line : Script → Option Command → BlockState → BlockState
+ran_line script None block = block
+ran_line script (Some command) block = ran_in script command block.stage block
 
--- While a turn has made a Local event and isn't over, no other block acts.
+-- the task has a Large area, and its line runs in its next turn
+abbrev pub grew : BlockState → BlockState
+grew block = record block { stage = Ready; task = parked (grown block.task) }
+
+-- the block has ended with this task, and its pending signals are dropped
+abbrev pub ended_with : PrivateTask → BlockState → BlockState
+ended_with task block = record block { stage = Ended; task = parked task; pending = [] }
+
+-- what an event does to its own block
+abbrev pub own : Script → Event → BlockState → BlockState
+own script (Start t cpu how signal) block = started cpu signal block
+own script (Local t line reply) block = ran_line script (command_at script t line) block
+own script (Outer t line reply) block = outer_own script (command_at script t line) reply block
+own script (Grow t) block = grew block
+own script (Kill t signo why) block = ended_with (killed why block.task) block
+own script (End t) block = ended_with block.task block
+
+-- ---- the machine after an event
+
+-- what an event does beside that: an outer command as it does, and an end frees the parent and the children
+abbrev pub reach : Script → Event → List BlockState → List BlockState
+reach script (Start t cpu how signal) blocks = blocks
+reach script (Local t line reply) blocks = blocks
+reach script (Outer t line reply) blocks = outer_reach script t (command_at script t line) reply blocks
+reach script (Grow t) blocks = blocks
+reach script (Kill t signo why) blocks = map (freed t) blocks
+reach script (End t) blocks = map (freed t) blocks
+
+abbrev pub blocks_after : Script → Event → List BlockState → List BlockState
+blocks_after script event blocks = changed (task_of event) (own script event) (reach script event blocks)
+
+abbrev pub open_commit : ℕ → Option ℕ → Option ℕ
+open_commit t None = None
+open_commit t (Some cpu) = Some t
+
+-- After a Local event the commit is open where the turn goes on. A Start opens none, and every other event ends its turn.
+abbrev pub committing_after : List BlockState → Event → Option ℕ
+committing_after blocks (Start t cpu how signal) = None
+committing_after blocks (Local t line reply) = open_commit t (turn_of blocks t)
+committing_after blocks (Outer t line reply) = None
+committing_after blocks (Grow t) = None
+committing_after blocks (Kill t signo why) = None
+committing_after blocks (End t) = None
+
+-- the machine after an event
+abbrev pub after : Machine → Event → Machine
+after m event = record {
+  script = m.script;
+  blocks = blocks_after m.script event m.blocks;
+  committing = committing_after (blocks_after m.script event m.blocks) event;
+  past = event ∷ m.past;
+}
+
+-- ---- steps
+
+-- While a commit is open, no other block acts.
 abbrev pub may_act : Option ℕ → ℕ → Bool
 may_act None t = true
 may_act (Some u) t = u == t
 
--- the stage is a turn on the processor
-abbrev pub is_on : ℕ → Stage → Bool
-is_on cpu Unborn = false
-is_on cpu Ready = false
-is_on cpu (Turn c ran) = c == cpu
-is_on cpu Stopped = false
-is_on cpu (Waiting child) = false
-is_on cpu Ended = false
+-- the event of this kind that may come from this block
+abbrev pub foreseen : Machine → Event → Option Event
+foreseen m (Start t cpu how signal) = start_due m t cpu
+foreseen m (Local t line reply) = due m t
+foreseen m (Outer t line reply) = due m t
+foreseen m (Grow t) = due m t
+foreseen m (Kill t signo why) = due m t
+foreseen m (End t) = due m t
 
-abbrev pub has_turn : Machine → ℕ → Bool
-has_turn m cpu = list_any (λ (block : BlockState). is_on cpu block.stage) m.blocks
+-- The event is a step.
+pub record IsStep (m : Machine) (event : Event) : Type 0 where
+  pub acts : may_act m.committing (task_of event) ≡ true
+  pub is_due : foreseen m event ≡ Some event
 
--- how the registers come at a Start: a kernel thread has none, and a restore is left out exactly where they are held
-abbrev pub how_of : BlockKind → Bool → How
-how_of Task true = Skip
-how_of Task false = Load
-how_of Child true = Skip
-how_of Child false = Load
-how_of Kthread is_held = Kern
+-- ---- the machine of a past
 
--- Start: the block is ready, and the processor is one of the script's and has no turn. The turn has made no Local
--- event. No line of this version sends a signal: none is pending, and none comes.
-pub record Starts (m : Machine) (t cpu : ℕ) (how : How) (signal : Option Signo) (n : Machine) : Type 0 where
-  pub block : BlockState
-  pub lines : Block
-  pub here : slice_get m.blocks t ≡ Some block
-  pub known : slice_get m.script.blocks t ≡ Some lines
-  pub acts : may_act m.committing t ≡ true
-  pub ready : block.stage ≡ Ready
-  pub processor : cpu < m.script.cpus
-  pub free : has_turn m cpu ≡ false
-  pub how_is : how ≡ how_of lines.kind (held m.history cpu t)
-  pub quiet : block.pending ≡ []
-  pub signal_is : signal ≡ None
-  pub next : n ≡ happened m (Start t cpu how signal) t (record block { stage = Turn cpu 0 }) None
+-- the machine after these events, the latest first
+abbrev pub machine : Script → List Event → Machine
+machine script [] = opening script
+machine script (event ∷ past) = after (machine script past) event
 
--- the task past one line
-abbrev pub past : PrivateTask → PrivateTask
-past task = record task { place = task.place + 1 }
+-- Each event is a step of the machine that those before it make.
+abbrev pub IsLegalPast : Script → List Event → Type 0
+IsLegalPast script [] = Unit {0}
+IsLegalPast script (event ∷ past) = IsLegalPast script past × IsStep (machine script past) event
 
--- What a line does to its private task, and its reply.
-abbrev pub Runs : PrivateTask → Command → Reply → PrivateTask → Type 0
-Runs task (Set reg bytes) reply after = (place : Place) × IsRegister task.file.rows reg place × (reply ≡ Done) × (after ≡ past (record task { file = write_place task.file place bytes }))
-Runs task (Get reg) reply after = (place : Place) × IsRegister task.file.rows reg place × (reply ≡ Bytes (read_place task.file place)) × (after ≡ past task)
-
--- One more Local event leaves the turn below its quantum.
-abbrev pub goes_on : ℕ → ℕ → Bool
-goes_on ran quantum = nat_lt (ran + 1) quantum
-
--- what the block does after one more Local event
-abbrev pub stage_after : ℕ → ℕ → ℕ → Stage
-stage_after cpu ran quantum = if goes_on ran quantum then Turn cpu (ran + 1) else Ready
-
-abbrev pub committing_after : ℕ → ℕ → ℕ → Option ℕ
-committing_after t ran quantum = if goes_on ran quantum then Some t else None
-
--- A turn that ends gives the task its marks.
-abbrev pub task_after : ℕ → ℕ → PrivateTask → PrivateTask
-task_after ran quantum task = if goes_on ran quantum then task else parked task
-
--- Local: the block is in a turn with fewer Local events than the quantum, the line is the one at its place, and the
--- reply is what the line answers.
-pub record RunsLine (m : Machine) (t line : ℕ) (reply : Reply) (n : Machine) : Type 0 where
-  pub block : BlockState
-  pub lines : Block
-  pub order : Order
-  pub cpu : ℕ
-  pub ran : ℕ
-  pub after : PrivateTask
-  pub here : slice_get m.blocks t ≡ Some block
-  pub known : slice_get m.script.blocks t ≡ Some lines
-  pub acts : may_act m.committing t ≡ true
-  pub in_turn : block.stage ≡ Turn cpu ran
-  pub within : ran < m.script.quantum
-  pub at : slice_get lines.body block.task.place ≡ Some order
-  pub line_is : line ≡ order.number
-  pub effect : Runs block.task order.command reply after
-  pub next : n ≡ happened m (Local t line reply) t (record block { stage = stage_after cpu ran m.script.quantum; task = task_after ran m.script.quantum after }) (committing_after t ran m.script.quantum)
-
--- End: the block is in a turn with fewer Local events than the quantum, its place is the end of its body, and no
--- handler runs. Its pending signals are dropped.
-pub record Ends (m : Machine) (t : ℕ) (n : Machine) : Type 0 where
-  pub block : BlockState
-  pub lines : Block
-  pub cpu : ℕ
-  pub ran : ℕ
-  pub here : slice_get m.blocks t ≡ Some block
-  pub known : slice_get m.script.blocks t ≡ Some lines
-  pub acts : may_act m.committing t ≡ true
-  pub in_turn : block.stage ≡ Turn cpu ran
-  pub within : ran < m.script.quantum
-  pub at_end : block.task.place ≡ length lines.body
-  pub outside : block.task.handling ≡ false
-  pub next : n ≡ happened m (End t) t (record block { stage = Ended; task = parked block.task; pending = [] }) None
-
--- From m the event leads to n. No line of this version is outer, traps or returns from a signal, so no Outer, Grow or
--- Kill is a step.
-abbrev pub Step : Machine → Event → Machine → Type 0
-Step m (Start t cpu how signal) n = Starts m t cpu how signal n
-Step m (Local t line reply) n = RunsLine m t line reply n
-Step m (Outer t line reply) n = ⊥
-Step m (Grow t) n = ⊥
-Step m (Kill t signo why) n = ⊥
-Step m (End t) n = Ends m t n
-
--- A state of the script's machine: as many blocks as the script has, each with a file that a task may have.
+-- The blocks are as many as the script's, each with a private task that its machine may have.
 pub record IsMachineOf (script : Script) (m : Machine) : Type 0 where
   pub script_is : m.script ≡ script
   pub count : length m.blocks ≡ length script.blocks
-  pub files : AllByRecursion (λ (block : BlockState). IsFileOf script.layout block.task.file) m.blocks
+  pub tasks : AllByRecursion (λ (block : BlockState). IsPrivateTask script.layout block.task) m.blocks

@@ -1,16 +1,18 @@
 -- Scripts: which values are scripts. Every limit and every rule of names here is this project's own.
-use Rattle.std.specs.Prelude.{◌≡◌, ℕ, ◌+◌, ◌<◌, ◌≤◌, Bool, true, false, not, ◌&&◌, ◌||◌, ◌==◌, nat_le, List, [], ◌∷◌, length, map, drop}
-use Rattle.std.specs.List.{list_all, list_any, flat_map, AllByRecursion}
+use Rattle.std.specs.Prelude.{◌≡◌, ℕ, ◌+◌, ◌<◌, ◌≤◌, Bool, true, false, not, ◌&&◌, ◌||◌, ◌==◌, nat_le, List, [], ◌∷◌, ◌++◌, length, map, drop, bytes_eq, slice_get, Option, Some, None}
+use Rattle.std.specs.List.{list_all, list_any, flat_map, find, position_or_len, AllByRecursion}
 use Rattle.xs_base.specs.declared.component.Row.{Row}
 use Rattle.xs_base.specs.declared.component.Place.{Place}
 use Rattle.xs_base.specs.File.{is_mxcsr}
 use Rattle.xs_base.specs.Layout.{IsLayout, amx_rows, avx_rows}
 use Rattle.xs_base.specs.Register.{IsNamed, IsRegister}
+use Rattle.xs_base.specs.Task.{frame_length, buffer_length}
 use Rattle.xs_model.specs.declared.script.Named.{Named}
 use Rattle.xs_model.specs.declared.script.Named.TheVariants.{Amx, Avx, Rows}
-use Rattle.xs_model.specs.declared.script.BlockKind.TheVariants.{Task}
+use Rattle.xs_model.specs.declared.script.BlockKind.{BlockKind}
+use Rattle.xs_model.specs.declared.script.BlockKind.TheVariants.{Task, Child, Kthread}
 use Rattle.xs_model.specs.declared.script.Command.{Command}
-use Rattle.xs_model.specs.declared.script.Command.TheVariants.{Set, Get}
+use Rattle.xs_model.specs.declared.script.Command.TheVariants.{Set, Get, Ksec, Yield, Peek, Poke, Bpeek, Bpoke, Sigreturn, Fork, Kill, Stop, Wait, Getregs, Setregs, Cont}
 use Rattle.xs_model.specs.declared.script.Order.{Order}
 use Rattle.xs_model.specs.declared.script.Block.{Block}
 use Rattle.xs_model.specs.declared.script.Script.{Script}
@@ -33,20 +35,84 @@ abbrev pub is_name : List ℕ → Bool
 is_name [] = false
 is_name (first ∷ more) = is_letter first && list_all is_letter_or_digit more && nat_le (length more) 15
 
--- the register that a command names
-abbrev pub register_of : Command → List ℕ
-register_of (Set reg bytes) = reg
-register_of (Get reg) = reg
-
 -- The register can be set to these bytes: they are as many as it has, and of MXCSR bits 16 to 31 are zero, which are
 -- reserved (SDM volume 1, 10.2.3).
 abbrev pub fits_register : Place → List ℕ → Bool
 fits_register place bytes = (length bytes == place.len) && (not (is_mxcsr place) || list_all (λ byte. byte == 0) (drop 2 bytes))
 
--- A command names a register of the machine, and sets it to bytes that fit it.
+-- 1 to 64 bytes from a place on lie within so many
+abbrev pub fits_memory : ℕ → ℕ → ℕ → Bool
+fits_memory size at len = nat_le 1 len && nat_le len 64 && nat_le (at + len) size
+
+-- A signal that a handler can have: SIGKILL and SIGSTOP have none.
+abbrev pub is_caught : ℕ → Bool
+is_caught number = not (number == 9) && not (number == 19)
+
+-- A command names a register of the machine, and sets it to bytes that fit it; what it reads or writes of a memory lies
+-- within it.
 abbrev pub IsCommand : List Row → Command → Type 0
 IsCommand rows (Set reg bytes) = (place : Place) × IsRegister rows reg place × (fits_register place bytes ≡ true) × AllByRecursion (λ byte. byte < 256) bytes
 IsCommand rows (Get reg) = (place : Place) × IsRegister rows reg place
+IsCommand rows (Ksec byte) = byte < 256
+IsCommand rows (Peek at len) = fits_memory frame_length at len ≡ true
+IsCommand rows (Poke at bytes) = (fits_memory frame_length at (length bytes) ≡ true) × AllByRecursion (λ byte. byte < 256) bytes
+IsCommand rows (Bpeek at len) = fits_memory buffer_length at len ≡ true
+IsCommand rows (Bpoke at bytes) = (fits_memory buffer_length at (length bytes) ≡ true) × AllByRecursion (λ byte. byte < 256) bytes
+IsCommand rows (Kill name signo) = is_caught signo.number ≡ true
+IsCommand rows (Setregs name set count) = count ≤ buffer_length
+IsCommand rows other = Unit {0}
+
+-- An outer command reaches another block, and ends the turn. Every other one is local: it touches its own task alone.
+abbrev pub is_outer : Command → Bool
+is_outer (Fork name) = true
+is_outer (Kill name signo) = true
+is_outer Stop = true
+is_outer (Wait name) = true
+is_outer (Getregs name set) = true
+is_outer (Setregs name set count) = true
+is_outer (Cont name) = true
+is_outer other = false
+
+abbrev pub is_yield : Command → Bool
+is_yield Yield = true
+is_yield other = false
+
+abbrev pub is_return : Command → Bool
+is_return Sigreturn = true
+is_return other = false
+
+-- ---- the lines of a block
+
+-- a line that a kernel thread may have
+abbrev pub is_kernel_command : Command → Bool
+is_kernel_command (Ksec byte) = true
+is_kernel_command Yield = true
+is_kernel_command other = false
+
+-- A kernel thread has kernel sections and yields alone, and no handler.
+abbrev pub fits_kind : BlockKind → List Order → List Order → Bool
+fits_kind Task body handler = true
+fits_kind Child body handler = true
+fits_kind Kthread body handler = list_all (λ (order : Order). is_kernel_command order.command) body && (length handler == 0)
+
+-- The lines of a handler from one on: the last one is the return, and the others are local.
+abbrev pub is_handler_from : Order → List Order → Bool
+is_handler_from order [] = is_return order.command
+is_handler_from order (next ∷ orders) = not (is_outer order.command) && not (is_return order.command) && is_handler_from next orders
+
+-- no handler, or one that ends with its return
+abbrev pub is_handler : List Order → Bool
+is_handler [] = true
+is_handler (order ∷ orders) = is_handler_from order orders
+
+-- The lines of a block fit: those of its body and of its handler are commands of the machine, no return stands in the
+-- body, and a handler ends with one.
+pub record IsBody (rows : List Row) (block : Block) : Type 0 where
+  pub body : AllByRecursion (λ (order : Order). IsCommand rows order.command) block.body
+  pub handler : AllByRecursion (λ (order : Order). IsCommand rows order.command) block.handler
+  pub inside : list_all (λ (order : Order). not (is_return order.command)) block.body ≡ true
+  pub returns : is_handler block.handler ≡ true
+  pub kind : fits_kind block.kind block.body block.handler ≡ true
 
 -- each name is another
 abbrev pub AreDistinct : List (List ℕ) → Type 0
@@ -68,24 +134,63 @@ abbrev pub AreRising : ℕ → List ℕ → Type 0
 AreRising last [] = Unit {0}
 AreRising last (number ∷ numbers) = (last < number) × AreRising number numbers
 
+-- the lines of a block, its handler's after its body's
+abbrev pub lines_of : Block → List Order
+lines_of block = block.body ++ block.handler
+
 -- the numbers of the orders, in the order of the blocks
 abbrev pub order_numbers : List Block → List ℕ
-order_numbers blocks = flat_map (λ (block : Block). map (λ (order : Order). order.number) block.body) blocks
+order_numbers blocks = flat_map (λ (block : Block). map (λ (order : Order). order.number) (lines_of block)) blocks
 
--- A script whose parts are within their limits. A form that this version doesn't have has no part here yet: schedules,
--- children, kernel threads and handlers.
+-- A script whose parts are within their limits. The rules of the names that commands have for blocks have no part here
+-- yet: no line of this version has such a name.
 pub record IsValid (script : Script) : Type 0 where
   pub layout : IsLayout script.layout
   pub machine : IsTableOf script.machine script.layout
   pub cpus : (0 < script.cpus) × (script.cpus ≤ 16)
   pub quantum : (0 < script.quantum) × (script.quantum ≤ 32)
   pub large : script.large ≤ 64
+  pub entries : AllByRecursion (λ cpu. cpu < script.cpus) script.sched
+  pub schedule : length script.sched ≤ 4096
   pub some : 0 < length script.blocks
   pub few : length script.blocks ≤ 64
   pub names : AllByRecursion (λ (block : Block). is_name block.name ≡ true) script.blocks
   pub distinct : AreDistinct (map (λ (block : Block). block.name) script.blocks)
   pub rising : AreRising 0 (order_numbers script.blocks)
-  pub commands : AllByRecursion (λ (block : Block). AllByRecursion (λ (order : Order). IsCommand script.layout order.command) block.body) script.blocks
+  pub bodies : AllByRecursion (λ (block : Block). IsBody script.layout block) script.blocks
+
+-- ---- what is found in a script
+
+-- the number of the block of a name, and the number of blocks where none has it
+abbrev pub block_named : Script → List ℕ → ℕ
+block_named script name = position_or_len (λ (block : Block). bytes_eq block.name name) script.blocks
+
+abbrev pub command_of : Option Order → Option Command
+command_of None = None
+command_of (Some order) = Some order.command
+
+abbrev pub command_in : Option Block → ℕ → Option Command
+command_in None line = None
+command_in (Some block) line = command_of (find (λ (order : Order). order.number == line) (lines_of block))
+
+-- the command on a line of a block, found by the line's number
+abbrev pub command_at : Script → ℕ → ℕ → Option Command
+command_at script t line = command_in (slice_get script.blocks t) line
+
+abbrev pub is_user_kind : BlockKind → Bool
+is_user_kind Task = true
+is_user_kind Child = true
+is_user_kind Kthread = false
+
+abbrev pub is_user_block : Option Block → Bool
+is_user_block None = false
+is_user_block (Some block) = is_user_kind block.kind
+
+-- the block is a user task
+abbrev pub is_user : Script → ℕ → Bool
+is_user script t = is_user_block (slice_get script.blocks t)
+
+-- ---- what this version runs
 
 -- the components whose registers the program has: x87, SSE, AVX, opmask, ZMM_Hi256, Hi16_ZMM
 abbrev pub built_components : List ℕ
@@ -95,14 +200,25 @@ built_components = 0 ∷ 1 ∷ 2 ∷ 5 ∷ 6 ∷ 7 ∷ []
 abbrev pub is_built : Place → Bool
 is_built place = list_any (λ c. c == place.comp.0) built_components
 
--- The command's register is one that the program has.
-abbrev pub IsBuiltCommand : Command → Type 0
-IsBuiltCommand command = (place : Place) × IsNamed (register_of command) place × (is_built place ≡ true)
+-- the name is that of a register that the program has
+abbrev pub IsBuiltName : List ℕ → Type 0
+IsBuiltName reg = (place : Place) × IsNamed reg place × (is_built place ≡ true)
 
--- A script of the forms of this version: one processor, no schedule, tasks without handlers, and registers that the
--- program has.
+-- a command that the program has
+abbrev pub IsBuiltCommand : Command → Type 0
+IsBuiltCommand (Set reg bytes) = IsBuiltName reg
+IsBuiltCommand (Get reg) = IsBuiltName reg
+IsBuiltCommand (Ksec byte) = Unit {0}
+IsBuiltCommand Yield = Unit {0}
+IsBuiltCommand other = ⊥
+
+-- a kind of block that the program has
+abbrev pub is_built_kind : BlockKind → Bool
+is_built_kind Task = true
+is_built_kind Child = false
+is_built_kind Kthread = true
+
+-- A script of the forms of this version: tasks and kernel threads without handlers, and commands that the program has.
 pub record IsBuilt (script : Script) : Type 0 where
-  pub one : script.cpus ≡ 1
-  pub unscheduled : script.sched ≡ []
-  pub tasks : AllByRecursion (λ (block : Block). (block.kind ≡ Task) × (block.handler ≡ [])) script.blocks
-  pub registers : AllByRecursion (λ (block : Block). AllByRecursion (λ (order : Order). IsBuiltCommand order.command) block.body) script.blocks
+  pub kinds : AllByRecursion (λ (block : Block). (is_built_kind block.kind ≡ true) × (block.handler ≡ [])) script.blocks
+  pub commands : AllByRecursion (λ (block : Block). AllByRecursion (λ (order : Order). IsBuiltCommand order.command) block.body) script.blocks

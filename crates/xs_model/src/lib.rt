@@ -4,10 +4,10 @@
 //! histories, and the decisions of a step that an engine shares with the machine.
 #![tactic(auto)]
 
+mod copying;
 mod event;
 mod items;
-mod look_back;
-mod machine;
+mod laws;
 mod name;
 mod script;
 mod stage;
@@ -16,8 +16,11 @@ mod tests;
 
 pub use event::{Event, History, Reply, Why};
 pub use items::Items;
-pub use look_back::held;
-pub use machine::files_stay_valid;
+pub use laws::{
+    blocks_known, built_is_plain, few_events, free_processors_known, lines_found, machine_known,
+    never_idle, never_stuck, one_replay, ready_once, risers_known, steps_known, task_stays,
+    turns_known, two_numbers, unseen_stays,
+};
 pub use name::Name;
 pub use script::{Block, BlockKind, Command, Named, Order, Script};
 pub use stage::Stage;

@@ -4,7 +4,7 @@ ghost use Rattle.std.specs.Prelude.{◌<◌, ◌^◌};
 
 use crate::items::Items;
 use crate::name::Name;
-use xs_base::Lane;
+use xs_base::{Lane, Set, Signo};
 use xs_layout::Layout;
 
 /// A machine that a script names.
@@ -29,13 +29,46 @@ pub enum BlockKind {
     Kthread,
 }
 
-/// A command. Both are local: they touch only their own task.
+/// A command. A local one touches only its own task; an outer one, from `Fork` on, reaches another block and ends the
+/// turn.
 #[derive(Drop)]
 pub enum Command {
     /// The register becomes these bytes.
     Set { reg: Name, bytes: Lane },
     /// The register's bytes are the reply.
     Get { reg: Name },
+    /// The tiles and their configuration become initial.
+    Tilerelease,
+    /// The kernel uses the vector registers, and writes this byte to all of XMM0.
+    Ksec { byte: u8 },
+    /// The task asks for the permission to use a component.
+    Perm { feature: u32 },
+    /// The turn ends.
+    Yield,
+    /// Bytes of the frame memory are the reply.
+    Peek { at: u32, len: u32 },
+    /// Bytes are written into the frame memory.
+    Poke { at: u32, bytes: Lane },
+    /// Bytes of the buffer are the reply.
+    Bpeek { at: u32, len: u32 },
+    /// Bytes are written into the buffer.
+    Bpoke { at: u32, bytes: Lane },
+    /// The task returns from its signal handler.
+    Sigreturn,
+    /// The child block is born.
+    Fork { name: Name },
+    /// The signal is sent to the block.
+    Kill { name: Name, signo: Signo },
+    /// The task stops for its tracer.
+    Stop,
+    /// The task waits until its child is stopped or has ended.
+    Wait { name: Name },
+    /// A register set of the child is read into the buffer.
+    Getregs { name: Name, set: Set },
+    /// A register set of the child is written from the first bytes of the buffer.
+    Setregs { name: Name, set: Set, count: u32 },
+    /// The stopped child goes on.
+    Cont { name: Name },
 }
 
 /// A line of a block: its number in the script, counted from 1, and its command.

@@ -1,0 +1,123 @@
+-- What an engine takes from the machine: which events are steps, and what they make of the blocks.
+use Rattle.std.proofs.Common.{◌≡◌, ℕ, zero, suc, ◌<◌, true, false, List, [], ◌∷◌, map, refl, ap, ◌∙◌}
+use Rattle.std.proofs.lemmas.Bool.{lt-ltb, ne_eqb}
+use Rattle.std.specs.Prelude.{Option, Some, None, slice_get, nat_lt}
+use Rattle.std.specs.Option.{option_map}
+use Rattle.xs_model.specs.declared.script.Block.{Block}
+use Rattle.xs_model.specs.declared.script.Script.{Script}
+use Rattle.xs_model.specs.declared.event.Event.{Event}
+use Rattle.xs_model.specs.declared.event.Event.TheVariants.{Start, Local, End}
+use Rattle.xs_model.specs.Script.{command_at, is_user}
+use Rattle.xs_model.specs.Held.{held}
+use Rattle.xs_model.specs.State.{BlockState, turn_cpu, is_on_cpu}
+use Rattle.xs_model.specs.Outer.{freed}
+use Rattle.xs_model.specs.Due.{how_of, signal_of, start_due}
+use Rattle.xs_model.specs.Machine.{started, ran_line, own, machine}
+use Rattle.xs_model.specs.Laws.{MachineKnown, StartIsStep, LocalIsStep, EndIsStep, FreeTells, FreeFound, StartedBlock, RanBlock, EndedBlock, StartOthers, LocalOthers, EndOthers}
+use Rattle.xs_model.proofs.LegalTurns.{machine_script, machine_past, none_else}
+use Rattle.xs_model.proofs.MachineShape.{many_blocks}
+use Rattle.xs_model.proofs.EventTurns.{changed_same, changed_other}
+use Rattle.xs_model.proofs.RiserLaws.{plain_freed}
+
+-- the script, the past and the number of blocks
+pub machine_known : MachineKnown
+machine_known script past = (machine_script script past, machine_past script past, many_blocks script past)
+
+-- ---- steps
+
+-- the quantum of the machine's script
+within_quantum : (script : Script) (past : List Event) (ran : ℕ) → ran < script.quantum → nat_lt ran (machine script past).script.quantum ≡ true
+within_quantum script past ran within = ap (λ (s : Script). nat_lt ran s.quantum) (machine_script script past) ∙ lt-ltb ran script.quantum within
+
+-- the lines of the machine's script
+lines_there : (script : Script) (past : List Event) (t : ℕ) (lines : Block) → slice_get script.blocks t ≡ Some lines → slice_get (machine script past).script.blocks t ≡ Some lines
+lines_there script past t lines known = ap (λ (s : Script). slice_get s.blocks t) (machine_script script past) ∙ known
+
+-- how the registers come by the machine's script and past
+how_there : (script : Script) (past : List Event) (t cpu : ℕ) → how_of (is_user (machine script past).script t) (held (machine script past).script (machine script past).past cpu t) ≡ how_of (is_user script t) (held script past cpu t)
+how_there script past t cpu =
+    ap (λ (s : Script). how_of (is_user s t) (held s (machine script past).past cpu t)) (machine_script script past)
+    ∙ ap (λ (p : List Event). how_of (is_user script t) (held script p cpu t)) (machine_past script past)
+
+-- a Start is a step
+pub start_is_step : StartIsStep
+start_is_step script past t cpu block acts here ready within free =
+    let m = machine script past in
+    let processor : nat_lt cpu m.script.cpus ≡ true = ap (λ (s : Script). nat_lt cpu s.cpus) (machine_script script past) ∙ lt-ltb cpu script.cpus within in
+    let is : start_due m t cpu ≡ Some (Start t cpu (how_of (is_user m.script t) (held m.script m.past cpu t)) (signal_of block)) = rw (here, ready, processor, free) refl in
+    record { acts = acts; is_due = is ∙ ap (λ how. Some (Start t cpu how (signal_of block))) (how_there script past t cpu) }
+
+-- a local line is a step
+pub local_is_step : LocalIsStep
+local_is_step script past t cpu ran block lines order acts turn within at inner quiet whole =
+    let here = turn.state in
+    let known = lines_there script past t lines turn.lines_are in
+    let stage = turn.stage in
+    let more = within_quantum script past ran within in
+    record { acts = acts; is_due = rw (here, known, stage, at, inner, quiet, whole, more) refl }
+
+-- an end is a step
+pub end_is_step : EndIsStep
+end_is_step script past t cpu ran block lines acts turn within at outside =
+    let here = turn.state in
+    let known = lines_there script past t lines turn.lines_are in
+    let stage = turn.stage in
+    let more = within_quantum script past ran within in
+    record { acts = acts; is_due = rw (here, known, stage, at, more, outside) refl }
+
+-- ---- free processors
+
+-- a free processor has no block's turn
+pub free_tells : FreeTells
+free_tells blocks cpu t free at = none_else blocks cpu t free at
+
+-- a turn that isn't there is on no processor
+off_cpu : (cpu : ℕ) (turn : Option ℕ) → (turn ≡ Some cpu → ⊥) → is_on_cpu cpu turn ≡ false
+off_cpu cpu None off = refl
+off_cpu cpu (Some c) off = ne_eqb c cpu (λ (same : c ≡ cpu). off (ap Some same))
+
+-- a processor of no block's turn is free
+pub free_found : FreeFound
+free_found [] cpu off = refl
+free_found (block ∷ blocks) cpu off =
+    let here = off_cpu cpu (turn_cpu block.stage) (off 0) in
+    rw here (free_found blocks cpu (λ t. off (suc t)))
+
+-- ---- the blocks after an event
+
+-- a Start's own block
+pub started_block : StartedBlock
+started_block script past t cpu how signal block here = changed_same t (started cpu signal) (machine script past).blocks ∙ ap (option_map (started cpu signal)) here
+
+-- a local line's own block
+pub ran_block : RanBlock
+ran_block script past t line reply block here =
+    let m = machine script past in
+    changed_same t (own m.script (Local t line reply)) m.blocks ∙ ap (option_map (own m.script (Local t line reply))) here
+    ∙ ap (λ (s : Script). Some (ran_line s (command_at s t line) block)) (machine_script script past)
+
+-- the place of a block in a changed list
+map_at : (f : BlockState → BlockState) (blocks : List BlockState) (t : ℕ) (block : BlockState) → slice_get blocks t ≡ Some block → slice_get (map f blocks) t ≡ Some (f block)
+map_at f [] t block at = absurd (cc)
+map_at f (b ∷ blocks) zero block at = ap (option_map f) at
+map_at f (b ∷ blocks) (suc t) block at = map_at f blocks t block at
+
+-- an end's own block
+pub ended_block : EndedBlock
+ended_block script past t block here =
+    let m = machine script past in
+    changed_same t (own m.script (End t)) (map (freed t) m.blocks) ∙ ap (option_map (own m.script (End t))) (map_at (freed t) m.blocks t block here)
+
+-- a Start leaves the others
+pub start_others : StartOthers
+start_others script past t cpu v how signal other = changed_other t v (started cpu signal) (machine script past).blocks other
+
+-- a local line leaves the others
+pub local_others : LocalOthers
+local_others script past t line v reply other = let m = machine script past in changed_other t v (own m.script (Local t line reply)) m.blocks other
+
+-- an end leaves the others where nobody waits or is stopped
+pub end_others : EndOthers
+end_others script past t v plain other =
+    let m = machine script past in
+    changed_other t v (own m.script (End t)) (map (freed t) m.blocks) other ∙ ap (λ (blocks : List BlockState). slice_get blocks v) (plain_freed t m.blocks plain)

@@ -1,0 +1,160 @@
+-- Whom an event makes ready, where it changes its own block alone.
+use Rattle.std.proofs.Common.{◌≡◌, ℕ, zero, suc, ◌+◌, Bool, true, false, ◌&&◌, List, [], ◌∷◌, ◌++◌, map, refl, ap, ◌∙◌, subst, arith, eq-eqb}
+use Rattle.std.proofs.lemmas.List.{append-nil}
+use Rattle.std.specs.Prelude.{Option, Some, slice_get}
+use Rattle.std.specs.List.{AllByRecursion}
+use Rattle.xs_model.specs.declared.script.Command.{Command}
+use Rattle.xs_model.specs.declared.script.Script.{Script}
+use Rattle.xs_model.specs.declared.event.Event.TheVariants.{Local}
+use Rattle.xs_model.specs.declared.stage.Stage.{Stage}
+use Rattle.xs_model.specs.declared.stage.Stage.TheVariants.{Unborn, Ready, Turn, Stopped, Waiting, Ended}
+use Rattle.xs_model.specs.Script.{command_at}
+use Rattle.xs_model.specs.State.{BlockState, is_plain, is_ready, is_parent, changed}
+use Rattle.xs_model.specs.Outer.{wake, let_go, freed}
+use Rattle.xs_model.specs.Machine.{goes_on, ran_line, own, ended_with, machine}
+use Rattle.xs_model.specs.Ready.{was_waiting, was_idle, was_in_turn, risen, risers, ready_list}
+use Rattle.xs_model.specs.Laws.{StartTakes, LocalKeeps, LocalRises, EndKeeps}
+use Rattle.xs_model.proofs.LegalTurns.{machine_script}
+
+-- who is ready is none of these
+abbrev Apart : (Stage → Bool) → Type 0
+Apart was = (stage : Stage) → (was stage && is_ready stage) ≡ false
+
+-- who waits
+waiting_apart : Apart was_waiting
+waiting_apart Unborn = refl
+waiting_apart Ready = refl
+waiting_apart (Turn cpu ran) = refl
+waiting_apart Stopped = refl
+waiting_apart (Waiting child) = refl
+waiting_apart Ended = refl
+
+-- who is stopped or unborn
+idle_apart : Apart was_idle
+idle_apart Unborn = refl
+idle_apart Ready = refl
+idle_apart (Turn cpu ran) = refl
+idle_apart Stopped = refl
+idle_apart (Waiting child) = refl
+idle_apart Ended = refl
+
+-- who is in a turn
+turn_apart : Apart was_in_turn
+turn_apart Unborn = refl
+turn_apart Ready = refl
+turn_apart (Turn cpu ran) = refl
+turn_apart Stopped = refl
+turn_apart (Waiting child) = refl
+turn_apart Ended = refl
+
+-- where nothing changes nobody rises
+risen_same : (was : Stage → Bool) → Apart was → (i : ℕ) (blocks : List BlockState) → risen was i blocks blocks ≡ []
+risen_same was apart i [] = refl
+risen_same was apart i (block ∷ blocks) = rw (apart block.stage) (risen_same was apart (i + 1) blocks)
+
+-- one block changes, and doesn't rise
+risen_off : (was : Stage → Bool) → Apart was → (i t : ℕ) (f : BlockState → BlockState) (blocks : List BlockState) (block : BlockState) → slice_get blocks t ≡ Some block → (was block.stage && is_ready (f block).stage) ≡ false → risen was i blocks (changed t f blocks) ≡ []
+risen_off was apart i t f [] block at off = refl
+risen_off was apart i zero f (first ∷ blocks) block at off =
+    let same : block ≡ first = cc in
+    let here : (was first.stage && is_ready (f first).stage) ≡ false = subst (λ (b : BlockState). (was b.stage && is_ready (f b).stage) ≡ false) same off in
+    rw here (risen_same was apart (i + 1) blocks)
+risen_off was apart i (suc t) f (first ∷ blocks) block at off = rw (apart first.stage) (risen_off was apart (i + 1) t f blocks block at off)
+
+-- one block changes, and rises
+risen_on : (was : Stage → Bool) → Apart was → (i t n : ℕ) (f : BlockState → BlockState) (blocks : List BlockState) (block : BlockState) → slice_get blocks t ≡ Some block → (was block.stage && is_ready (f block).stage) ≡ true → n ≡ i + t → risen was i blocks (changed t f blocks) ≡ n ∷ []
+risen_on was apart i t n f [] block at on sum = absurd (cc)
+risen_on was apart i zero n f (first ∷ blocks) block at on sum =
+    let same : block ≡ first = cc in
+    let here : (was first.stage && is_ready (f first).stage) ≡ true = subst (λ (b : BlockState). (was b.stage && is_ready (f b).stage) ≡ true) same on in
+    let number : i ≡ n = omega arith in
+    rw (here, number) (ap (λ (list : List ℕ). n ∷ list) (risen_same was apart (n + 1) blocks))
+risen_on was apart i (suc t) n f (first ∷ blocks) block at on sum = rw (apart first.stage) (risen_on was apart (i + 1) t n f blocks block at on (omega arith))
+
+-- the turn goes on: nobody becomes ready
+pub risers_none : (t : ℕ) (f : BlockState → BlockState) (blocks : List BlockState) (block : BlockState) (cpu ran c r : ℕ) → slice_get blocks t ≡ Some block → block.stage ≡ Turn cpu ran → (f block).stage ≡ Turn c r → risers blocks (changed t f blocks) ≡ []
+risers_none t f blocks block cpu ran c r at before now =
+    rw (risen_off was_waiting waiting_apart 0 t f blocks block at (rw before refl), risen_off was_idle idle_apart 0 t f blocks block at (rw before refl), risen_off was_in_turn turn_apart 0 t f blocks block at (rw (now, before) refl)) refl
+
+-- the turn is over, and the block is ready again
+pub risers_self : (t : ℕ) (f : BlockState → BlockState) (blocks : List BlockState) (block : BlockState) (cpu ran : ℕ) → slice_get blocks t ≡ Some block → block.stage ≡ Turn cpu ran → (f block).stage ≡ Ready → risers blocks (changed t f blocks) ≡ t ∷ []
+risers_self t f blocks block cpu ran at before now =
+    rw (risen_off was_waiting waiting_apart 0 t f blocks block at (rw before refl), risen_off was_idle idle_apart 0 t f blocks block at (rw before refl), risen_on was_in_turn turn_apart 0 t t f blocks block at (rw (now, before) refl) (omega arith)) refl
+
+-- ---- the ready list after an event
+
+-- a Start takes the first
+pub start_takes : StartTakes
+start_takes script past t cpu how signal list is = rw is (rw (eq-eqb t t refl) refl)
+
+-- a local line of a block in a turn, which goes on
+line_stays : (script : Script) (command : Command) (block : BlockState) (cpu ran : ℕ) → block.stage ≡ Turn cpu ran → goes_on script command ran ≡ true → (ran_line script (Some command) block).stage ≡ Turn cpu (ran + 1)
+line_stays script command block cpu ran stage goes = rw (stage, goes) refl
+
+-- one that ends the turn
+line_ends : (script : Script) (command : Command) (block : BlockState) (cpu ran : ℕ) → block.stage ≡ Turn cpu ran → goes_on script command ran ≡ false → (ran_line script (Some command) block).stage ≡ Ready
+line_ends script command block cpu ran stage goes = rw (stage, goes) refl
+
+-- nobody is made ready while the turn goes on
+pub local_keeps : LocalKeeps
+local_keeps script past t line cpu ran reply block lines command turn at goes =
+    let m = machine script past in
+    let same = machine_script script past in
+    let found : command_at m.script t line ≡ Some command = ap (λ (s : Script). command_at s t line) same ∙ at in
+    let more : goes_on m.script command ran ≡ true = ap (λ (s : Script). goes_on s command ran) same ∙ goes in
+    let stays : (ran_line m.script (command_at m.script t line) block).stage ≡ Turn cpu (ran + 1) =
+    ap (λ (c : Option Command). (ran_line m.script c block).stage) found ∙ line_stays m.script command block cpu ran turn.stage more in
+    ap (λ (list : List ℕ). ready_list script past ++ list) (risers_none t (own m.script (Local t line reply)) m.blocks block cpu ran cpu (ran + 1) turn.state turn.stage stays)
+    ∙ append-nil (ready_list script past)
+
+-- the block itself is made ready where its turn ends
+pub local_rises : LocalRises
+local_rises script past t line cpu ran reply block lines command turn at goes =
+    let m = machine script past in
+    let same = machine_script script past in
+    let found : command_at m.script t line ≡ Some command = ap (λ (s : Script). command_at s t line) same ∙ at in
+    let more : goes_on m.script command ran ≡ false = ap (λ (s : Script). goes_on s command ran) same ∙ goes in
+    let ends : (ran_line m.script (command_at m.script t line) block).stage ≡ Ready =
+    ap (λ (c : Option Command). (ran_line m.script c block).stage) found ∙ line_ends m.script command block cpu ran turn.stage more in
+    ap (λ (list : List ℕ). ready_list script past ++ list) (risers_self t (own m.script (Local t line reply)) m.blocks block cpu ran turn.state turn.stage ends)
+
+-- ---- an end where nobody waits or is stopped
+
+-- a plain stage stays
+pub plain_stays : (may : Bool) (t : ℕ) (s : Stage) → is_plain s ≡ true → let_go may (wake t s) ≡ s
+plain_stays may t Unborn plain = absurd (cc)
+plain_stays may t Ready plain = refl
+plain_stays may t (Turn cpu ran) plain = refl
+plain_stays may t Stopped plain = absurd (cc)
+plain_stays may t (Waiting child) plain = absurd (cc)
+plain_stays may t Ended plain = refl
+
+-- plain blocks stay
+pub plain_freed : (t : ℕ) (blocks : List BlockState) → AllByRecursion (λ (block : BlockState). is_plain block.stage ≡ true) blocks → map (freed t) blocks ≡ blocks
+plain_freed t [] plain = refl
+plain_freed t (b ∷ blocks) plain =
+    let here : freed t b ≡ b = ap (λ (s : Stage). record b { stage = s }) (plain_stays (is_parent b.parent t) t b.stage plain.0) in
+    let rest = plain_freed t blocks plain.1 in
+    ap (λ (x : BlockState). x ∷ map (freed t) blocks) here ∙ ap (λ (xs : List BlockState). b ∷ xs) rest
+
+-- nobody rises by an end
+risen_ended : (was : Stage → Bool) → Apart was → (i t : ℕ) (blocks : List BlockState) → risen was i blocks (changed t (λ (block : BlockState). ended_with block.task block) blocks) ≡ []
+risen_ended was apart i t [] = refl
+risen_ended was apart i zero (b ∷ blocks) = rw (never (was b.stage)) (risen_same was apart (i + 1) blocks)
+  where
+    never : (x : Bool) → (x && false) ≡ false
+    never true = refl
+    never false = refl
+risen_ended was apart i (suc t) (b ∷ blocks) = rw (apart b.stage) (risen_ended was apart (i + 1) t blocks)
+
+-- an end makes nobody ready
+pub end_keeps : EndKeeps
+end_keeps script past t plain =
+    let m = machine script past in
+    let one = risen_ended was_waiting waiting_apart 0 t m.blocks in
+    let two = risen_ended was_idle idle_apart 0 t m.blocks in
+    let three = risen_ended was_in_turn turn_apart 0 t m.blocks in
+    let none_is : risers m.blocks (changed t (λ (block : BlockState). ended_with block.task block) m.blocks) ≡ [] = rw (one, two, three) refl in
+    let freed_is : risers m.blocks (changed t (λ (block : BlockState). ended_with block.task block) (map (freed t) m.blocks)) ≡ [] =
+    ap (λ (xs : List BlockState). risers m.blocks (changed t (λ (block : BlockState). ended_with block.task block) xs)) (plain_freed t m.blocks plain) ∙ none_is in
+    ap (λ (list : List ℕ). ready_list script past ++ list) freed_is ∙ append-nil (ready_list script past)

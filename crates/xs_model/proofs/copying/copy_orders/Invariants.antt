@@ -1,0 +1,6 @@
+-- The orders so far were copied.
+use Rattle.std.proofs.Common.{◌≡◌, take}
+use Rattle.xs_model.proofs.copying.copy_orders.Given as goal
+
+abbrev pub invariant-each : goal.invariant-each
+invariant-each l = l.copies.items ≡ take l.order-index l.orders

@@ -1,0 +1,20 @@
+use Rattle.xs_model.proofs.EngineSteps.{started_block, ran_block, ended_block, start_others, local_others, end_others}
+use Rattle.xs_model.proofs.laws.blocks_known.Goals as goal
+
+pub returns-clause-started : goal.returns-clause-started
+returns-clause-started c = started_block
+
+pub returns-clause-ran : goal.returns-clause-ran
+returns-clause-ran c = ran_block
+
+pub returns-clause-ended : goal.returns-clause-ended
+returns-clause-ended c = ended_block
+
+pub returns-clause-start_others : goal.returns-clause-start_others
+returns-clause-start_others c = start_others
+
+pub returns-clause-local_others : goal.returns-clause-local_others
+returns-clause-local_others c = local_others
+
+pub returns-clause-end_others : goal.returns-clause-end_others
+returns-clause-end_others c = end_others

@@ -1,0 +1,280 @@
+-- The laws of the machine, as statements.
+use Rattle.std.specs.Prelude.{◌≡◌, ℕ, ◌<◌, ◌≤◌, Bool, true, false, ◌&&◌, ◌==◌, List, [], ◌∷◌, ◌++◌, length, slice_get, Option, Some, None}
+use Rattle.std.specs.List.{AllByRecursion}
+use Rattle.xs_base.specs.declared.words.How.{How}
+use Rattle.xs_base.specs.declared.words.Signo.{Signo}
+use Rattle.xs_base.specs.Task.{PrivateTask}
+use Rattle.xs_model.specs.declared.script.Command.{Command}
+use Rattle.xs_model.specs.declared.script.Command.TheVariants as commands
+use Rattle.xs_model.specs.declared.script.Order.{Order}
+use Rattle.xs_model.specs.declared.script.Block.{Block}
+use Rattle.xs_model.specs.declared.script.Script.{Script}
+use Rattle.xs_model.specs.declared.event.Reply.{Reply}
+use Rattle.xs_model.specs.declared.event.Event.{Event}
+use Rattle.xs_model.specs.declared.event.Event.TheVariants.{Start, Local, Outer, Grow, Kill, End}
+use Rattle.xs_model.specs.Script.{IsValid, IsBuilt, IsBuiltCommand, is_outer, block_named, command_at, is_user}
+use Rattle.xs_model.specs.Line.{line_at, local_reply, traps, refusal}
+use Rattle.xs_model.specs.Note.{Sets, task_of, act_of, notes_of, is_at, cpu_of, mark, last}
+use Rattle.xs_model.specs.Held.{sets_block, held}
+use Rattle.xs_model.specs.declared.stage.Stage.TheVariants.{Unborn, Ready, Turn}
+use Rattle.xs_model.specs.State.{BlockState, is_plain, is_ready, is_active, stage_at, turn_of, has_turn, none_lives}
+use Rattle.xs_model.specs.Due.{how_of, signal_of, due}
+use Rattle.xs_model.specs.Machine.{started, goes_on, ran_line, ended_with, may_act, IsStep, machine, IsLegalPast, IsMachineOf}
+use Rattle.xs_model.specs.Ready.{one_if, occurs, ready_list}
+use Rattle.xs_model.specs.Replay.{IsReplay}
+use Rattle.xs_model.specs.Counts.{is_event_on, counts_of, remains}
+use Rattle.xs_model.specs.Bound.{most_events}
+
+-- A line is found by its number.
+abbrev pub LinesFound : Type 0
+LinesFound = (script : Script) (t : ℕ) (lines : Block) (task : PrivateTask) (order : Order) → IsValid script
+    → slice_get script.blocks t ≡ Some lines → line_at lines task ≡ Some order → command_at script t order.number ≡ Some order.command
+
+-- The processor of a turn is the one of the block's latest Start, and its last processor.
+abbrev pub TurnsKnown : Type 0
+TurnsKnown = (script : Script) (past : List Event) (cpu task : ℕ) → IsValid script → IsLegalPast script past
+    → turn_of (machine script past).blocks task ≡ Some cpu → (cpu_of (notes_of script past) task ≡ Some cpu) × (last script past task ≡ Some cpu)
+
+-- A processor has one turn at most.
+abbrev pub TurnsApart : Type 0
+TurnsApart = (script : Script) (past : List Event) (cpu one other : ℕ) → IsValid script → IsLegalPast script past
+    → turn_of (machine script past).blocks one ≡ Some cpu → turn_of (machine script past).blocks other ≡ Some cpu → one ≡ other
+
+-- While a user task is in a turn, the processor's mark is no other task.
+abbrev pub TurnsMarked : Type 0
+TurnsMarked = (script : Script) (past : List Event) (cpu task other : ℕ) → IsValid script → IsLegalPast script past → is_user script task ≡ true
+    → turn_of (machine script past).blocks task ≡ Some cpu → is_at (mark script past cpu) other ≡ true → other ≡ task
+
+-- A task is held exactly where the processor's mark is the task and the task's last processor is this one.
+abbrev pub TwoNumbers : Type 0
+TwoNumbers = (script : Script) (past : List Event) (cpu task : ℕ) → IsValid script → IsLegalPast script past → is_user script task ≡ true
+    → held script past cpu task ≡ (is_at (mark script past cpu) task && is_at (last script past task) cpu)
+
+-- The ready list has each ready block once, and no other.
+abbrev pub ReadyOnce : Type 0
+ReadyOnce = (script : Script) (past : List Event) (t : ℕ) → IsLegalPast script past
+    → occurs t (ready_list script past) ≡ one_if (is_ready (stage_at (machine script past).blocks t))
+
+-- The first of the ready list is ready.
+abbrev pub FirstReady : Type 0
+FirstReady = (script : Script) (past : List Event) (t : ℕ) (list : List ℕ) → IsLegalPast script past → ready_list script past ≡ t ∷ list
+    → stage_at (machine script past).blocks t ≡ Ready
+
+-- Where the ready list is empty, no block is ready.
+abbrev pub NobodyReady : Type 0
+NobodyReady = (script : Script) (past : List Event) (t : ℕ) → IsLegalPast script past → ready_list script past ≡ []
+    → is_ready (stage_at (machine script past).blocks t) ≡ false
+
+-- Block t is in a turn on the processor, where it made so many Local events, in this state and with these lines.
+pub record IsInTurn (script : Script) (past : List Event) (t cpu ran : ℕ) (block : BlockState) (lines : Block) : Type 0 where
+  pub state : slice_get (machine script past).blocks t ≡ Some block
+  pub lines_are : slice_get script.blocks t ≡ Some lines
+  pub stage : block.stage ≡ Turn cpu ran
+
+-- A Start of the first ready block leaves the rest of the list.
+abbrev pub StartTakes : Type 0
+StartTakes = (script : Script) (past : List Event) (t cpu : ℕ) (how : How) (signal : Option Signo) (list : List ℕ) → ready_list script past ≡ t ∷ list
+    → ready_list script (Start t cpu how signal ∷ past) ≡ list
+
+-- While the turn goes on nobody is made ready.
+abbrev pub LocalKeeps : Type 0
+LocalKeeps = (script : Script) (past : List Event) (t line cpu ran : ℕ) (reply : Reply) (block : BlockState) (lines : Block) (command : Command)
+    → IsInTurn script past t cpu ran block lines → command_at script t line ≡ Some command → goes_on script command ran ≡ true
+    → ready_list script (Local t line reply ∷ past) ≡ ready_list script past
+
+-- A local line that ends the turn makes its own block ready, and no other.
+abbrev pub LocalRises : Type 0
+LocalRises = (script : Script) (past : List Event) (t line cpu ran : ℕ) (reply : Reply) (block : BlockState) (lines : Block) (command : Command)
+    → IsInTurn script past t cpu ran block lines → command_at script t line ≡ Some command → goes_on script command ran ≡ false
+    → ready_list script (Local t line reply ∷ past) ≡ ready_list script past ++ t ∷ []
+
+-- Where no block waits or is stopped, an end makes nobody ready.
+abbrev pub EndKeeps : Type 0
+EndKeeps = (script : Script) (past : List Event) (t : ℕ) → AllByRecursion (λ (block : BlockState). is_plain block.stage ≡ true) (machine script past).blocks
+    → ready_list script (End t ∷ past) ≡ ready_list script past
+
+-- ---- events that a processor or a block doesn't see
+
+-- the newer events are all on other processors than c
+abbrev pub AreElsewhere : Script → List Event → List Event → ℕ → Type 0
+AreElsewhere script [] past c = Unit {0}
+AreElsewhere script (event ∷ newer) past c = AreElsewhere script newer past c × (is_event_on script (newer ++ past) event c ≡ false)
+
+-- the newer events are all of other blocks than t, and set none of its registers
+abbrev pub AreOthers : Script → List Event → ℕ → Type 0
+AreOthers script [] t = Unit {0}
+AreOthers script (event ∷ newer) t = AreOthers script newer t × ((task_of event == t) ≡ false) × (sets_block (act_of script event) t ≡ false)
+
+-- Events on other processors leave a processor's mark.
+abbrev pub MarkUnseen : Type 0
+MarkUnseen = (script : Script) (newer past : List Event) (cpu : ℕ) → AreElsewhere script newer past cpu → mark script (newer ++ past) cpu ≡ mark script past cpu
+
+-- They leave its counts.
+abbrev pub CountsUnseen : Type 0
+CountsUnseen = (script : Script) (newer past : List Event) (cpu : ℕ) → AreElsewhere script newer past cpu → counts_of script (newer ++ past) cpu ≡ counts_of script past cpu
+
+-- They leave what remains in its bank.
+abbrev pub RemainsUnseen : Type 0
+RemainsUnseen = (script : Script) (newer past : List Event) (cpu : ℕ) → AreElsewhere script newer past cpu → remains script (newer ++ past) cpu ≡ remains script past cpu
+
+-- Events of other blocks leave a block's last processor, and the one of its latest Start.
+abbrev pub LastUnseen : Type 0
+LastUnseen = (script : Script) (newer past : List Event) (task : ℕ) → AreOthers script newer task
+    → (last script (newer ++ past) task ≡ last script past task) × (cpu_of (notes_of script (newer ++ past)) task ≡ cpu_of (notes_of script past) task)
+
+-- Where all are both, a task is held as before.
+abbrev pub HeldUnseen : Type 0
+HeldUnseen = (script : Script) (newer past : List Event) (cpu task : ℕ) → AreElsewhere script newer past cpu → AreOthers script newer task
+    → held script (newer ++ past) cpu task ≡ held script past cpu task
+
+-- ---- the machine of a past, and its steps
+
+-- The machine of a past has this script and this past, and as many blocks as the script.
+abbrev pub MachineKnown : Type 0
+MachineKnown = (script : Script) (past : List Event)
+    → ((machine script past).script ≡ script) × ((machine script past).past ≡ past) × (length (machine script past).blocks ≡ length script.blocks)
+
+-- In a legal past of a valid script each block has a valid private task.
+abbrev pub TasksValid : Type 0
+TasksValid = (script : Script) (past : List Event) → IsValid script → IsLegalPast script past → IsMachineOf script (machine script past)
+
+-- The Start of a ready block on a free processor is a step.
+abbrev pub StartIsStep : Type 0
+StartIsStep = (script : Script) (past : List Event) (t cpu : ℕ) (block : BlockState)
+    → may_act (machine script past).committing t ≡ true → slice_get (machine script past).blocks t ≡ Some block → block.stage ≡ Ready
+    → cpu < script.cpus → has_turn (machine script past).blocks cpu ≡ false
+    → IsStep (machine script past) (Start t cpu (how_of (is_user script t) (held script past cpu t)) (signal_of block))
+
+-- The event of a local line within the quantum is a step.
+abbrev pub LocalIsStep : Type 0
+LocalIsStep = (script : Script) (past : List Event) (t cpu ran : ℕ) (block : BlockState) (lines : Block) (order : Order)
+    → may_act (machine script past).committing t ≡ true → IsInTurn script past t cpu ran block lines → ran < script.quantum
+    → line_at lines block.task ≡ Some order → is_outer order.command ≡ false → traps block.task order.command ≡ false → refusal block.task order.command ≡ None
+    → IsStep (machine script past) (Local t order.number (local_reply block.task order.command))
+
+-- The end of a body within the quantum is a step.
+abbrev pub EndIsStep : Type 0
+EndIsStep = (script : Script) (past : List Event) (t cpu ran : ℕ) (block : BlockState) (lines : Block)
+    → may_act (machine script past).committing t ≡ true → IsInTurn script past t cpu ran block lines → ran < script.quantum
+    → line_at lines block.task ≡ None → block.task.handling ≡ false → IsStep (machine script past) (End t)
+
+-- A processor without a turn is that of no block's turn, and one of no block's turn has none.
+abbrev pub FreeTells : Type 0
+FreeTells = (blocks : List BlockState) (cpu t : ℕ) → has_turn blocks cpu ≡ false → turn_of blocks t ≡ Some cpu → ⊥
+
+abbrev pub FreeFound : Type 0
+FreeFound = (blocks : List BlockState) (cpu : ℕ) → ((t : ℕ) → turn_of blocks t ≡ Some cpu → ⊥) → has_turn blocks cpu ≡ false
+
+-- What a Start, a local line and an end make of their own block.
+abbrev pub StartedBlock : Type 0
+StartedBlock = (script : Script) (past : List Event) (t cpu : ℕ) (how : How) (signal : Option Signo) (block : BlockState)
+    → slice_get (machine script past).blocks t ≡ Some block
+    → slice_get (machine script (Start t cpu how signal ∷ past)).blocks t ≡ Some (started cpu signal block)
+
+abbrev pub RanBlock : Type 0
+RanBlock = (script : Script) (past : List Event) (t line : ℕ) (reply : Reply) (block : BlockState) → slice_get (machine script past).blocks t ≡ Some block
+    → slice_get (machine script (Local t line reply ∷ past)).blocks t ≡ Some (ran_line script (command_at script t line) block)
+
+abbrev pub EndedBlock : Type 0
+EndedBlock = (script : Script) (past : List Event) (t : ℕ) (block : BlockState) → slice_get (machine script past).blocks t ≡ Some block
+    → slice_get (machine script (End t ∷ past)).blocks t ≡ Some (ended_with block.task block)
+
+-- A Start and a local line leave the other blocks, and so does an end where no block waits or is stopped.
+abbrev pub StartOthers : Type 0
+StartOthers = (script : Script) (past : List Event) (t cpu other : ℕ) (how : How) (signal : Option Signo) → (t ≡ other → ⊥)
+    → slice_get (machine script (Start t cpu how signal ∷ past)).blocks other ≡ slice_get (machine script past).blocks other
+
+abbrev pub LocalOthers : Type 0
+LocalOthers = (script : Script) (past : List Event) (t line other : ℕ) (reply : Reply) → (t ≡ other → ⊥)
+    → slice_get (machine script (Local t line reply ∷ past)).blocks other ≡ slice_get (machine script past).blocks other
+
+abbrev pub EndOthers : Type 0
+EndOthers = (script : Script) (past : List Event) (t other : ℕ) → AllByRecursion (λ (block : BlockState). is_plain block.stage ≡ true) (machine script past).blocks
+    → (t ≡ other → ⊥) → slice_get (machine script (End t ∷ past)).blocks other ≡ slice_get (machine script past).blocks other
+
+-- The block is still there, with the private task that it had.
+pub record HasTask (blocks : List BlockState) (t : ℕ) (task : PrivateTask) : Type 0 where
+  pub block : BlockState
+  pub here : slice_get blocks t ≡ Some block
+  pub task_is : block.task ≡ task
+
+-- Another block's event leaves the private task of a block that was born, unless it sets its registers.
+abbrev pub TaskStays : Type 0
+TaskStays = (script : Script) (past : List Event) (event : Event) (t : ℕ) (block : BlockState)
+    → (task_of event ≡ t → ⊥) → (act_of script event ≡ Sets t → ⊥) → slice_get (machine script past).blocks t ≡ Some block → (block.stage ≡ Unborn → ⊥)
+    → HasTask (machine script (event ∷ past)).blocks t block.task
+
+-- ---- scripts of the forms of this version
+
+-- A block that is ready, in a turn, or has ended, with no handler that runs, no pending signal, and no room for TILEDATA.
+pub record IsPlainBlock (block : BlockState) : Type 0 where
+  pub stage : is_plain block.stage ≡ true
+  pub outside : block.task.handling ≡ false
+  pub quiet : block.pending ≡ []
+  pub small : block.task.large ≡ false
+
+-- a Start without a signal, a local line or an end
+abbrev pub is_plain_event : Event → Bool
+is_plain_event (Start t cpu how None) = true
+is_plain_event (Start t cpu how (Some signal)) = false
+is_plain_event (Local t line reply) = true
+is_plain_event (Outer t line reply) = false
+is_plain_event (Grow t) = false
+is_plain_event (Kill t signo why) = false
+is_plain_event (End t) = true
+
+-- The blocks of such a script are plain.
+abbrev pub BuiltBlocks : Type 0
+BuiltBlocks = (script : Script) (past : List Event) → IsBuilt script → IsLegalPast script past → AllByRecursion IsPlainBlock (machine script past).blocks
+
+-- So are its events.
+abbrev pub BuiltEvents : Type 0
+BuiltEvents = (script : Script) (past : List Event) → IsBuilt script → IsLegalPast script past → AllByRecursion (λ (event : Event). is_plain_event event ≡ true) past
+
+-- An end in such a script makes nobody ready.
+abbrev pub BuiltEnds : Type 0
+BuiltEnds = (script : Script) (past : List Event) (t : ℕ) → IsBuilt script → IsLegalPast script past → ready_list script (End t ∷ past) ≡ ready_list script past
+
+-- A line of such a script is local, doesn't trap, and is no return.
+abbrev pub BuiltLines : Type 0
+BuiltLines = (task : PrivateTask) (command : Command) → IsBuiltCommand command
+    → (is_outer command ≡ false) × (traps task command ≡ false) × (refusal task command ≡ None)
+
+-- A script has one replay at most.
+abbrev pub OneReplay : Type 0
+OneReplay = (script : Script) (one other : List Event) → IsReplay script one → IsReplay script other → one ≡ other
+
+-- While a block lives, one is ready or in a turn.
+abbrev pub NeverStuck : Type 0
+NeverStuck = (script : Script) (past : List Event) → IsValid script → IsLegalPast script past → none_lives (machine script past) ≡ false
+    → (t : ℕ) × (is_active (stage_at (machine script past).blocks t) ≡ true)
+
+-- No history has more events than the bound of its script.
+abbrev pub FewEvents : Type 0
+FewEvents = (script : Script) (past : List Event) → IsValid script → IsLegalPast script past → length past ≤ most_events script
+
+-- ---- a turn goes on
+
+-- A signal that the line sends is for a block with a handler.
+abbrev pub IsHandled : Script → Command → Type 0
+IsHandled script (commands.Kill name signo) = (other : Block) → slice_get script.blocks (block_named script name) ≡ Some other → 0 < length other.handler
+IsHandled script other = Unit {0}
+
+-- So are those that the bodies send. That is a rule of the names that commands have for blocks, which have no part in
+-- IsValid yet.
+abbrev pub AreSignalsHandled : Script → Type 0
+AreSignalsHandled script = AllByRecursion (λ (block : Block). AllByRecursion (λ (order : Order). IsHandled script order.command) block.body) script.blocks
+
+-- While a turn lasts, its Local events are fewer than the quantum.
+abbrev pub TurnsShort : Type 0
+TurnsShort = (script : Script) (past : List Event) (t cpu ran : ℕ) → IsValid script
+    → stage_at (machine script past).blocks t ≡ Turn cpu ran → ran < script.quantum
+
+-- A block in a turn has a next event.
+abbrev pub NeverIdle : Type 0
+NeverIdle = (script : Script) (past : List Event) (t cpu : ℕ) → IsValid script → AreSignalsHandled script → IsLegalPast script past
+    → turn_of (machine script past).blocks t ≡ Some cpu → (event : Event) × (due (machine script past) t ≡ Some event)
+
+-- A script of the forms of this version sends no signal.
+abbrev pub BuiltHandled : Type 0
+BuiltHandled = (script : Script) → IsBuilt script → AreSignalsHandled script

@@ -1,0 +1,113 @@
+//! The laws of the machine, for proofs: a caller has a law by calling its function, which does nothing.
+
+ghost use Rattle.xs_model.specs.Laws.{LinesFound, TurnsKnown, TurnsApart, TurnsMarked, TwoNumbers, ReadyOnce, FirstReady, NobodyReady, StartTakes, LocalKeeps, LocalRises, EndKeeps, BuiltBlocks, BuiltEvents, BuiltEnds, BuiltLines, MarkUnseen, CountsUnseen, RemainsUnseen, LastUnseen, HeldUnseen, MachineKnown, TasksValid, StartIsStep, LocalIsStep, EndIsStep, FreeTells, FreeFound, StartedBlock, RanBlock, EndedBlock, StartOthers, LocalOthers, EndOthers, TaskStays, OneReplay, NeverStuck, FewEvents, TurnsShort, NeverIdle, BuiltHandled};
+
+/// A line of a valid script is found by its number.
+pub fn lines_found()
+    ensures { LinesFound }
+{}
+
+/// What a legal past tells of the blocks that are in a turn: their processors, that these differ, and the marks there.
+pub fn turns_known()
+    ensures known { TurnsKnown }
+    ensures apart { TurnsApart }
+    ensures marked { TurnsMarked }
+{}
+
+/// A processor still holds a task's state exactly where its mark is the task, and the task's last processor is this
+/// one.
+pub fn two_numbers()
+    ensures { TwoNumbers }
+{}
+
+/// The ready list has each ready block once and no other: its first is ready, and where it is empty nobody is.
+pub fn ready_once()
+    ensures once { ReadyOnce }
+    ensures first { FirstReady }
+    ensures nobody { NobodyReady }
+{}
+
+/// Whom an event makes ready: a Start nobody, a local line its own block where it ends the turn, and an end nobody where
+/// no block waits or is stopped.
+pub fn risers_known()
+    ensures start { StartTakes }
+    ensures goes_on { LocalKeeps }
+    ensures ends { LocalRises }
+    ensures end { EndKeeps }
+{}
+
+/// A script of the forms of this version has plain blocks, plain events and plain lines, and an end in it makes nobody
+/// ready.
+pub fn built_is_plain()
+    ensures blocks { BuiltBlocks }
+    ensures events { BuiltEvents }
+    ensures end { BuiltEnds }
+    ensures lines { BuiltLines }
+{}
+
+/// What newer events on other processors, or of other blocks, leave as it was.
+pub fn unseen_stays()
+    ensures mark { MarkUnseen }
+    ensures counts { CountsUnseen }
+    ensures remains { RemainsUnseen }
+    ensures last { LastUnseen }
+    ensures held { HeldUnseen }
+{}
+
+/// The script and the past of a past's machine, how many blocks it has, and that in a legal past of a valid script each
+/// of them has a valid private task.
+pub fn machine_known()
+    ensures known { MachineKnown }
+    ensures valid { TasksValid }
+{}
+
+/// Which Start, local line and end is a step.
+pub fn steps_known()
+    ensures start { StartIsStep }
+    ensures local { LocalIsStep }
+    ensures end { EndIsStep }
+{}
+
+/// A processor without a turn is that of no block's turn.
+pub fn free_processors_known()
+    ensures tells { FreeTells }
+    ensures found { FreeFound }
+{}
+
+/// What a Start, a local line and an end make of their own block, and that they leave the others.
+pub fn blocks_known()
+    ensures started { StartedBlock }
+    ensures ran { RanBlock }
+    ensures ended { EndedBlock }
+    ensures start_others { StartOthers }
+    ensures local_others { LocalOthers }
+    ensures end_others { EndOthers }
+{}
+
+/// Another block's event leaves the private task of a block that was born, unless it sets its registers.
+pub fn task_stays()
+    ensures { TaskStays }
+{}
+
+/// A script has one replay at most.
+pub fn one_replay()
+    ensures { OneReplay }
+{}
+
+/// While a block lives, one is ready or in a turn.
+pub fn never_stuck()
+    ensures { NeverStuck }
+{}
+
+/// No history has more events than the bound of its script.
+pub fn few_events()
+    ensures { FewEvents }
+{}
+
+/// A block in a turn has a next event: the turn is within the quantum, and the signals that a script's bodies send are for
+/// blocks with a handler.
+pub fn never_idle()
+    ensures short { TurnsShort }
+    ensures next { NeverIdle }
+    ensures built { BuiltHandled }
+{}
