@@ -1,15 +1,16 @@
 -- One line more of the blocks.
-use Rattle.std.proofs.Common.{◌≡◌, ℕ, ◌+◌, ◌<◌, Bool, true, false, ◌||◌, nat_le, List, [], ◌∷◌, ◌++◌, length, Option, Some, None, Ok, Err, refl, sym, ◌∙◌, ap, subst, arith, length-append}
-use Rattle.std.proofs.lemmas.Bool.{lt-leb}
+use Rattle.std.proofs.Common.{◌≡◌, ℕ, ◌+◌, ◌<◌, Bool, true, false, ◌||◌, ◌==◌, nat_le, List, [], ◌∷◌, ◌++◌, length, Option, Some, None, Ok, Err, refl, sym, ◌∙◌, ap, subst, arith, length-append}
+use Rattle.std.proofs.lemmas.Bool.{lt-leb, and_parts}
 use Rattle.std.proofs.lemmas.List.{append_assoc, append-nil, map-append, length-map}
 use Rattle.std.proofs.lemmas.Slice.Eq.{bytes_eq-Decides}
-use Rattle.std.specs.List.{AllByRecursion, flat_map, list_any}
+use Rattle.std.specs.List.{AllByRecursion, flat_map, list_any, list_all}
 use Rattle.std.specs.Option.{is_some}
 use Rattle.std.specs.Str.{bytes_eq}
-use Rattle.xs_model.specs.declared.script.BlockKind.TheVariants.{Task}
+use Rattle.xs_model.specs.declared.script.BlockKind.{BlockKind}
+use Rattle.xs_model.specs.declared.script.BlockKind.TheVariants as kinds
 use Rattle.xs_model.specs.declared.script.Order.{Order}
 use Rattle.xs_model.specs.declared.script.Block.{Block}
-use Rattle.xs_model.specs.Script.{AreDistinct, AreNumbered, AreBlocksNumbered}
+use Rattle.xs_model.specs.Script.{AreDistinct, AreNumbered, AreBlocksNumbered, fits_kind, is_kernel_command}
 use Rattle.xs_script.specs.declared.line.Line.{Line}
 use Rattle.xs_script.specs.declared.line.Line.TheVariants as lines
 use Rattle.xs_script.specs.declared.body.Body.{Body}
@@ -17,11 +18,11 @@ use Rattle.xs_script.specs.declared.refusal.Kind.TheVariants.{BadLine, Repeated}
 use Rattle.xs_script.specs.declared.refusal.ScriptError.{ScriptError}
 use Rattle.xs_script.specs.declared.refusal.ScriptError.TheVariants as errors
 use Rattle.xs_script.specs.Grammar.{order_lines, block_lines}
-use Rattle.xs_script.specs.LineOrder.{AtBlock, InBlock, next, may_end}
+use Rattle.xs_script.specs.LineOrder.{AtBlock, InBlock, takes_sched, may_have, next, may_end}
 use Rattle.xs_script.specs.Refusal.{Early, table_fault, Fails, Here}
 use Rattle.xs_script.specs.ScriptLine.{kept_line}
 use Rattle.xs_script.specs.Front.{IsKeptFront, IsNext, ExplainsLine, ExplainsNext}
-use Rattle.xs_script.specs.Body.{names_of, begun_stand, body_stand, begun_lines, lines_of_body, TakesLine, ReadsLine}
+use Rattle.xs_script.specs.Body.{names_of, begun_stand, body_stand, begun_lines, lines_of_body, IsPlainBlock, TakesLine, ReadsLine}
 use Rattle.xs_script.proofs.Fronts.{front_push}
 use Rattle.xs_script.proofs.KeptOrder.{kept_next}
 use Rattle.xs_script.proofs.HeadSteps.{next_fails}
@@ -91,52 +92,73 @@ numbered_begin first (x ∷ blocks) b none h = (h.0, numbered_begin (first + len
 -- ---- one line more
 
 -- the lines of one order more
-order_came : (front : List Line) (name : List ℕ) (orders : List Order) (order : Order) → front ++ lines.Task name ∷ order_lines (orders ++ order ∷ []) ≡ (front ++ lines.Task name ∷ order_lines orders) ++ lines.Order order.command ∷ []
-order_came front name orders order =
-    ap (λ (ls : List Line). front ++ lines.Task name ∷ ls) (map-append (λ (o : Order). lines.Order o.command) orders (order ∷ []))
-    ∙ sym (append_assoc front (lines.Task name ∷ order_lines orders) (lines.Order order.command ∷ []))
+order_came : (front : List Line) (first : Line) (orders : List Order) (order : Order) → front ++ first ∷ order_lines (orders ++ order ∷ []) ≡ (front ++ first ∷ order_lines orders) ++ lines.Order order.command ∷ []
+order_came front first orders order =
+    ap (λ (ls : List Line). front ++ first ∷ ls) (map-append (λ (o : Order). lines.Order o.command) orders (order ∷ []))
+    ∙ sym (append_assoc front (first ∷ order_lines orders) (lines.Order order.command ∷ []))
+
+-- what a test says of one more
+test_push : {A : Type 0} (test : A → Bool) (xs : List A) (x : A) → list_all test xs ≡ true → test x ≡ true → list_all test (xs ++ x ∷ []) ≡ true
+test_push test [] x h p = rw p refl
+test_push test (y ∷ xs) x h p =
+    let parts = and_parts (test y) (list_all test xs) h in
+    rw (parts.0, test_push test xs x parts.1 p) refl
+
+-- a block of any kind may have no orders
+pub none_fits : (kind : BlockKind) → fits_kind kind [] [] ≡ true
+none_fits kinds.Task = refl
+none_fits kinds.Child = refl
+none_fits kinds.Kthread = refl
+
+-- and one order more where its kind may have the command
+order_fits : (kind : BlockKind) (body handler : List Order) (order : Order) → fits_kind kind body handler ≡ true → may_have kind order.command ≡ true → fits_kind kind (body ++ order ∷ []) handler ≡ true
+order_fits kinds.Task body handler order h may = refl
+order_fits kinds.Child body handler order h may = refl
+order_fits kinds.Kthread body handler order h may =
+    let parts = and_parts (list_all (λ (o : Order). is_kernel_command o.command) body) (length handler == 0) h in
+    rw (test_push (λ (o : Order). is_kernel_command o.command) body order parts.0 may, parts.1) refl
 
 -- an order, where a block has begun
-pub order_taken : (number : ℕ) (body after : Body) (b c : Block) (order : Order) → body.begun ≡ Some b → after.begun ≡ Some c → after.blocks ≡ body.blocks → order.number ≡ number → c.kind ≡ b.kind → c.name ≡ b.name → c.handler ≡ b.handler → c.body ≡ b.body ++ order ∷ [] → TakesLine number body (lines.Order order.command) after
-order_taken number body after b c order was is same at kind name handler pushed =
+pub order_taken : (number : ℕ) (body after : Body) (b c : Block) (order : Order) → body.begun ≡ Some b → after.begun ≡ Some c → after.blocks ≡ body.blocks → order.number ≡ number → may_have b.kind order.command ≡ true → c.kind ≡ b.kind → c.name ≡ b.name → c.handler ≡ b.handler → c.body ≡ b.body ++ order ∷ [] → TakesLine number body (lines.Order order.command) after
+order_taken number body after b c order was is same at may kind name handler pushed =
     let blocks = body.blocks in
     let names : names_of (blocks ++ b ∷ []) ≡ names_of (blocks ++ c ∷ []) = names_push blocks b ∙ ap (λ (n : List ℕ). names_of blocks ++ n ∷ []) (sym name) ∙ sym (names_push blocks c) in
     let lined : length (flat_map block_lines blocks ++ begun_lines (Some b)) ≡ length (flat_map block_lines blocks) + length (begun_lines (Some b)) = length-append (flat_map block_lines blocks) (begun_lines (Some b)) in
     let orders : length (order_lines b.body) ≡ length b.body = length-map b.body (λ (o : Order). lines.Order o.command) in
     let long : (x : Block) → length (blocks ++ x ∷ []) ≡ length blocks + 1 = λ x. length-append blocks (x ∷ []) in
     rw (was, is, same) record {
-      leads = ap (λ (ns : List (List ℕ)). Ok (InBlock ns)) names;
-      came = rw (name, pushed) (order_came (flat_map block_lines blocks) b.name b.body order);
+      leads = rw may (ap (λ (ns : List (List ℕ)). Ok (InBlock b.kind ns)) names ∙ ap (λ (k : BlockKind). Ok (InBlock k (names_of (blocks ++ c ∷ [])))) (sym kind));
+      came = rw (kind, name, pushed) (order_came (flat_map block_lines blocks) (lines.Begin b.kind b.name) b.body order);
       fits = λ first here h. record {
         few = omega (arith, h.few, long b, long c);
         distinct = subst (λ (ns : List (List ℕ)). AreDistinct ns) names h.distinct;
         numbered = numbered_order first blocks b c order pushed (omega (arith, here, lined, orders, at)) h.numbered;
-        tasks = all_replace (λ (block : Block). (block.kind ≡ Task) × (block.handler ≡ [])) blocks b c (λ t. (kind ∙ t.0, handler ∙ t.1)) h.tasks;
+        plain = all_replace IsPlainBlock blocks b c (λ (t : IsPlainBlock b). record { handler = handler ∙ t.handler; fits = rw (kind, handler, pushed) (order_fits b.kind b.body b.handler order t.fits may) }) h.plain;
       };
     }
 
 -- the first line of a block, where none has begun
-pub task_taken : (number : ℕ) (body after : Body) (b : Block) → body.begun ≡ None → after.begun ≡ Some b → after.blocks ≡ body.blocks → b.kind ≡ Task → b.body ≡ [] → b.handler ≡ [] → length body.blocks < 64 → list_any (λ (block : Block). bytes_eq block.name b.name) body.blocks ≡ false → TakesLine number body (lines.Task b.name) after
-task_taken number body after b was is same kind none handler few new =
+pub begin_taken : (number : ℕ) (body after : Body) (b : Block) → body.begun ≡ None → after.begun ≡ Some b → after.blocks ≡ body.blocks → b.body ≡ [] → b.handler ≡ [] → length body.blocks < 64 → list_any (λ (block : Block). bytes_eq block.name b.name) body.blocks ≡ false → TakesLine number body (lines.Begin b.kind b.name) after
+begin_taken number body after b was is same none handler few new =
     let blocks = body.blocks in
     let count : length (names_of blocks) ≡ length blocks = length-map blocks (λ (block : Block). block.name) in
     let fewer : nat_le 64 (length (names_of blocks)) ≡ false = lt-leb _ _ (omega (arith, count)) in
     let other : list_any (λ other. bytes_eq other b.name) (names_of blocks) ≡ false = any_name b.name blocks ∙ new in
     let long : length (blocks ++ b ∷ []) ≡ length blocks + 1 = length-append blocks (b ∷ []) in
     rw (was, is, same) record {
-      leads = rw (fewer, other) (ap (λ (ns : List (List ℕ)). Ok (InBlock ns)) (sym (names_push blocks b)));
-      came = rw none (ap (λ (ls : List Line). ls ++ lines.Task b.name ∷ []) (sym (append-nil (flat_map block_lines blocks))));
+      leads = rw (fewer, other) (ap (λ (ns : List (List ℕ)). Ok (InBlock b.kind ns)) (sym (names_push blocks b)));
+      came = rw none (ap (λ (ls : List Line). ls ++ lines.Begin b.kind b.name ∷ []) (sym (append-nil (flat_map block_lines blocks))));
       fits = λ first here h. record {
         few = omega (arith, long);
         distinct = rw names_push (distinct_push (names_of blocks) b.name h.distinct other);
         numbered = numbered_begin first blocks b none h.numbered;
-        tasks = all_push (λ (block : Block). (block.kind ≡ Task) × (block.handler ≡ [])) blocks b h.tasks (kind, handler);
+        plain = all_push IsPlainBlock blocks b h.plain (record { handler = handler; fits = rw (none, handler) (none_fits b.kind) });
       };
     }
 
 -- a block of an earlier name
-pub task_repeats : (body : Body) (name : List ℕ) → body.begun ≡ None → length body.blocks < 64 → list_any (λ (block : Block). bytes_eq block.name name) body.blocks ≡ true → next (body_stand body) (lines.Task name) ≡ Err Repeated
-task_repeats body name none few found =
+pub begin_repeats : (body : Body) (kind : BlockKind) (name : List ℕ) → body.begun ≡ None → length body.blocks < 64 → list_any (λ (block : Block). bytes_eq block.name name) body.blocks ≡ true → next (body_stand body) (lines.Begin kind name) ≡ Err Repeated
+begin_repeats body kind name none few found =
     let blocks = body.blocks in
     let count : length (names_of blocks) ≡ length blocks = length-map blocks (λ (block : Block). block.name) in
     let fewer : nat_le 64 (length (names_of blocks)) ≡ false = lt-leb _ _ (omega (arith, count)) in
@@ -149,6 +171,11 @@ task_repeats body name none few found =
 pub no_table : (blocks : List Block) (begun : Option Block) (text : List ℕ) → table_fault (begun_stand blocks begun) text ≡ None
 no_table blocks None text = refl
 no_table blocks (Some b) text = refl
+
+-- nor may a schedule come
+pub no_sched_here : (blocks : List Block) (begun : Option Block) → takes_sched (begun_stand blocks begun) ≡ false
+no_sched_here blocks None = refl
+no_sched_here blocks (Some b) = refl
 
 -- A text may not end there.
 pub ends_early : (number : ℕ) (body : Body) → may_end (body_stand body) ≡ false → Fails (body_stand body) number [] number BadLine

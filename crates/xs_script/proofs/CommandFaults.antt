@@ -1,5 +1,5 @@
 -- What is wrong with a command, and with what is kept of it.
-use Rattle.std.proofs.Common.{◌≡◌, ℕ, true, false, not, ◌||◌, ◌==◌, List, length, drop, refl, ap, subst, arith, inl, inr}
+use Rattle.std.proofs.Common.{◌≡◌, ℕ, true, false, not, ◌||◌, ◌==◌, List, length, Some, drop, refl, ap, subst, arith, inl, inr}
 use Rattle.std.specs.List.{list_all}
 use Rattle.std.proofs.lemmas.Bool.{and_parts, eqb-true, ne_eqb, cases_lt}
 use Rattle.xs_base.specs.declared.component.Row.{Row}
@@ -8,17 +8,17 @@ use Rattle.xs_base.specs.File.{is_mxcsr}
 use Rattle.xs_base.specs.Register.{IsRegister}
 use Rattle.xs_base.proofs.Registers.{place_length}
 use Rattle.xs_model.specs.declared.script.Command.{Command}
-use Rattle.xs_model.specs.Script.{register_of, fits_register}
+use Rattle.xs_model.specs.Script.{fits_register}
 use Rattle.xs_script.specs.declared.refusal.Kind.{Kind}
-use Rattle.xs_script.specs.Refusal.{CommandFails, Unknown, Unbuilt}
+use Rattle.xs_script.specs.Refusal.{register_of, CommandFails, Unknown, Unbuilt}
 use Rattle.xs_script.specs.ScriptLine.{kept_bytes}
 use Rattle.xs_script.specs.Commands.{RegisterFails, NoRegister, Unready}
 use Rattle.xs_script.proofs.Kept.{kept_same_bytes, kept_long}
 
 -- A command fails by its register.
-pub register_fails : (rows : List Row) (command : Command) (kind : Kind) → RegisterFails rows (register_of command) kind → CommandFails rows command kind
-register_fails rows command _ (NoRegister none) = Unknown command none
-register_fails rows command _ (Unready place here unready) = Unbuilt command place here unready
+pub register_fails : (rows : List Row) (command : Command) (reg : List ℕ) (kind : Kind) → register_of command ≡ Some reg → RegisterFails rows reg kind → CommandFails rows command kind
+register_fails rows command reg _ named (NoRegister none) = Unknown command reg named none
+register_fails rows command reg _ named (Unready place here unready) = Unbuilt command reg place named here unready
 
 -- bytes that fit a register are as many as it has
 pub fits_length : (place : Place) (bytes : List ℕ) → fits_register place bytes ≡ true → length bytes ≡ place.len

@@ -1,25 +1,26 @@
 -- What is decided by a bounded search: whether a text has a first line that is spelled.
-use Rattle.std.proofs.Common.{◌≡◌, ◌⊎◌, ℕ, zero, suc, ◌<◌, ◌^◌, Bool, true, false, List, [], ◌∷◌, ◌++◌, length, inl, inr, refl, sym, ◌∙◌, ap, subst, arith, codes, decimal}
+use Rattle.std.proofs.Common.{◌≡◌, ◌⊎◌, ℕ, zero, suc, ◌+◌, ◌<◌, ◌^◌, Bool, true, false, List, [], ◌∷◌, ◌++◌, length, inl, inr, refl, sym, ◌∙◌, ap, subst, arith, codes, decimal, length-append}
 use Rattle.std.specs.Prelude.{bytes_eq}
 use Rattle.std.specs.Bool.{Decides}
 use Rattle.std.proofs.lemmas.Bool.{cases_eq, cases_lt}
-use Rattle.std.proofs.lemmas.List.{append_cancel_left}
+use Rattle.std.proofs.lemmas.List.{append_cancel_left, append-nil}
 use Rattle.std.proofs.lemmas.Slice.Eq.{bytes_eq-Decides}
 use Rattle.hex.specs.Hex.{encode_lower}
 use Rattle.xs_base.specs.declared.component.Row.{Row}
 use Rattle.xs_base.specs.Layout.{row}
 use Rattle.xs_model.specs.declared.script.Named.{Named}
 use Rattle.xs_model.specs.declared.script.Named.TheVariants as machines
+use Rattle.xs_model.specs.declared.script.BlockKind.TheVariants as blocks
 use Rattle.xs_model.specs.declared.script.Command.TheVariants as commands
 use Rattle.xs_model.specs.Script.{is_name}
 use Rattle.xs_script.specs.declared.line.Line.{Line}
 use Rattle.xs_script.specs.declared.line.Line.TheVariants as lines
-use Rattle.xs_script.specs.ScriptLine.{IsNumber, IsLine, machine_name, row_text, line_text, is_register_word}
+use Rattle.xs_script.specs.ScriptLine.{IsNumber, IsLine, machine_name, row_text, entries_text, line_text, is_register_word}
 use Rattle.xs_script.specs.Reads.{Lacks}
 use Rattle.xs_script.specs.Parts.{IsValue, is_hex_text}
 use Rattle.xs_script.specs.Refusal.{NoLine}
 use Rattle.xs_script.proofs.Cuts.{one_cut, no_cut, Lacks-register}
-use Rattle.xs_script.proofs.Spellings.{lacks_space}
+use Rattle.xs_script.proofs.Entries.{lacks_space}
 use Rattle.xs_script.proofs.HexText.{hex_text, hex_text_bytes}
 use Rattle.xs_script.proofs.Readings.{length_hex, no_bytes, no_line, other_line}
 
@@ -164,63 +165,134 @@ row_or_none bytes =
 
 -- ---- a line
 
--- bytes that are of no form of a line are the text of no line
-no_line_of : (bytes : List ℕ)
-    → (bytes ≡ codes "xstate 1" → ⊥)
-    → (IsTextOf Named (λ named. Unit {0}) (λ named. codes "machine " ++ machine_name named) bytes → ⊥)
-    → (IsTextOf Row (λ r. IsLine (lines.Row r)) (λ r. codes "row " ++ row_text r) bytes → ⊥)
-    → (IsTextOf ℕ IsNumber (λ n. codes "cpus " ++ decimal n) bytes → ⊥)
-    → (IsTextOf ℕ IsNumber (λ n. codes "quantum " ++ decimal n) bytes → ⊥)
-    → (IsTextOf ℕ IsNumber (λ n. codes "large " ++ decimal n) bytes → ⊥)
-    → (IsTextOf (List ℕ) (λ x. is_name x ≡ true) (λ x. codes "task " ++ x) bytes → ⊥)
-    → (IsTextOf (List ℕ × List ℕ) (λ p. (is_register_word p.0 ≡ true) × IsValue p.1) (λ p. codes "set " ++ (p.0 ++ 32 ∷ encode_lower p.1)) bytes → ⊥)
-    → (IsTextOf (List ℕ) (λ x. is_register_word x ≡ true) (λ x. codes "get " ++ x) bytes → ⊥)
-    → (bytes ≡ codes "end" → ⊥)
-    → (l : Line) → IsLine l → bytes ≡ line_text l → ⊥
-no_line_of bytes version machine row cpus quantum large task set get last lines.Version fits e = version e
-no_line_of bytes version machine row cpus quantum large task set get last (lines.Machine named) fits e = machine (named, tt, e)
-no_line_of bytes version machine row cpus quantum large task set get last (lines.Row r) fits e = row (r, fits, e)
-no_line_of bytes version machine row cpus quantum large task set get last (lines.Cpus n) fits e = cpus (n, fits, e)
-no_line_of bytes version machine row cpus quantum large task set get last (lines.Quantum n) fits e = quantum (n, fits, e)
-no_line_of bytes version machine row cpus quantum large task set get last (lines.Large n) fits e = large (n, fits, e)
-no_line_of bytes version machine row cpus quantum large task set get last (lines.Task name) fits e = task (name, fits, e)
-no_line_of bytes version machine row cpus quantum large task set get last (lines.Order (commands.Set reg value)) fits e = set ((reg, value), (fits.0, (fits.1, fits.2)), e)
-no_line_of bytes version machine row cpus quantum large task set get last (lines.Order (commands.Get reg)) fits e = get (reg, fits, e)
-no_line_of bytes version machine row cpus quantum large task set get last lines.End fits e = last e
+-- the entries of a line of a schedule, each a number
+abbrev AreNumbers : List ℕ → Type 0
+AreNumbers entries = IsLine (lines.Sched entries)
 
--- the bytes are the text of a line, or of none
-line_or_none : (bytes : List ℕ) → IsDecided (IsTextOf Line IsLine line_text bytes)
-line_or_none bytes = elim (same_bytes bytes (codes "xstate 1")) [
-  | inl e ↦ inl (lines.Version, tt, e)
-  | inr version ↦ elim (word_and (codes "machine ") Named (λ named. Unit {0}) machine_name machine_or_none bytes) [
-    | inl h ↦ inl (lines.Machine h.0, tt, h.2)
-    | inr machine ↦ elim (word_and (codes "row ") Row (λ r. IsLine (lines.Row r)) row_text row_or_none bytes) [
-      | inl h ↦ inl (lines.Row h.0, h.1, h.2)
-      | inr row ↦ elim (word_and (codes "cpus ") ℕ IsNumber decimal number_or_none bytes) [
-        | inl h ↦ inl (lines.Cpus h.0, h.1, h.2)
-        | inr cpus ↦ elim (word_and (codes "quantum ") ℕ IsNumber decimal number_or_none bytes) [
-          | inl h ↦ inl (lines.Quantum h.0, h.1, h.2)
-          | inr quantum ↦ elim (word_and (codes "large ") ℕ IsNumber decimal number_or_none bytes) [
-            | inl h ↦ inl (lines.Large h.0, h.1, h.2)
-            | inr large ↦ elim (word_and (codes "task ") (List ℕ) (λ x. is_name x ≡ true) (λ x. x) (passing_or_not is_name) bytes) [
-              | inl h ↦ inl (lines.Task h.0, h.1, h.2)
-              | inr task ↦ elim (word_and (codes "set ") (List ℕ × List ℕ) (λ p. (is_register_word p.0 ≡ true) × IsValue p.1) (λ p. p.0 ++ 32 ∷ encode_lower p.1) set_or_none bytes) [
-                | inl h ↦ inl (lines.Order (commands.Set h.0.0 h.0.1), (h.1.0, h.1.1.0, h.1.1.1), h.2)
-                | inr set ↦ elim (word_and (codes "get ") (List ℕ) (λ x. is_register_word x ≡ true) (λ x. x) (passing_or_not is_register_word) bytes) [
-                  | inl h ↦ inl (lines.Order (commands.Get h.0), h.1, h.2)
-                  | inr get ↦ elim (same_bytes bytes (codes "end")) [
-                    | inl e ↦ inl (lines.End, tt, e)
-                    | inr last ↦ inr (λ h. no_line_of bytes version machine row cpus quantum large task set get last h.0 h.1 h.2)
-                  ]
-                ]
-              ]
-            ]
+-- the text of entries, or of none, in fewer bytes than the fuel
+entries_or_none : (fuel : ℕ) (bytes : List ℕ) → length bytes < fuel → IsDecided (IsTextOf (List ℕ) AreNumbers entries_text bytes)
+entries_or_none zero bytes room = absurd (omega arith)
+entries_or_none (suc fuel) [] room = inr (λ h. no_entry h.0 h.1.0 h.2)
+  where
+    no_entry : (entries : List ℕ) → 0 < length entries → [] ≡ entries_text entries → ⊥
+    no_entry [] some e = omega arith
+    no_entry (n ∷ entries) some e = cc e
+entries_or_none (suc fuel) (b ∷ bs) room = elim (cases_eq b 32) [
+  | inr other ↦ inr (λ h. no_space h.0 h.1.0 other h.2)
+  | inl space ↦ elim (cut_at 32 bs) [
+    | inr none ↦ elim (number_or_none bs) [
+      | inl n ↦ inl (n.0 ∷ [], (omega arith, (n.1, tt)), one_number_text b bs n.0 space n.2)
+      | inr other ↦ inr (λ h. last_entry h.0 h.1 none other h.2)
+    ]
+    | inl c ↦ elim (number_or_none c.0) [
+      | inr other ↦ inr (λ h. first_entry c.0 c.1 h.0 h.1 c.2 c.3 other h.2)
+      | inl n ↦
+          let long : length bs ≡ length c.0 + length (32 ∷ c.1) = ap length c.3 ∙ length-append c.0 (32 ∷ c.1) in
+          elim (entries_or_none fuel (32 ∷ c.1) (omega (arith, long))) [
+            | inl more ↦ inl (n.0 ∷ more.0, (omega arith, (n.1, more.1.1)), more_text c.0 c.1 n.0 more.0 space c.3 n.2 more.2)
+            | inr other ↦ inr (λ h. later_entry c.0 c.1 n.0 h.0 h.1 c.2 c.3 n.1 n.2 other h.2)
           ]
-        ]
-      ]
     ]
   ]
 ]
+  where
+    no_space : (entries : List ℕ) → 0 < length entries → (b ≡ 32 → ⊥) → b ∷ bs ≡ entries_text entries → ⊥
+    no_space [] some other e = omega arith
+    no_space (n ∷ entries) some other e = let here : b ≡ 32 = cc e in other here
+
+    one_number_text : (b : ℕ) (bs : List ℕ) (n : ℕ) → b ≡ 32 → bs ≡ decimal n → b ∷ bs ≡ entries_text (n ∷ [])
+    one_number_text b bs n space is = cc (space, is ∙ sym (append-nil (decimal n)))
+
+    tail_of : (n : ℕ) (entries : List ℕ) → b ∷ bs ≡ entries_text (n ∷ entries) → bs ≡ decimal n ++ entries_text entries
+    tail_of n entries e = cc e
+
+    last_entry : (entries : List ℕ) → AreNumbers entries → Lacks 32 bs → (IsTextOf ℕ IsNumber decimal bs → ⊥) → b ∷ bs ≡ entries_text entries → ⊥
+    last_entry [] fits none other e = let some = fits.0 in omega arith
+    last_entry (n ∷ []) fits none other e = other (n, fits.1.0, tail_of n [] e ∙ append-nil (decimal n))
+    last_entry (n ∷ (m ∷ entries)) fits none other e = no_cut 32 bs (decimal n) (decimal m ++ entries_text entries) none (tail_of n (m ∷ entries) e)
+
+    first_entry : (front rest entries : List ℕ) → AreNumbers entries → Lacks 32 front → bs ≡ front ++ 32 ∷ rest → (IsTextOf ℕ IsNumber decimal front → ⊥) → b ∷ bs ≡ entries_text entries → ⊥
+    first_entry front rest [] fits lacks cut other e = let some = fits.0 in omega arith
+    first_entry front rest (n ∷ []) fits lacks cut other e = no_cut 32 (decimal n) front rest (lacks_space n fits.1.0) (sym (append-nil (decimal n)) ∙ sym (tail_of n [] e) ∙ cut)
+    first_entry front rest (n ∷ (m ∷ entries)) fits lacks cut other e =
+        other (n, fits.1.0, (one_cut 32 front (decimal n) rest (decimal m ++ entries_text entries) lacks (lacks_space n fits.1.0) (sym cut ∙ tail_of n (m ∷ entries) e)).0)
+
+    later_entry : (front rest : List ℕ) (k : ℕ) (entries : List ℕ) → AreNumbers entries → Lacks 32 front → bs ≡ front ++ 32 ∷ rest → IsNumber k → front ≡ decimal k → (IsTextOf (List ℕ) AreNumbers entries_text (32 ∷ rest) → ⊥) → b ∷ bs ≡ entries_text entries → ⊥
+    later_entry front rest k [] fits lacks cut small is other e = let some = fits.0 in omega arith
+    later_entry front rest k (n ∷ []) fits lacks cut small is other e = no_cut 32 (decimal n) front rest (lacks_space n fits.1.0) (sym (append-nil (decimal n)) ∙ sym (tail_of n [] e) ∙ cut)
+    later_entry front rest k (n ∷ (m ∷ entries)) fits lacks cut small is other e =
+        let same = (one_cut 32 front (decimal n) rest (decimal m ++ entries_text entries) lacks (lacks_space n fits.1.0) (sym cut ∙ tail_of n (m ∷ entries) e)).1 in
+        other (m ∷ entries, (omega arith, fits.1.1), ap (λ (xs : List ℕ). 32 ∷ xs) same)
+
+    more_text : (front rest : List ℕ) (n : ℕ) (more : List ℕ) → b ≡ 32 → bs ≡ front ++ 32 ∷ rest → front ≡ decimal n → 32 ∷ rest ≡ entries_text more → b ∷ bs ≡ entries_text (n ∷ more)
+    more_text front rest n more space cut is text = cc (space, cut ∙ ap (λ (xs : List ℕ). xs ++ 32 ∷ rest) is ∙ ap (λ (xs : List ℕ). decimal n ++ xs) text)
+
+-- the text of one byte, or of none
+byte_or_none : (bytes : List ℕ) → IsDecided (IsTextOf ℕ (λ n. n < 256) (λ n. encode_lower (n ∷ [])) bytes)
+byte_or_none bytes = elim (some_below (λ n. bytes ≡ encode_lower (n ∷ [])) (λ n. same_bytes bytes (encode_lower (n ∷ []))) 256) [
+  | inl h ↦ inl (h.0, h.1, h.2)
+  | inr other ↦ inr (λ h. other (h.0, h.1, h.2))
+]
+
+-- what is decided by one thing or else by another
+or_else : (A B : Type 0) → IsDecided A → (A → B) → ((A → ⊥) → IsDecided B) → IsDecided B
+or_else A B (inl a) here later = inl (here a)
+or_else A B (inr other) here later = later other
+
+-- the bytes are of no form of a line
+record IsOther (bytes : List ℕ) : Type 0 where
+  version : bytes ≡ codes "xstate 1" → ⊥
+  machine : IsTextOf Named (λ named. Unit {0}) (λ named. codes "machine " ++ machine_name named) bytes → ⊥
+  row : IsTextOf Row (λ r. IsLine (lines.Row r)) (λ r. codes "row " ++ row_text r) bytes → ⊥
+  cpus : IsTextOf ℕ IsNumber (λ n. codes "cpus " ++ decimal n) bytes → ⊥
+  quantum : IsTextOf ℕ IsNumber (λ n. codes "quantum " ++ decimal n) bytes → ⊥
+  large : IsTextOf ℕ IsNumber (λ n. codes "large " ++ decimal n) bytes → ⊥
+  sched : IsTextOf (List ℕ) AreNumbers (λ x. codes "sched" ++ entries_text x) bytes → ⊥
+  task : IsTextOf (List ℕ) (λ x. is_name x ≡ true) (λ x. codes "task " ++ x) bytes → ⊥
+  kthread : IsTextOf (List ℕ) (λ x. is_name x ≡ true) (λ x. codes "kthread " ++ x) bytes → ⊥
+  set : IsTextOf (List ℕ × List ℕ) (λ p. (is_register_word p.0 ≡ true) × IsValue p.1) (λ p. codes "set " ++ (p.0 ++ 32 ∷ encode_lower p.1)) bytes → ⊥
+  get : IsTextOf (List ℕ) (λ x. is_register_word x ≡ true) (λ x. codes "get " ++ x) bytes → ⊥
+  ksec : IsTextOf ℕ (λ n. n < 256) (λ n. codes "ksec " ++ encode_lower (n ∷ [])) bytes → ⊥
+  yields : bytes ≡ codes "yield" → ⊥
+  last : bytes ≡ codes "end" → ⊥
+
+-- so they are the text of no line
+no_line_of : (bytes : List ℕ) → IsOther bytes → (l : Line) → IsLine l → bytes ≡ line_text l → ⊥
+no_line_of bytes o lines.Version fits e = o.version e
+no_line_of bytes o (lines.Machine named) fits e = o.machine (named, tt, e)
+no_line_of bytes o (lines.Row r) fits e = o.row (r, fits, e)
+no_line_of bytes o (lines.Cpus n) fits e = o.cpus (n, fits, e)
+no_line_of bytes o (lines.Quantum n) fits e = o.quantum (n, fits, e)
+no_line_of bytes o (lines.Large n) fits e = o.large (n, fits, e)
+no_line_of bytes o (lines.Sched entries) fits e = o.sched (entries, fits, e)
+no_line_of bytes o (lines.Begin blocks.Task name) fits e = o.task (name, fits.1, e)
+no_line_of bytes o (lines.Begin blocks.Child name) fits e = cc fits.0
+no_line_of bytes o (lines.Begin blocks.Kthread name) fits e = o.kthread (name, fits.1, e)
+no_line_of bytes o (lines.Order (commands.Set reg value)) fits e = o.set ((reg, value), (fits.0, (fits.1, fits.2)), e)
+no_line_of bytes o (lines.Order (commands.Get reg)) fits e = o.get (reg, fits, e)
+no_line_of bytes o (lines.Order (commands.Ksec byte)) fits e = o.ksec (byte, fits, e)
+no_line_of bytes o (lines.Order commands.Yield) fits e = o.yields e
+no_line_of bytes o (lines.Order other) fits e = absurd fits
+no_line_of bytes o lines.End fits e = o.last e
+
+-- the bytes are the text of a line, or of none
+line_or_none : (bytes : List ℕ) → IsDecided (IsTextOf Line IsLine line_text bytes)
+line_or_none bytes =
+    or_else _ _ (same_bytes bytes (codes "xstate 1")) (λ e. (lines.Version, tt, e)) (λ version.
+    or_else _ _ (word_and (codes "machine ") Named (λ named. Unit {0}) machine_name machine_or_none bytes) (λ h. (lines.Machine h.0, tt, h.2)) (λ machine.
+    or_else _ _ (word_and (codes "row ") Row (λ r. IsLine (lines.Row r)) row_text row_or_none bytes) (λ h. (lines.Row h.0, h.1, h.2)) (λ row.
+    or_else _ _ (word_and (codes "cpus ") ℕ IsNumber decimal number_or_none bytes) (λ h. (lines.Cpus h.0, h.1, h.2)) (λ cpus.
+    or_else _ _ (word_and (codes "quantum ") ℕ IsNumber decimal number_or_none bytes) (λ h. (lines.Quantum h.0, h.1, h.2)) (λ quantum.
+    or_else _ _ (word_and (codes "large ") ℕ IsNumber decimal number_or_none bytes) (λ h. (lines.Large h.0, h.1, h.2)) (λ large.
+    or_else _ _ (word_and (codes "sched") (List ℕ) AreNumbers entries_text (λ rest. entries_or_none (suc (length rest)) rest (omega arith)) bytes) (λ h. (lines.Sched h.0, h.1, h.2)) (λ sched.
+    or_else _ _ (word_and (codes "task ") (List ℕ) (λ x. is_name x ≡ true) (λ x. x) (passing_or_not is_name) bytes) (λ h. (lines.Begin blocks.Task h.0, (refl, h.1), h.2)) (λ task.
+    or_else _ _ (word_and (codes "kthread ") (List ℕ) (λ x. is_name x ≡ true) (λ x. x) (passing_or_not is_name) bytes) (λ h. (lines.Begin blocks.Kthread h.0, (refl, h.1), h.2)) (λ kthread.
+    or_else _ _ (word_and (codes "set ") (List ℕ × List ℕ) (λ p. (is_register_word p.0 ≡ true) × IsValue p.1) (λ p. p.0 ++ 32 ∷ encode_lower p.1) set_or_none bytes) (λ h. (lines.Order (commands.Set h.0.0 h.0.1), (h.1.0, h.1.1.0, h.1.1.1), h.2)) (λ set.
+    or_else _ _ (word_and (codes "get ") (List ℕ) (λ x. is_register_word x ≡ true) (λ x. x) (passing_or_not is_register_word) bytes) (λ h. (lines.Order (commands.Get h.0), h.1, h.2)) (λ get.
+    or_else _ _ (word_and (codes "ksec ") ℕ (λ n. n < 256) (λ n. encode_lower (n ∷ [])) byte_or_none bytes) (λ h. (lines.Order (commands.Ksec h.0), h.1, h.2)) (λ ksec.
+    or_else _ _ (same_bytes bytes (codes "yield")) (λ e. (lines.Order commands.Yield, tt, e)) (λ yields.
+    or_else _ _ (same_bytes bytes (codes "end")) (λ e. (lines.End, tt, e)) (λ last.
+    inr (λ h. no_line_of bytes (record { version = version; machine = machine; row = row; cpus = cpus; quantum = quantum; large = large; sched = sched; task = task; kthread = kthread; set = set; get = get; ksec = ksec; yields = yields; last = last }) h.0 h.1 h.2)))))))))))))))
   where
     set_or_none : (rest : List ℕ) → IsDecided (IsTextOf (List ℕ × List ℕ) (λ p. (is_register_word p.0 ≡ true) × IsValue p.1) (λ p. p.0 ++ 32 ∷ encode_lower p.1) rest)
     set_or_none = two_and (List ℕ) (List ℕ) (λ x. is_register_word x ≡ true) IsValue (λ x. x) encode_lower (λ x fits. Lacks-register 32 x refl fits) (passing_or_not is_register_word) value_or_none

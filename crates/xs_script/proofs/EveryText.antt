@@ -1,6 +1,6 @@
 -- Every text passes or is refused by a line, and lines that pass have known registers or a first command that fails.
 use Rattle.std.proofs.Common.{◌≡◌, ◌⊎◌, ℕ, zero, suc, ◌+◌, ◌<◌, ◌≤◌, ◌^◌, Bool, true, false, List, [], ◌∷◌, ◌++◌, length, Option, Some, None, Result, Ok, Err, inl, inr, refl, sym, ◌∙◌, ap, subst, arith, length-append}
-use Rattle.std.proofs.lemmas.List.{append_assoc, append-nil}
+use Rattle.std.proofs.lemmas.List.{append_assoc, append-nil, length-map}
 use Rattle.std.specs.List.{AllByRecursion, flat_map}
 use Rattle.xs_base.specs.declared.component.Row.{Row}
 use Rattle.xs_base.specs.declared.component.Place.{Place}
@@ -17,7 +17,7 @@ use Rattle.xs_script.specs.declared.line.Line.TheVariants as lines
 use Rattle.xs_script.specs.declared.refusal.Kind.{Kind}
 use Rattle.xs_script.specs.declared.refusal.Kind.TheVariants.{NotBuilt, BadLine, Layout, UnknownName}
 use Rattle.xs_script.specs.ScriptLine.{IsLine, IsCommandLine, line_text}
-use Rattle.xs_script.specs.Grammar.{lines_text, block_lines, row_lines, head_lines, script_lines, Spells}
+use Rattle.xs_script.specs.Grammar.{lines_text, block_lines, row_lines, head_lines, sched_lines, script_lines, Spells}
 use Rattle.xs_script.specs.LineOrder.{Stand, AtVersion, AtBlock, may_end, next}
 use Rattle.xs_script.specs.Body.{names_of}
 use Rattle.xs_script.specs.Refusal as refusals
@@ -28,8 +28,9 @@ use Rattle.xs_script.proofs.Decisions.{first_or_none}
 use Rattle.xs_script.proofs.Places.{place_or_none}
 use Rattle.xs_script.proofs.BodyLines.{all_push}
 use Rattle.xs_script.proofs.Numbering.{blocks_rise}
-use Rattle.xs_script.proofs.KnownLines.{all_parts, names_fit, blocks_known}
-use Rattle.xs_script.proofs.WholeScripts.{blocks_no_rows, no_rows_table, table_of_lines}
+use Rattle.xs_script.proofs.KnownLines.{all_parts, names_fit, kinds_built, plain_handlers, blocks_known}
+use Rattle.xs_script.proofs.EntryTests.{joined}
+use Rattle.xs_script.proofs.WholeScripts.{blocks_no_rows, sched_no_rows, no_rows_table, table_of_lines}
 use Rattle.xs_script.proofs.ReadScripts.{AreLater, IsMachine, blocks_read, script_read}
 
 -- ---- the first pass
@@ -103,17 +104,20 @@ module _ (A : Type 0) where
   -- A command is known or fails.
   known_or_fails : (rows : List Row) (command : Command) → IsCommandLine command → (IsKnownCommand rows command → A) → ((kind : Kind) → CommandFails rows command kind → A) → A
   known_or_fails rows (commands.Set reg bytes) fits known fails = elim (place_or_none rows reg) [
-    | inr none ↦ fails UnknownName (refusals.Unknown (commands.Set reg bytes) none)
+    | inr none ↦ fails UnknownName (refusals.Unknown (commands.Set reg bytes) reg refl none)
     | inl p ↦
-        step_place rows (commands.Set reg bytes) p.0 (is_built p.0) refl fails (refusals.Unbuilt (commands.Set reg bytes) p.0 p.1) (λ built.
+        step_place rows (commands.Set reg bytes) p.0 (is_built p.0) refl fails (refusals.Unbuilt (commands.Set reg bytes) reg p.0 refl p.1) (λ built.
         step_value rows reg bytes p.0 (fits_register p.0 bytes) refl p.1 built fits.2 known fails)
   ]
   known_or_fails rows (commands.Get reg) fits known fails = elim (place_or_none rows reg) [
-    | inr none ↦ fails UnknownName (refusals.Unknown (commands.Get reg) none)
+    | inr none ↦ fails UnknownName (refusals.Unknown (commands.Get reg) reg refl none)
     | inl p ↦
-        step_place rows (commands.Get reg) p.0 (is_built p.0) refl fails (refusals.Unbuilt (commands.Get reg) p.0 p.1) (λ built.
+        step_place rows (commands.Get reg) p.0 (is_built p.0) refl fails (refusals.Unbuilt (commands.Get reg) reg p.0 refl p.1) (λ built.
         known ((p.0, p.1), (p.0, p.1.0, built)))
   ]
+  known_or_fails rows (commands.Ksec byte) fits known fails = known (fits, tt)
+  known_or_fails rows commands.Yield fits known fails = known (tt, tt)
+  known_or_fails rows other fits known fails = absurd fits
 
   -- so a line is known, or is a command that fails
   line_known_or_fails : (rows : List Row) (l : Line) → IsLine l → (IsKnown rows l → A) → ((command : Command) (kind : Kind) → l ≡ lines.Order command → CommandFails rows command kind → A) → A
@@ -123,7 +127,8 @@ module _ (A : Type 0) where
   line_known_or_fails rows (lines.Cpus n) fits known fails = known tt
   line_known_or_fails rows (lines.Quantum n) fits known fails = known tt
   line_known_or_fails rows (lines.Large n) fits known fails = known tt
-  line_known_or_fails rows (lines.Task name) fits known fails = known tt
+  line_known_or_fails rows (lines.Sched entries) fits known fails = known tt
+  line_known_or_fails rows (lines.Begin kind name) fits known fails = known tt
   line_known_or_fails rows (lines.Order command) fits known fails = known_or_fails rows command fits known (λ kind f. fails command kind refl f)
   line_known_or_fails rows lines.End fits known fails = known tt
 
@@ -149,19 +154,24 @@ lines_short (l ∷ ls) =
     let both : length (lines_text (l ∷ ls)) ≡ length (line_text l ++ 10 ∷ []) + length (lines_text ls) = length-append (line_text l ++ 10 ∷ []) (lines_text ls) in
     omega (arith, first, both, lines_short ls)
 
--- a script of one processor
-abbrev script_of : Named → List Row → ℕ → ℕ → List Block → Script
-script_of machine layout quantum large blocks = record { machine = machine; layout = layout; cpus = 1; quantum = quantum; large = large; sched = []; blocks = blocks }
+-- the script of these numbers
+abbrev script_of : Named → List Row → ℕ → ℕ → ℕ → List ℕ → List Block → Script
+script_of machine layout cpus quantum large sched blocks = record { machine = machine; layout = layout; cpus = cpus; quantum = quantum; large = large; sched = sched; blocks = blocks }
 
--- the lines before the blocks
+-- the script of a machine and its schedule, with these blocks
+abbrev whole_of : (ls : List Line) (end : Stand) → IsMachine ls end → List Block → Script
+whole_of ls end m blocks = script_of m.machine m.layout m.numbers.cpus m.numbers.quantum m.numbers.large (joined m.numbers.sched.groups) blocks
+
+-- the lines before the schedule
 abbrev front_of : (ls : List Line) (end : Stand) → IsMachine ls end → List Line
-front_of ls end m = head_lines (script_of m.machine m.layout m.numbers.quantum m.numbers.large [])
+front_of ls end m = head_lines (whole_of ls end m [])
 
-front_split : (ls : List Line) (end : Stand) (m : IsMachine ls end) → ls ≡ front_of ls end m ++ m.numbers.later
+front_split : (ls : List Line) (end : Stand) (m : IsMachine ls end) → ls ≡ front_of ls end m ++ (sched_lines m.numbers.sched.groups ++ m.numbers.sched.later)
 front_split ls end m =
     m.split
     ∙ ap (λ (xs : List Line). lines.Version ∷ lines.Machine m.machine ∷ (row_lines m.machine m.layout ++ xs)) m.numbers.split
-    ∙ ap (λ (xs : List Line). lines.Version ∷ lines.Machine m.machine ∷ xs) (sym (append_assoc (row_lines m.machine m.layout) (lines.Cpus 1 ∷ lines.Quantum m.numbers.quantum ∷ lines.Large m.numbers.large ∷ []) m.numbers.later))
+    ∙ ap (λ (xs : List Line). lines.Version ∷ lines.Machine m.machine ∷ xs) (sym (append_assoc (row_lines m.machine m.layout) (lines.Cpus m.numbers.cpus ∷ lines.Quantum m.numbers.quantum ∷ lines.Large m.numbers.large ∷ []) m.numbers.after))
+    ∙ ap (λ (xs : List Line). front_of ls end m ++ xs) m.numbers.sched.split
 
 some_block : (blocks : List Block) (end : Stand) → end ≡ AtBlock (names_of blocks) → may_end end ≡ true → 0 < length blocks
 some_block [] end e h = cc (sym h ∙ ap may_end e)
@@ -170,31 +180,45 @@ some_block (b ∷ blocks) end e h = omega arith
 few_blocks : (blocks : List Block) (end : Stand) → AreLater [] blocks end → length blocks ≤ 64
 few_blocks blocks end h = let few = h.few (omega arith) in omega (arith, few)
 
--- A text that passes spells the script of its machine and its blocks, where the lines are known.
-blocks_spell : (text : List ℕ) (ls : List Line) (p : Passes text ls) (m : IsMachine ls p.stand) (blocks : List Block) → m.numbers.later ≡ flat_map block_lines blocks → AreBlocksNumbered (length (front_of ls p.stand m) + 1) blocks → AreLater [] blocks p.stand → AllByRecursion (IsKnown (table_of ls)) ls → Spells text (script_of m.machine m.layout m.numbers.quantum m.numbers.large blocks)
+-- each line of a schedule has an entry
+groups_some : (groups : List (List ℕ)) → AreLines (sched_lines groups) → AllByRecursion (λ group. 0 < length group) groups
+groups_some [] h = tt
+groups_some (g ∷ groups) h = (h.0.0, groups_some groups h.1)
+
+-- A text that passes spells the script of its machine, its schedule and its blocks, where the lines are known.
+blocks_spell : (text : List ℕ) (ls : List Line) (p : Passes text ls) (m : IsMachine ls p.stand) (blocks : List Block) → m.numbers.sched.later ≡ flat_map block_lines blocks → AreBlocksNumbered (length (front_of ls p.stand m) + length m.numbers.sched.groups + 1) blocks → AreLater [] blocks p.stand → AllByRecursion (IsKnown (table_of ls)) ls → Spells text (whole_of ls p.stand m blocks)
 blocks_spell text ls p m blocks is numbered h known =
-    let script = script_of m.machine m.layout m.numbers.quantum m.numbers.large blocks in
+    let script = whole_of ls p.stand m blocks in
     let front = front_of ls p.stand m in
-    let lines_are : ls ≡ script_lines script = front_split ls p.stand m ∙ ap (λ (xs : List Line). front ++ xs) is in
-    let table : table_of ls ≡ m.layout = ap table_of lines_are ∙ table_of_lines script (flat_map block_lines blocks) m.is_table (no_rows_table (flat_map block_lines blocks) (blocks_no_rows blocks)) in
+    let groups = m.numbers.sched.groups in
+    let later = sched_lines groups ++ flat_map block_lines blocks in
+    let lines_are : ls ≡ script_lines script groups = front_split ls p.stand m ∙ ap (λ (xs : List Line). front ++ (sched_lines groups ++ xs)) is in
+    let table : table_of ls ≡ m.layout = ap table_of lines_are ∙ table_of_lines script later m.is_table (no_rows_table later (sched_no_rows groups (flat_map block_lines blocks) (blocks_no_rows blocks))) in
     let all = subst (λ (xs : List Line). AllByRecursion (IsKnown m.layout) xs) lines_are (subst (λ (rows : List Row). AllByRecursion (IsKnown rows) ls) table known) in
-    let commands = blocks_known m.layout blocks (all_parts (IsKnown m.layout) front (flat_map block_lines blocks) all).1 in
-    let fit = all_parts IsLine front (flat_map block_lines blocks) (subst AreLines lines_are p.lines_fit) in
+    let later_known = (all_parts (IsKnown m.layout) front later all).1 in
+    let commands = blocks_known m.layout blocks h.plain (all_parts (IsKnown m.layout) (sched_lines groups) (flat_map block_lines blocks) later_known).1 in
+    let later_fits = (all_parts IsLine front later (subst AreLines lines_are p.lines_fit)).1 in
+    let fit = all_parts IsLine (sched_lines groups) (flat_map block_lines blocks) later_fits in
+    let handlers = plain_handlers blocks h.plain in
     record {
       valid = record {
         layout = m.layout_fits;
         machine = m.is_table;
-        cpus = (omega arith, omega arith);
+        cpus = m.numbers.cpus_fits;
         quantum = m.numbers.quantum_fits;
         large = m.numbers.large_fits;
+        entries = m.numbers.sched.below;
+        schedule = omega (arith, m.numbers.sched.few);
         some = some_block blocks p.stand h.ends p.whole;
         few = few_blocks blocks p.stand h;
         names = names_fit blocks fit.1;
         distinct = h.distinct tt;
-        rising = blocks_rise 0 (length front + 1) blocks (omega arith) numbered;
-        commands = commands.0;
+        rising = blocks_rise 0 (length front + length groups + 1) blocks (omega arith) handlers numbered;
+        bodies = commands.0;
       };
-      built = record { one = refl; unscheduled = refl; tasks = h.tasks; registers = commands.1 };
+      built = record { kinds = kinds_built blocks fit.1 handlers; commands = commands.1 };
+      groups = groups;
+      grouped = record { some = groups_some groups fit.0; joined = refl };
       numbered = numbered;
       spelled = p.spelled ∙ ap lines_text lines_are;
     }
@@ -202,10 +226,14 @@ blocks_spell text ls p m blocks is numbered h known =
 machine_spells : (text : List ℕ) (ls : List Line) → length text ≤ 1048576 → (p : Passes text ls) → IsMachine ls p.stand → AllByRecursion (IsKnown (table_of ls)) ls → (script : Script) × Spells text script
 machine_spells text ls short p m known =
     let few : length ls ≤ length text = rw p.spelled (lines_short ls) in
-    let long : length ls ≡ length (front_of ls p.stand m) + length m.numbers.later = ap length (front_split ls p.stand m) ∙ length-append (front_of ls p.stand m) m.numbers.later in
-    let room : length (front_of ls p.stand m) + 1 + length m.numbers.later < 2 ^ 32 = omega (arith, short, few, long) in
-    let (blocks, is, numbered, h) = blocks_read (AtBlock []) m.numbers.later p.stand (length (front_of ls p.stand m) + 1) room m.numbers.leads p.whole in
-    (script_of m.machine m.layout m.numbers.quantum m.numbers.large blocks, blocks_spell text ls p m blocks is numbered h known)
+    let sched = m.numbers.sched in
+    let front = front_of ls p.stand m in
+    let long : length ls ≡ length front + length (sched_lines sched.groups ++ sched.later) = ap length (front_split ls p.stand m) ∙ length-append front (sched_lines sched.groups ++ sched.later) in
+    let parts : length (sched_lines sched.groups ++ sched.later) ≡ length (sched_lines sched.groups) + length sched.later = length-append (sched_lines sched.groups) sched.later in
+    let groups : length (sched_lines sched.groups) ≡ length sched.groups = length-map sched.groups lines.Sched in
+    let room : length front + length sched.groups + 1 + length sched.later < 2 ^ 32 = omega (arith, short, few, long, parts, groups) in
+    let (blocks, is, numbered, h) = blocks_read (AtBlock []) sched.later p.stand (length front + length sched.groups + 1) room sched.leads p.whole in
+    (whole_of ls p.stand m blocks, blocks_spell text ls p m blocks is numbered h known)
 
 -- Such a text spells a script.
 known_spells : (text : List ℕ) (ls : List Line) → length text ≤ 1048576 → Passes text ls → AllByRecursion (IsKnown (table_of ls)) ls → (script : Script) × Spells text script

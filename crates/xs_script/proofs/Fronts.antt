@@ -1,17 +1,20 @@
 -- The front of a text: its lines so far, and one line more.
-use Rattle.std.proofs.Common.{◌≡◌, ℕ, ◌+◌, false, List, [], ◌∷◌, ◌++◌, length, Ok, refl, sym, ◌∙◌, ap, subst, arith, length-append}
+use Rattle.std.proofs.Common.{◌≡◌, ℕ, ◌+◌, false, List, [], ◌∷◌, ◌++◌, length, Ok, Err, inl, inr, refl, sym, ◌∙◌, ap, subst, arith, length-append}
 use Rattle.std.proofs.lemmas.List.{append_assoc}
 use Rattle.std.proofs.lemmas.List.Concat.{flat_map-append}
 use Rattle.std.specs.List.{AllByRecursion}
 use Rattle.xs_script.specs.declared.line.Line.{Line}
+use Rattle.xs_script.specs.declared.line.Line.TheVariants as lines
 use Rattle.xs_script.specs.declared.refusal.Kind.{Kind}
 use Rattle.xs_script.specs.declared.refusal.Kind.TheVariants.{BadLine}
 use Rattle.xs_script.specs.ScriptLine.{line_text, IsLine}
 use Rattle.xs_script.specs.Grammar.{lines_text}
-use Rattle.xs_script.specs.LineOrder.{Stand, next, may_end, Leads}
-use Rattle.xs_script.specs.Refusal.{NoLine, LineFails, Early, Misspelled, is_unbuilt, Fails}
+use Rattle.xs_script.specs.LineOrder.{Stand, AtVersion, AtMachine, AtRow, AtCpus, AtQuantum, AtLarge, AtSched, AtBlock, InBlock, takes_sched, next, may_end, Leads}
+use Rattle.xs_script.specs.Refusal.{NoLine, LineFails, Early, Misspelled, Misplaced, is_unbuilt, Fails}
 use Rattle.xs_script.specs.declared.refusal.ScriptError.{ScriptError}
 use Rattle.xs_script.specs.declared.refusal.ScriptError.TheVariants as errors
+use Rattle.xs_script.specs.Parts.{NoPlainLine}
+use Rattle.xs_script.proofs.Decisions.{first_or_none}
 use Rattle.xs_script.specs.Front.{IsFront, RefusesFrom, ExplainsFrom, ExplainsLine}
 
 -- a text's first line, and the text after it
@@ -73,9 +76,40 @@ front_refuses from mid first text left ls number kind f r =
     }
 
 -- a text that is no line fails
-pub no_line_fails : (stand : Stand) (text : List ℕ) → (text ≡ [] → may_end stand ≡ false) → is_unbuilt text ≡ false → NoLine text → LineFails stand text BadLine
+no_line_fails : (stand : Stand) (text : List ℕ) → (text ≡ [] → may_end stand ≡ false) → is_unbuilt text ≡ false → NoLine text → LineFails stand text BadLine
 no_line_fails stand [] early built none = Early refl (early refl)
 no_line_fails stand (b ∷ bs) early built none = Misspelled (λ e. cc e) built none
+
+-- where no schedule may stand, a line of one is a bad line
+sched_fails : (stand : Stand) (entries : List ℕ) → takes_sched stand ≡ false → next stand (lines.Sched entries) ≡ Err BadLine
+sched_fails AtVersion entries h = refl
+sched_fails AtMachine entries h = refl
+sched_fails (AtRow rows) entries h = refl
+sched_fails AtCpus entries h = refl
+sched_fails (AtQuantum cpus) entries h = refl
+sched_fails (AtLarge cpus) entries h = refl
+sched_fails (AtSched cpus count) entries h = cc h
+sched_fails (AtBlock names) entries h = refl
+sched_fails (InBlock kind names) entries h = refl
+
+line_misplaced : (stand : Stand) (text : List ℕ) (l : Line) (rest : List ℕ) → takes_sched stand ≡ false → is_unbuilt text ≡ false → NoPlainLine text → IsLine l → text ≡ line_text l ++ 10 ∷ rest → LineFails stand text BadLine
+line_misplaced stand text (lines.Sched entries) rest other built none fits e = Misplaced (lines.Sched entries) rest BadLine built fits e (sched_fails stand entries other)
+line_misplaced stand text lines.Version rest other built none fits e = absurd (none lines.Version rest fits e)
+line_misplaced stand text (lines.Machine named) rest other built none fits e = absurd (none (lines.Machine named) rest fits e)
+line_misplaced stand text (lines.Row r) rest other built none fits e = absurd (none (lines.Row r) rest fits e)
+line_misplaced stand text (lines.Cpus n) rest other built none fits e = absurd (none (lines.Cpus n) rest fits e)
+line_misplaced stand text (lines.Quantum n) rest other built none fits e = absurd (none (lines.Quantum n) rest fits e)
+line_misplaced stand text (lines.Large n) rest other built none fits e = absurd (none (lines.Large n) rest fits e)
+line_misplaced stand text (lines.Begin kind name) rest other built none fits e = absurd (none (lines.Begin kind name) rest fits e)
+line_misplaced stand text (lines.Order command) rest other built none fits e = absurd (none (lines.Order command) rest fits e)
+line_misplaced stand text lines.End rest other built none fits e = absurd (none lines.End rest fits e)
+
+-- a text whose first line is at most one of a schedule fails where none may stand
+pub no_plain_fails : (stand : Stand) (text : List ℕ) → takes_sched stand ≡ false → (text ≡ [] → may_end stand ≡ false) → is_unbuilt text ≡ false → NoPlainLine text → LineFails stand text BadLine
+no_plain_fails stand text other early built none = elim (first_or_none text) [
+  | inl h ↦ line_misplaced stand text h.0 h.1 other built none h.2 h.3
+  | inr neither ↦ no_line_fails stand text early built neither
+]
 
 -- a refusal of the line after a front
 pub line_explains : (from mid : Stand) (first number : ℕ) (text left : List ℕ) (ls : List Line) (e : ScriptError) → IsFront from text ls mid left → number ≡ first + length ls → ExplainsLine mid number left e → ExplainsFrom from first text e

@@ -1,14 +1,20 @@
 -- What is kept of a line leads where the line leads.
-use Rattle.std.proofs.Common.{◌≡◌, ◌++◌, List, [], ◌∷◌, Option, Some, None, Ok, refl, ◌∙◌, ap}
+use Rattle.std.proofs.Common.{◌≡◌, ℕ, Bool, ◌++◌, List, [], ◌∷◌, Option, Some, None, Ok, Err, refl, ◌∙◌, ap}
+use Rattle.std.specs.Prelude.{if◌then◌else◌}
 use Rattle.xs_base.specs.declared.component.Row.{Row}
 use Rattle.xs_base.specs.declared.layout_error.LayoutError.{LayoutError}
 use Rattle.xs_base.specs.Layout.{row_error}
+use Rattle.xs_model.specs.declared.script.BlockKind.{BlockKind}
+use Rattle.xs_model.specs.declared.script.BlockKind.TheVariants as blocks
+use Rattle.xs_model.specs.declared.script.Command.{Command}
+use Rattle.xs_model.specs.declared.script.Command.TheVariants as commands
 use Rattle.xs_script.specs.declared.line.Line.{Line}
 use Rattle.xs_script.specs.declared.line.Line.TheVariants as lines
+use Rattle.xs_script.specs.declared.refusal.Kind.TheVariants.{BadLine}
 use Rattle.xs_script.specs.declared.head.Stage.{Stage}
 use Rattle.xs_script.specs.declared.head.Stage.TheVariants as stages
-use Rattle.xs_script.specs.ScriptLine.{kept_line, kept_row}
-use Rattle.xs_script.specs.LineOrder.{Stand, AtVersion, AtMachine, AtRow, AtCpus, AtQuantum, AtLarge, AtBlock, InBlock, next, after_row}
+use Rattle.xs_script.specs.ScriptLine.{kept_line, kept_row, kept_command}
+use Rattle.xs_script.specs.LineOrder.{Stand, AtVersion, AtMachine, AtRow, AtCpus, AtQuantum, AtLarge, AtSched, AtBlock, InBlock, may_have, after_order, next, after_row}
 use Rattle.xs_script.specs.Head.{stage_stand}
 use Rattle.xs_script.proofs.Kept.{kept_row_error, kept_row_is}
 
@@ -22,6 +28,17 @@ kept_next_row rows r =
     ap (λ (e : Option LayoutError). after_row rows (kept_row r) e) (kept_row_error rows r)
     ∙ same_row_test rows r (kept_row r) (row_error rows r) (λ e. kept_row_is rows r e)
 
+-- what is kept of a command stands where the command may
+kept_may_have : (kind : BlockKind) (command : Command) → may_have kind (kept_command command) ≡ may_have kind command
+kept_may_have blocks.Task command = refl
+kept_may_have blocks.Child command = refl
+kept_may_have blocks.Kthread (commands.Set reg bytes) = refl
+kept_may_have blocks.Kthread (commands.Get reg) = refl
+kept_may_have blocks.Kthread other = refl
+
+kept_order : (kind : BlockKind) (names : List (List ℕ)) (command : Command) → after_order kind names (kept_command command) ≡ after_order kind names command
+kept_order kind names command = ap (λ (t : Bool). if t then Ok (InBlock kind names) else Err BadLine) (kept_may_have kind command)
+
 pub kept_next : (stand : Stand) (l : Line) → next stand (kept_line l) ≡ next stand l
 kept_next stand lines.Version = refl
 kept_next stand (lines.Machine named) = refl
@@ -29,22 +46,25 @@ kept_next AtVersion (lines.Row r) = refl
 kept_next AtMachine (lines.Row r) = refl
 kept_next (AtRow rows) (lines.Row r) = kept_next_row rows r
 kept_next AtCpus (lines.Row r) = refl
-kept_next AtQuantum (lines.Row r) = refl
-kept_next AtLarge (lines.Row r) = refl
+kept_next (AtQuantum cpus) (lines.Row r) = refl
+kept_next (AtLarge cpus) (lines.Row r) = refl
+kept_next (AtSched cpus count) (lines.Row r) = refl
 kept_next (AtBlock names) (lines.Row r) = refl
-kept_next (InBlock names) (lines.Row r) = refl
+kept_next (InBlock kind names) (lines.Row r) = refl
 kept_next stand (lines.Cpus n) = refl
 kept_next stand (lines.Quantum n) = refl
 kept_next stand (lines.Large n) = refl
-kept_next stand (lines.Task name) = refl
+kept_next stand (lines.Sched entries) = refl
+kept_next stand (lines.Begin kind name) = refl
 kept_next AtVersion (lines.Order command) = refl
 kept_next AtMachine (lines.Order command) = refl
 kept_next (AtRow rows) (lines.Order command) = refl
 kept_next AtCpus (lines.Order command) = refl
-kept_next AtQuantum (lines.Order command) = refl
-kept_next AtLarge (lines.Order command) = refl
+kept_next (AtQuantum cpus) (lines.Order command) = refl
+kept_next (AtLarge cpus) (lines.Order command) = refl
+kept_next (AtSched cpus count) (lines.Order command) = refl
 kept_next (AtBlock names) (lines.Order command) = refl
-kept_next (InBlock names) (lines.Order command) = refl
+kept_next (InBlock kind names) (lines.Order command) = kept_order kind names command
 kept_next stand lines.End = refl
 
 -- a row that leads on is kept
@@ -52,26 +72,27 @@ row_is_kept : (rows : List Row) (r : Row) (mid : Stand) (e : Option LayoutError)
 row_is_kept rows r mid None is h = kept_row_is rows r is
 row_is_kept rows r mid (Some error) is h = absurd (cc h)
 
--- Before the blocks a line that leads on is kept whole.
-pub kept_of_head : (stage : Stage) (rows : List Row) (l : Line) (mid : Stand) → next (stage_stand stage rows) l ≡ Ok mid → kept_line l ≡ l
-kept_of_head stage rows lines.Version mid h = refl
-kept_of_head stage rows (lines.Machine named) mid h = refl
-kept_of_head stages.Version rows (lines.Row r) mid h = absurd (cc h)
-kept_of_head stages.Machine rows (lines.Row r) mid h = absurd (cc h)
-kept_of_head stages.Row rows (lines.Row r) mid h = ap lines.Row (row_is_kept rows r mid (row_error rows r) refl h)
-kept_of_head stages.Cpus rows (lines.Row r) mid h = absurd (cc h)
-kept_of_head stages.Quantum rows (lines.Row r) mid h = absurd (cc h)
-kept_of_head stages.Large rows (lines.Row r) mid h = absurd (cc h)
-kept_of_head stages.Block rows (lines.Row r) mid h = absurd (cc h)
-kept_of_head stage rows (lines.Cpus n) mid h = refl
-kept_of_head stage rows (lines.Quantum n) mid h = refl
-kept_of_head stage rows (lines.Large n) mid h = refl
-kept_of_head stage rows (lines.Task name) mid h = refl
-kept_of_head stages.Version rows (lines.Order command) mid h = absurd (cc h)
-kept_of_head stages.Machine rows (lines.Order command) mid h = absurd (cc h)
-kept_of_head stages.Row rows (lines.Order command) mid h = absurd (cc h)
-kept_of_head stages.Cpus rows (lines.Order command) mid h = absurd (cc h)
-kept_of_head stages.Quantum rows (lines.Order command) mid h = absurd (cc h)
-kept_of_head stages.Large rows (lines.Order command) mid h = absurd (cc h)
-kept_of_head stages.Block rows (lines.Order command) mid h = absurd (cc h)
-kept_of_head stage rows lines.End mid h = refl
+-- Before the schedule a line that leads on is kept whole.
+pub kept_of_head : (stage : Stage) (rows : List Row) (cpus : ℕ) (l : Line) (mid : Stand) → next (stage_stand stage rows cpus) l ≡ Ok mid → kept_line l ≡ l
+kept_of_head stage rows cpus lines.Version mid h = refl
+kept_of_head stage rows cpus (lines.Machine named) mid h = refl
+kept_of_head stages.Version rows cpus (lines.Row r) mid h = absurd (cc h)
+kept_of_head stages.Machine rows cpus (lines.Row r) mid h = absurd (cc h)
+kept_of_head stages.Row rows cpus (lines.Row r) mid h = ap lines.Row (row_is_kept rows r mid (row_error rows r) refl h)
+kept_of_head stages.Cpus rows cpus (lines.Row r) mid h = absurd (cc h)
+kept_of_head stages.Quantum rows cpus (lines.Row r) mid h = absurd (cc h)
+kept_of_head stages.Large rows cpus (lines.Row r) mid h = absurd (cc h)
+kept_of_head stages.Sched rows cpus (lines.Row r) mid h = absurd (cc h)
+kept_of_head stage rows cpus (lines.Cpus n) mid h = refl
+kept_of_head stage rows cpus (lines.Quantum n) mid h = refl
+kept_of_head stage rows cpus (lines.Large n) mid h = refl
+kept_of_head stage rows cpus (lines.Sched entries) mid h = refl
+kept_of_head stage rows cpus (lines.Begin kind name) mid h = refl
+kept_of_head stages.Version rows cpus (lines.Order command) mid h = absurd (cc h)
+kept_of_head stages.Machine rows cpus (lines.Order command) mid h = absurd (cc h)
+kept_of_head stages.Row rows cpus (lines.Order command) mid h = absurd (cc h)
+kept_of_head stages.Cpus rows cpus (lines.Order command) mid h = absurd (cc h)
+kept_of_head stages.Quantum rows cpus (lines.Order command) mid h = absurd (cc h)
+kept_of_head stages.Large rows cpus (lines.Order command) mid h = absurd (cc h)
+kept_of_head stages.Sched rows cpus (lines.Order command) mid h = absurd (cc h)
+kept_of_head stage rows cpus lines.End mid h = refl

@@ -3,6 +3,8 @@ pub mod Numbers
 pub mod Cuts
 pub mod Lanes
 pub mod HexText
+pub mod Entries
+pub mod EntryTests
 pub mod Spellings
 pub mod FirstLines
 pub mod FirstWords
@@ -12,8 +14,9 @@ pub mod Fronts
 pub mod KeptOrder
 pub mod HeadSteps
 pub mod Readings
-pub mod Unbuilt
 pub mod BodyLines
+pub mod ScheduleLines
+pub mod ScheduleWords
 pub mod CommandFaults
 pub mod KnownLines
 pub mod Outlines

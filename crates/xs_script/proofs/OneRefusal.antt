@@ -7,6 +7,7 @@ use Rattle.xs_base.specs.declared.component.Row.{Row}
 use Rattle.xs_base.specs.declared.component.Place.{Place}
 use Rattle.xs_base.specs.declared.layout_error.LayoutError.{LayoutError}
 use Rattle.xs_base.specs.Layout.{table_error}
+use Rattle.xs_base.specs.Register.{IsNamed, IsRegister}
 use Rattle.xs_base.proofs.Registers.{one_place}
 use Rattle.xs_model.specs.declared.script.Command.{Command}
 use Rattle.xs_model.specs.declared.script.Command.TheVariants as commands
@@ -16,8 +17,8 @@ use Rattle.xs_script.specs.declared.line.Line.TheVariants as lines
 use Rattle.xs_script.specs.declared.refusal.Kind.{Kind}
 use Rattle.xs_script.specs.ScriptLine.{line_text, IsLine}
 use Rattle.xs_script.specs.Grammar.{lines_text}
-use Rattle.xs_script.specs.LineOrder.{Stand, AtVersion, AtMachine, AtRow, AtCpus, AtQuantum, AtLarge, AtBlock, InBlock, next, may_end, after_rows, Leads}
-use Rattle.xs_script.specs.Refusal.{AreLines, first_word, is_unbuilt, unbuilt_words, unbuilt_cpus, table_fault, LineFails, Early, Unbuilt, Misspelled, Misplaced, Fails, Table, Here, RefusesLine, Passes, table_of, IsKnown, IsKnownCommand, CommandFails, RefusesCommand, Refuses, ByLine, ByCommand}
+use Rattle.xs_script.specs.LineOrder.{Stand, AtVersion, AtMachine, AtRow, AtCpus, AtQuantum, AtLarge, AtSched, AtBlock, InBlock, next, may_end, after_rows, Leads}
+use Rattle.xs_script.specs.Refusal.{AreLines, first_word, is_unbuilt, unbuilt_words, table_fault, LineFails, Early, Unbuilt, Misspelled, Misplaced, Fails, Table, Here, RefusesLine, Passes, table_of, IsKnown, IsKnownCommand, register_of, CommandFails, RefusesCommand, Refuses, ByLine, ByCommand}
 use Rattle.xs_script.specs.Refusal as refusals
 use Rattle.xs_script.proofs.FirstLines.{row_begins, not_unbuilt, is_row_line}
 use Rattle.xs_script.proofs.Spellings.{one_first_line}
@@ -35,7 +36,7 @@ not_over l text rest e none = some (line_text l) rest (sym e ∙ none)
 
 -- a text that is over is of no form that isn't built
 pub none_unbuilt : is_unbuilt [] ≡ false
-unfolding unbuilt_words unbuilt_cpus
+unfolding unbuilt_words
 none_unbuilt = refl
 
 over_is_built : (text : List ℕ) → text ≡ [] → is_unbuilt text ≡ true → ⊥
@@ -55,7 +56,8 @@ rows_no_fault rows mid (lines.Row r) text word leads = rw word refl
 rows_no_fault rows mid (lines.Cpus n) text word leads = rw word (leads_after_rows n (table_error rows) mid leads)
 rows_no_fault rows mid (lines.Quantum n) text word leads = absurd (cc leads)
 rows_no_fault rows mid (lines.Large n) text word leads = absurd (cc leads)
-rows_no_fault rows mid (lines.Task name) text word leads = absurd (cc leads)
+rows_no_fault rows mid (lines.Sched entries) text word leads = absurd (cc leads)
+rows_no_fault rows mid (lines.Begin kind name) text word leads = absurd (cc leads)
 rows_no_fault rows mid (lines.Order command) text word leads = absurd (cc leads)
 rows_no_fault rows mid lines.End text word leads = absurd (cc leads)
 
@@ -64,15 +66,16 @@ no_fault AtVersion mid l text rest fits e leads = refl
 no_fault AtMachine mid l text rest fits e leads = refl
 no_fault (AtRow rows) mid l text rest fits e leads = rows_no_fault rows mid l text (row_begins l text rest fits e) leads
 no_fault AtCpus mid l text rest fits e leads = refl
-no_fault AtQuantum mid l text rest fits e leads = refl
-no_fault AtLarge mid l text rest fits e leads = refl
+no_fault (AtQuantum cpus) mid l text rest fits e leads = refl
+no_fault (AtLarge cpus) mid l text rest fits e leads = refl
+no_fault (AtSched cpus count) mid l text rest fits e leads = refl
 no_fault (AtBlock names) mid l text rest fits e leads = refl
-no_fault (InBlock names) mid l text rest fits e leads = refl
+no_fault (InBlock kind names) mid l text rest fits e leads = refl
 
 -- a line that leads on doesn't fail
 leads_not_line : (stand mid : Stand) (l : Line) (text rest : List ℕ) (kind : Kind) → IsLine l → text ≡ line_text l ++ 10 ∷ rest → next stand l ≡ Ok mid → LineFails stand text kind → ⊥
 leads_not_line stand mid l text rest _ fits e leads (Early none early) = not_over l text rest e none
-leads_not_line stand mid l text rest _ fits e leads (Unbuilt t) = cc (sym (not_unbuilt stand mid l text rest fits e leads) ∙ t)
+leads_not_line stand mid l text rest _ fits e leads (Unbuilt t) = cc (sym (not_unbuilt l text rest fits e) ∙ t)
 leads_not_line stand mid l text rest _ fits e leads (Misspelled some built none) = none l rest fits e
 leads_not_line stand mid l text rest _ fits e leads (Misplaced line more kind built fit here fails) =
     let same = one_first_line l line rest more fits fit (sym e ∙ here) in
@@ -88,10 +91,11 @@ no_fault_at_end AtVersion text h = absurd (cc h)
 no_fault_at_end AtMachine text h = absurd (cc h)
 no_fault_at_end (AtRow rows) text h = absurd (cc h)
 no_fault_at_end AtCpus text h = absurd (cc h)
-no_fault_at_end AtQuantum text h = absurd (cc h)
-no_fault_at_end AtLarge text h = absurd (cc h)
+no_fault_at_end (AtQuantum cpus) text h = absurd (cc h)
+no_fault_at_end (AtLarge cpus) text h = absurd (cc h)
+no_fault_at_end (AtSched cpus count) text h = absurd (cc h)
 no_fault_at_end (AtBlock names) text h = refl
-no_fault_at_end (InBlock names) text h = absurd (cc h)
+no_fault_at_end (InBlock kind names) text h = absurd (cc h)
 
 end_not_line : (stand : Stand) (text : List ℕ) (kind : Kind) → text ≡ [] → may_end stand ≡ true → LineFails stand text kind → ⊥
 end_not_line stand text _ e end (Early none early) = cc (sym end ∙ early)
@@ -190,32 +194,58 @@ one_lines (l ∷ a) (l' ∷ b) fa fb e =
 
 -- ---- the second pass
 
+-- the register that a command names is one
+one_register : (command : Command) (a b : List ℕ) → register_of command ≡ Some a → register_of command ≡ Some b → a ≡ b
+one_register command a b h g = let both : Some a ≡ Some b = sym h ∙ g in cc both
+
+-- a register of the machine that isn't unknown, by whichever of its names
+same_place : (rows : List Row) (command : Command) (a b : List ℕ) (p q : Place) → register_of command ≡ Some a → register_of command ≡ Some b → IsRegister rows a p → IsRegister rows b q → p ≡ q
+same_place rows command a b p q h g here there =
+    let same = one_register command a b h g in
+    one_place b p q (subst (λ (reg : List ℕ). IsNamed reg p) same here.0) there.0
+
+-- a known command has its register, which is built
+known_register : (rows : List Row) (command : Command) (reg : List ℕ) → register_of command ≡ Some reg → IsKnownCommand rows command → (place : Place) × IsRegister rows reg place × (is_built place ≡ true)
+known_register rows (commands.Set word bytes) reg named ((place, here, fits, bytes_are), (other, is, built)) =
+    let same : word ≡ reg = cc named in
+    (place, subst (λ (r : List ℕ). IsRegister rows r place) same here, ap is_built (one_place word place other here.0 is) ∙ built)
+known_register rows (commands.Get word) reg named ((place, here), (other, is, built)) =
+    let same : word ≡ reg = cc named in
+    (place, subst (λ (r : List ℕ). IsRegister rows r place) same here, ap is_built (one_place word place other here.0 is) ∙ built)
+known_register rows other reg named known = absurd (cc named)
+
+-- a value fits its register, where both are known
+known_fits : (rows : List Row) (reg bytes : List ℕ) (q : Place) → IsKnownCommand rows (commands.Set reg bytes) → IsRegister rows reg q → fits_register q bytes ≡ false → ⊥
+known_fits rows reg bytes q ((place, here, fits, bytes_are), built) there wrong =
+    cc (sym fits ∙ ap (λ (p : Place). fits_register p bytes) (one_place reg place q here.0 there.0) ∙ wrong)
+
 -- a known command doesn't fail
 pub known_not_fails : (rows : List Row) (command : Command) (kind : Kind) → IsKnownCommand rows command → CommandFails rows command kind → ⊥
-known_not_fails rows (commands.Set reg bytes) _ ((place, here, fits, bytes_are), (other, named, built)) (refusals.Unknown _ none) = none place here
-known_not_fails rows (commands.Set reg bytes) _ ((place, here, fits, bytes_are), (other, named, built)) (refusals.Unbuilt _ q there unready) =
-    let same = one_place reg other q named there.0 in
-    cc (sym built ∙ ap is_built same ∙ unready)
-known_not_fails rows (commands.Set reg bytes) _ ((place, here, fits, bytes_are), (other, named, built)) (refusals.Misfit _ _ q there ready wrong) =
-    cc (sym fits ∙ ap (λ (p : Place). fits_register p bytes) (one_place reg place q here.0 there.0) ∙ wrong)
-known_not_fails rows (commands.Get reg) _ ((place, here), (other, named, built)) (refusals.Unknown _ none) = none place here
-known_not_fails rows (commands.Get reg) _ ((place, here), (other, named, built)) (refusals.Unbuilt _ q there unready) =
-    let same = one_place reg other q named there.0 in
-    cc (sym built ∙ ap is_built same ∙ unready)
+known_not_fails rows command _ known (refusals.Unknown _ reg named none) =
+    let h = known_register rows command reg named known in
+    none h.0 h.1
+known_not_fails rows command _ known (refusals.Unbuilt _ reg q named there unready) =
+    let (place, here, built) = known_register rows command reg named known in
+    cc (sym built ∙ ap is_built (one_place reg place q here.0 there.0) ∙ unready)
+known_not_fails rows _ _ known (refusals.Misfit reg bytes q there ready wrong) = known_fits rows reg bytes q known there wrong
 
 -- a command fails with one kind
 one_command_cause : (rows : List Row) (command : Command) (k j : Kind) → CommandFails rows command k → CommandFails rows command j → k ≡ j
-one_command_cause rows command _ _ (refusals.Unknown _ none) (refusals.Unknown _ none') = refl
-one_command_cause rows command _ _ (refusals.Unknown _ none) (refusals.Unbuilt _ q there unready) = absurd (none q there)
-one_command_cause rows command _ _ (refusals.Unknown _ none) (refusals.Misfit reg bytes q there ready wrong) = absurd (none q there)
-one_command_cause rows command _ _ (refusals.Unbuilt _ p here unready) (refusals.Unknown _ none) = absurd (none p here)
-one_command_cause rows command _ _ (refusals.Unbuilt _ p here unready) (refusals.Unbuilt _ q there unready') = refl
-one_command_cause rows command _ _ (refusals.Unbuilt _ p here unready) (refusals.Misfit reg bytes q there ready wrong) =
-    let same = one_place reg p q here.0 there.0 in
+one_command_cause rows command _ _ (refusals.Unknown _ reg named none) (refusals.Unknown _ reg' named' none') = refl
+one_command_cause rows command _ _ (refusals.Unknown _ reg named none) (refusals.Unbuilt _ reg' q named' there unready) =
+    absurd (none q (subst (λ (r : List ℕ). IsRegister rows r q) (one_register command reg' reg named' named) there))
+one_command_cause rows command _ _ (refusals.Unknown _ reg named none) (refusals.Misfit reg' bytes q there ready wrong) =
+    absurd (none q (subst (λ (r : List ℕ). IsRegister rows r q) (one_register (commands.Set reg' bytes) reg' reg refl named) there))
+one_command_cause rows command _ _ (refusals.Unbuilt _ reg p named here unready) (refusals.Unknown _ reg' named' none) =
+    absurd (none p (subst (λ (r : List ℕ). IsRegister rows r p) (one_register command reg reg' named named') here))
+one_command_cause rows command _ _ (refusals.Unbuilt _ reg p named here unready) (refusals.Unbuilt _ reg' q named' there unready') = refl
+one_command_cause rows command _ _ (refusals.Unbuilt _ reg p named here unready) (refusals.Misfit reg' bytes q there ready wrong) =
+    let same = same_place rows (commands.Set reg' bytes) reg reg' p q named refl here there in
     absurd (cc (sym ready ∙ ap is_built (sym same) ∙ unready))
-one_command_cause rows command _ _ (refusals.Misfit reg bytes p here ready wrong) (refusals.Unknown _ none) = absurd (none p here)
-one_command_cause rows command _ _ (refusals.Misfit reg bytes p here ready wrong) (refusals.Unbuilt _ q there unready) =
-    let same = one_place reg p q here.0 there.0 in
+one_command_cause rows command _ _ (refusals.Misfit reg bytes p here ready wrong) (refusals.Unknown _ reg' named' none) =
+    absurd (none p (subst (λ (r : List ℕ). IsRegister rows r p) (one_register (commands.Set reg bytes) reg reg' refl named') here))
+one_command_cause rows command _ _ (refusals.Misfit reg bytes p here ready wrong) (refusals.Unbuilt _ reg' q named' there unready) =
+    let same = same_place rows (commands.Set reg bytes) reg reg' p q refl named' here there in
     absurd (cc (sym ready ∙ ap is_built same ∙ unready))
 one_command_cause rows command _ _ (refusals.Misfit reg bytes p here ready wrong) (refusals.Misfit _ _ q there ready' wrong') = refl
 

@@ -1,18 +1,22 @@
 -- What was found so far in the blocks of a text, and one line more.
-use Rattle.std.proofs.Common.{◌≡◌, ℕ, ◌+◌, Bool, true, false, List, [], ◌∷◌, ◌++◌, length, Option, Some, None, Ok, Err, Result, IfErr, MatchOption, inl, inr, refl, sym, ◌∙◌, ap, subst, arith, length-append}
+use Rattle.std.proofs.Common.{◌≡◌, ℕ, ◌+◌, ◌<◌, nat_le, true, false, List, [], ◌∷◌, ◌++◌, length, Option, Some, None, Ok, Err, Result, IfErr, MatchOption, inl, inr, refl, sym, ◌∙◌, ap, subst, arith, length-append}
 use Rattle.std.proofs.lemmas.List.{append_assoc}
-use Rattle.std.specs.List.{AllByRecursion}
+use Rattle.std.specs.Prelude.{bytes_eq}
+use Rattle.std.specs.List.{AllByRecursion, list_any}
+use Rattle.std.proofs.lemmas.Bool.{lt-leb}
 use Rattle.xs_base.specs.declared.component.Row.{Row}
+use Rattle.std.specs.Option.{is_some}
+use Rattle.xs_model.specs.declared.script.BlockKind.{BlockKind}
 use Rattle.xs_model.specs.declared.script.Command.{Command}
 use Rattle.xs_script.specs.declared.line.Line.{Line}
 use Rattle.xs_script.specs.declared.line.Line.TheVariants as lines
 use Rattle.xs_script.specs.declared.outline.Outline.{Outline}
 use Rattle.xs_script.specs.declared.refusal.Kind.{Kind}
-use Rattle.xs_script.specs.declared.refusal.Kind.TheVariants.{BadLine}
+use Rattle.xs_script.specs.declared.refusal.Kind.TheVariants.{BadLine, Repeated}
 use Rattle.xs_script.specs.declared.refusal.ScriptError.{ScriptError}
 use Rattle.xs_script.specs.declared.refusal.ScriptError.TheVariants as errors
 use Rattle.xs_script.specs.ScriptLine.{IsLine, kept_line, kept_command}
-use Rattle.xs_script.specs.LineOrder.{AtBlock, next}
+use Rattle.xs_script.specs.LineOrder.{AtBlock, InBlock, takes_sched, next}
 use Rattle.xs_script.specs.Refusal.{Early, Fails, Here, table_fault, CommandFails, IsKnown}
 use Rattle.xs_script.specs.Front.{IsFront, IsNext, ExplainsFrom, ExplainsLine, ExplainsNext}
 use Rattle.xs_script.specs.Commands.{PassesCommand}
@@ -24,9 +28,30 @@ use Rattle.xs_script.proofs.BodyLines.{all_push}
 use Rattle.xs_script.proofs.KnownLines.{known_command, kept_fails}
 
 -- among the blocks there is no table to test
-pub no_table : (begun : Bool) (names : List (List ℕ)) (text : List ℕ) → table_fault (block_stand begun names) text ≡ None
-no_table true names text = refl
-no_table false names text = refl
+pub no_table : (begun : Option BlockKind) (names : List (List ℕ)) (text : List ℕ) → table_fault (block_stand begun names) text ≡ None
+no_table (Some kind) names text = refl
+no_table None names text = refl
+
+-- nor may a schedule come
+pub no_sched_here : (begun : Option BlockKind) (names : List (List ℕ)) → takes_sched (block_stand begun names) ≡ false
+no_sched_here (Some kind) names = refl
+no_sched_here None names = refl
+
+-- ---- what a line of each kind leads to
+
+-- a name that a block has, where none has begun
+pub begin_repeats : (begun : Option BlockKind) (names : List (List ℕ)) (kind : BlockKind) (name : List ℕ) → is_some begun ≡ false → length names < 64 → list_any (λ other. bytes_eq other name) names ≡ true → next (block_stand begun names) (lines.Begin kind name) ≡ Err Repeated
+begin_repeats (Some other) names kind name between few found = cc between
+begin_repeats None names kind name between few found =
+    let fewer : nat_le 64 (length names) ≡ false = lt-leb 64 (length names) few in
+    rw (fewer, found) refl
+
+-- another name
+pub begins_on : (begun : Option BlockKind) (names : List (List ℕ)) (kind : BlockKind) (name : List ℕ) → is_some begun ≡ false → length names < 64 → list_any (λ other. bytes_eq other name) names ≡ false → next (block_stand begun names) (lines.Begin kind name) ≡ Ok (InBlock kind (names ++ name ∷ []))
+begins_on (Some other) names kind name between few new = cc between
+begins_on None names kind name between few new =
+    let fewer : nat_le 64 (length names) ≡ false = lt-leb 64 (length names) few in
+    rw (fewer, new) refl
 
 -- what the line that is kept is refused with
 pub next_explains : (outline : Outline) (number : ℕ) (text : List ℕ) (kept : Line) (rest : List ℕ) (e : ScriptError) → IsNext text kept rest → ExplainsNext (next (outline_stand outline) kept) number e → ExplainsLine (outline_stand outline) number text e
@@ -74,7 +99,8 @@ fault_push rows first number ls (lines.Row r) fault after h fits at noted = othe
 fault_push rows first number ls (lines.Cpus n) fault after h fits at noted = other_line rows first ls (lines.Cpus n) fault after tt h noted
 fault_push rows first number ls (lines.Quantum n) fault after h fits at noted = other_line rows first ls (lines.Quantum n) fault after tt h noted
 fault_push rows first number ls (lines.Large n) fault after h fits at noted = other_line rows first ls (lines.Large n) fault after tt h noted
-fault_push rows first number ls (lines.Task name) fault after h fits at noted = other_line rows first ls (lines.Task name) fault after tt h noted
+fault_push rows first number ls (lines.Sched entries) fault after h fits at noted = other_line rows first ls (lines.Sched entries) fault after tt h noted
+fault_push rows first number ls (lines.Begin kind name) fault after h fits at noted = other_line rows first ls (lines.Begin kind name) fault after tt h noted
 fault_push rows first number ls (lines.Order command) None after h fits at noted = notes_command rows first number ls command after h fits at noted
 fault_push rows first number ls (lines.Order command) (Some x) after h fits at noted =
     subst (HasFault rows first (ls ++ lines.Order command ∷ [])) (sym noted) (fault_stays rows first ls (lines.Order command) x.0 x.1 h)

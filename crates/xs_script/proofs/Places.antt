@@ -5,7 +5,7 @@ use Rattle.xs_base.specs.declared.component.Row.{Row}
 use Rattle.xs_base.specs.declared.component.Place.{Place}
 use Rattle.xs_base.specs.Component.{tiledata_number}
 use Rattle.xs_base.specs.Layout.{has_row}
-use Rattle.xs_base.specs.Register.{Single, Family, singles, families, place_at, IsMember, IsNamed, Alone, Member, TileRow, IsRegister}
+use Rattle.xs_base.specs.Register.{Single, Family, singles, families, place_at, IsNamed, Alone, Member, TileRow, IsRegister}
 use Rattle.xs_base.proofs.Registers.{one_place}
 use Rattle.xs_script.proofs.Decisions.{IsDecided, is_true, same_bytes, some_below}
 

@@ -1,7 +1,7 @@
 -- The script that lines are which pass.
 use Rattle.std.proofs.Common.{◌≡◌, ℕ, ◌+◌, ◌^◌, ◌<◌, ◌≤◌, Bool, true, false, ◌&&◌, nat_le, List, [], ◌∷◌, ◌++◌, length, map, Option, Some, None, Ok, Err, refl, sym, ◌∙◌, ap, subst, arith, length-append}
 use Rattle.std.specs.Prelude.{bytes_eq, if◌then◌else◌}
-use Rattle.std.specs.List.{AllByRecursion, flat_map, list_any}
+use Rattle.std.specs.List.{AllByRecursion, flat_map, list_any, list_all}
 use Rattle.std.proofs.lemmas.Bool.{and_parts}
 use Rattle.std.proofs.lemmas.Bool.Decides.{nat_tests}
 use Rattle.std.proofs.lemmas.List.{append_assoc, append-nil}
@@ -11,28 +11,28 @@ use Rattle.xs_base.specs.Layout.{IsLayout, row_error, table_error, first_row_fau
 use Rattle.xs_base.proofs.LayoutLemmas.{amx_is_layout, avx_is_layout}
 use Rattle.xs_model.specs.declared.script.Named.{Named}
 use Rattle.xs_model.specs.declared.script.Named.TheVariants.{Amx, Avx, Rows}
-use Rattle.xs_model.specs.declared.script.BlockKind.TheVariants.{Task}
+use Rattle.xs_model.specs.declared.script.BlockKind.{BlockKind}
+use Rattle.xs_model.specs.declared.script.BlockKind.TheVariants as kinds
 use Rattle.xs_model.specs.declared.script.Order.{Order}
 use Rattle.xs_model.specs.declared.script.Block.{Block}
-use Rattle.xs_model.specs.Script.{IsTableOf, AreDistinct, AreNumbered, AreBlocksNumbered}
+use Rattle.xs_model.specs.Script.{IsTableOf, AreDistinct, AreNumbered, AreBlocksNumbered, fits_kind, is_kernel_command}
 use Rattle.xs_script.specs.declared.line.Line.{Line}
 use Rattle.xs_script.specs.declared.line.Line.TheVariants as lines
-use Rattle.xs_script.specs.declared.refusal.Kind.TheVariants.{Limit, Repeated}
+use Rattle.xs_script.specs.declared.refusal.Kind.TheVariants.{BadLine, Limit, Repeated}
+use Rattle.xs_script.specs.declared.refusal.LimitName.{LimitName}
 use Rattle.xs_script.specs.declared.refusal.LimitName.TheVariants as limits
-use Rattle.xs_script.specs.Grammar.{order_lines, block_lines, row_lines}
-use Rattle.xs_script.specs.LineOrder.{Stand, AtVersion, AtMachine, AtRow, AtCpus, AtQuantum, AtLarge, AtBlock, InBlock, may_end, next, after_row, after_rows, Leads}
-use Rattle.xs_script.specs.Body.{names_of}
-use Rattle.xs_script.proofs.BodyLines.{distinct_push}
-use Rattle.xs_script.proofs.FirstLines.{after_cpus_one}
+use Rattle.xs_script.specs.Grammar.{order_lines, block_lines, row_lines, sched_lines}
+use Rattle.xs_script.specs.LineOrder.{Stand, AtVersion, AtMachine, AtRow, AtCpus, AtQuantum, AtLarge, AtSched, AtBlock, InBlock, may_end, fits_sched, may_have, next, after_row, after_rows, Leads}
+use Rattle.xs_script.specs.Body.{names_of, IsPlainBlock}
+use Rattle.xs_script.proofs.BodyLines.{distinct_push, none_fits}
+use Rattle.xs_script.proofs.Fronts.{all_join}
+use Rattle.xs_script.proofs.EntryTests.{joined, within_parts}
 
 -- ---- the blocks
 
-abbrev pub AreTasks : List Block → Type 0
-AreTasks blocks = AllByRecursion (λ (block : Block). (block.kind ≡ Task) × (block.handler ≡ [])) blocks
-
 -- Blocks that come after those with these names, to the end of the text.
 pub record AreLater (names : List (List ℕ)) (blocks : List Block) (end : Stand) : Type 0 where
-  pub tasks : AreTasks blocks
+  pub plain : AllByRecursion IsPlainBlock blocks
   pub distinct : AreDistinct names → AreDistinct (names ++ names_of blocks)
   pub few : length names ≤ 64 → length names + length blocks ≤ 64
   pub ends : end ≡ AtBlock (names ++ names_of blocks)
@@ -43,35 +43,49 @@ AreRead AtVersion ls end number = Unit {0}
 AreRead AtMachine ls end number = Unit {0}
 AreRead (AtRow rows) ls end number = Unit {0}
 AreRead AtCpus ls end number = Unit {0}
-AreRead AtQuantum ls end number = Unit {0}
-AreRead AtLarge ls end number = Unit {0}
+AreRead (AtQuantum cpus) ls end number = Unit {0}
+AreRead (AtLarge cpus) ls end number = Unit {0}
+AreRead (AtSched cpus count) ls end number = Unit {0}
 AreRead (AtBlock names) ls end number = (blocks : List Block) × (ls ≡ flat_map block_lines blocks) × AreBlocksNumbered number blocks × AreLater names blocks end
-AreRead (InBlock names) ls end number = (orders : List Order) × (blocks : List Block) × (ls ≡ order_lines orders ++ lines.End ∷ flat_map block_lines blocks) × AreNumbered number orders × AreBlocksNumbered (number + length orders + 1) blocks × AreLater names blocks end
+AreRead (InBlock kind names) ls end number = (orders : List Order) × (blocks : List Block) × (ls ≡ order_lines orders ++ lines.End ∷ flat_map block_lines blocks) × AreNumbered number orders × AreBlocksNumbered (number + length orders + 1) blocks × (fits_kind kind orders [] ≡ true) × AreLater names blocks end
 
--- what a task's line leads to, by its two tests
-task_parts : (full repeated : Bool) (names : List (List ℕ)) (mid : Stand) → (if full then Err (Limit limits.Blocks) else if repeated then Err Repeated else Ok (InBlock names)) ≡ Ok mid → (full ≡ false) × (repeated ≡ false) × (InBlock names ≡ mid)
-task_parts true repeated names mid h = absurd (cc h)
-task_parts false true names mid h = absurd (cc h)
-task_parts false false names mid h = (refl, refl, cc h)
+-- what the first line of a block leads to, by its two tests
+begin_parts : (full repeated : Bool) (kind : BlockKind) (names : List (List ℕ)) (mid : Stand) → (if full then Err (Limit limits.Blocks) else if repeated then Err Repeated else Ok (InBlock kind names)) ≡ Ok mid → (full ≡ false) × (repeated ≡ false) × (InBlock kind names ≡ mid)
+begin_parts true repeated kind names mid h = absurd (cc h)
+begin_parts false true kind names mid h = absurd (cc h)
+begin_parts false false kind names mid h = (refl, refl, cc h)
+
+-- what a command leads to, by its test
+order_parts : (may : Bool) (kind : BlockKind) (names : List (List ℕ)) (mid : Stand) → (if may then Ok (InBlock kind names) else Err BadLine) ≡ Ok mid → (may ≡ true) × (InBlock kind names ≡ mid)
+order_parts true kind names mid h = (refl, cc h)
+order_parts false kind names mid h = absurd (cc h)
+
+-- one order before others, where the kind of its block may have it
+first_fits : (kind : BlockKind) (order : Order) (orders : List Order) → may_have kind order.command ≡ true → fits_kind kind orders [] ≡ true → fits_kind kind (order ∷ orders) [] ≡ true
+first_fits kinds.Task order orders may h = refl
+first_fits kinds.Child order orders may h = refl
+first_fits kinds.Kthread order orders may h =
+    let parts = and_parts (list_all (λ (o : Order). is_kernel_command o.command) orders) true h in
+    rw (may, parts.0) refl
 
 below_64 : (n : ℕ) → nat_le 64 n ≡ false → n < 64
 below_64 n h = grind (arith, nat_tests)
 
 no_block : (names : List (List ℕ)) (end : Stand) → end ≡ AtBlock names → AreLater names [] end
 no_block names end h = record {
-  tasks = tt;
+  plain = tt;
   distinct = λ d. subst AreDistinct (sym (append-nil names)) d;
   few = λ few. omega arith;
   ends = h ∙ ap AtBlock (sym (append-nil names));
 }
 
 -- one block before others
-block_first : (names : List (List ℕ)) (name : List ℕ) (orders : List Order) (blocks : List Block) (end : Stand) → length names < 64 → list_any (λ other. bytes_eq other name) names ≡ false → AreLater (names ++ name ∷ []) blocks end → AreLater names (record { kind = Task; name = name; body = orders; handler = [] } ∷ blocks) end
-block_first names name orders blocks end few new h =
+block_first : (names : List (List ℕ)) (kind : BlockKind) (name : List ℕ) (orders : List Order) (blocks : List Block) (end : Stand) → length names < 64 → list_any (λ other. bytes_eq other name) names ≡ false → fits_kind kind orders [] ≡ true → AreLater (names ++ name ∷ []) blocks end → AreLater names (record { kind = kind; name = name; body = orders; handler = [] } ∷ blocks) end
+block_first names kind name orders blocks end few new fits h =
     let same : (names ++ name ∷ []) ++ names_of blocks ≡ names ++ name ∷ names_of blocks = append_assoc names (name ∷ []) (names_of blocks) in
     let long : length (names ++ name ∷ []) ≡ length names + 1 = length-append names (name ∷ []) in
     record {
-      tasks = ((refl, refl), h.tasks);
+      plain = (record { handler = refl; fits = fits }, h.plain);
       distinct = λ d. subst AreDistinct same (h.distinct (distinct_push names name d new));
       few = λ f. let r = h.few (omega (arith, long)) in omega (arith, long, r);
       ends = h.ends ∙ ap AtBlock same;
@@ -85,93 +99,138 @@ blocks_read AtVersion ls end number room leads whole = tt
 blocks_read AtMachine ls end number room leads whole = tt
 blocks_read (AtRow rows) ls end number room leads whole = tt
 blocks_read AtCpus ls end number room leads whole = tt
-blocks_read AtQuantum ls end number room leads whole = tt
-blocks_read AtLarge ls end number room leads whole = tt
+blocks_read (AtQuantum cpus) ls end number room leads whole = tt
+blocks_read (AtLarge cpus) ls end number room leads whole = tt
+blocks_read (AtSched cpus count) ls end number room leads whole = tt
 blocks_read (AtBlock names) [] end number room leads whole = ([], refl, tt, no_block names end leads)
-blocks_read (AtBlock names) (lines.Task name ∷ ls) end number room (mid, step, leads) whole =
-    let parts = task_parts (nat_le 64 (length names)) (list_any (λ other. bytes_eq other name) names) (names ++ name ∷ []) mid step in
-    let (orders, blocks, is, numbered, later, h) = blocks_read (InBlock (names ++ name ∷ [])) ls end (number + 1) (omega arith) (subst (λ (s : Stand). Leads s ls end) (sym parts.2) leads) whole in
+blocks_read (AtBlock names) (lines.Begin kind name ∷ ls) end number room (mid, step, leads) whole =
+    let parts = begin_parts (nat_le 64 (length names)) (list_any (λ other. bytes_eq other name) names) kind (names ++ name ∷ []) mid step in
+    let (orders, blocks, is, numbered, later, fits, h) = blocks_read (InBlock kind (names ++ name ∷ [])) ls end (number + 1) (omega arith) (subst (λ (s : Stand). Leads s ls end) (sym parts.2) leads) whole in
     let at : number + 1 + length orders + 1 ≡ number + length orders + 2 = omega arith in (
-      record { kind = Task; name = name; body = orders; handler = [] } ∷ blocks,
-      ap (λ (xs : List Line). lines.Task name ∷ xs) (is ∙ sym (append_assoc (order_lines orders) (lines.End ∷ []) (flat_map block_lines blocks))),
+      record { kind = kind; name = name; body = orders; handler = [] } ∷ blocks,
+      ap (λ (xs : List Line). lines.Begin kind name ∷ xs) (is ∙ sym (append_assoc (order_lines orders) (lines.End ∷ []) (flat_map block_lines blocks))),
       (numbered, subst (λ (n : ℕ). AreBlocksNumbered n blocks) at later),
-      block_first names name orders blocks end (below_64 (length names) parts.0) parts.1 h,
+      block_first names kind name orders blocks end (below_64 (length names) parts.0) parts.1 fits h,
     )
 blocks_read (AtBlock names) (l ∷ ls) end number room (mid, step, leads) whole = absurd (cc step)
-blocks_read (InBlock names) [] end number room leads whole = absurd (not_over (InBlock names) end refl leads whole)
-blocks_read (InBlock names) (lines.Order command ∷ ls) end number room (mid, step, leads) whole =
-    let same : InBlock names ≡ mid = cc step in
-    let (orders, blocks, is, numbered, later, h) = blocks_read (InBlock names) ls end (number + 1) (omega arith) (subst (λ (s : Stand). Leads s ls end) (sym same) leads) whole in
+blocks_read (InBlock kind names) [] end number room leads whole = absurd (not_over (InBlock kind names) end refl leads whole)
+blocks_read (InBlock kind names) (lines.Order command ∷ ls) end number room (mid, step, leads) whole =
+    let parts = order_parts (may_have kind command) kind names mid step in
+    let (orders, blocks, is, numbered, later, fits, h) = blocks_read (InBlock kind names) ls end (number + 1) (omega arith) (subst (λ (s : Stand). Leads s ls end) (sym parts.1) leads) whole in
     let order : Order = record { number = number; command = command; in_range = omega arith } in
     let at : number + 1 + length orders + 1 ≡ number + length (order ∷ orders) + 1 = omega arith in
-    (order ∷ orders, blocks, ap (λ (xs : List Line). lines.Order command ∷ xs) is, (refl, numbered), subst (λ (n : ℕ). AreBlocksNumbered n blocks) at later, h)
-blocks_read (InBlock names) (lines.End ∷ ls) end number room (mid, step, leads) whole =
+    (order ∷ orders, blocks, ap (λ (xs : List Line). lines.Order command ∷ xs) is, (refl, numbered), subst (λ (n : ℕ). AreBlocksNumbered n blocks) at later, first_fits kind order orders parts.0 fits, h)
+blocks_read (InBlock kind names) (lines.End ∷ ls) end number room (mid, step, leads) whole =
     let same : AtBlock names ≡ mid = cc step in
     let (blocks, is, numbered, h) = blocks_read (AtBlock names) ls end (number + 1) (omega arith) (subst (λ (s : Stand). Leads s ls end) (sym same) leads) whole in
     let at : number + 1 ≡ number + 0 + 1 = omega arith in
-    ([], blocks, ap (λ (xs : List Line). lines.End ∷ xs) is, tt, subst (λ (n : ℕ). AreBlocksNumbered n blocks) at numbered, h)
-blocks_read (InBlock names) (l ∷ ls) end number room (mid, step, leads) whole = absurd (cc step)
+    ([], blocks, ap (λ (xs : List Line). lines.End ∷ xs) is, tt, subst (λ (n : ℕ). AreBlocksNumbered n blocks) at numbered, none_fits kind, h)
+blocks_read (InBlock kind names) (l ∷ ls) end number room (mid, step, leads) whole = absurd (cc step)
+
+-- ---- the schedule
+
+-- The lines are those of a schedule, and blocks, where so many entries came.
+pub record IsSched (cpus count : ℕ) (ls : List Line) (end : Stand) : Type 0 where
+  pub groups : List (List ℕ)
+  pub later : List Line
+  pub split : ls ≡ sched_lines groups ++ later
+  pub below : AllByRecursion (λ entry. entry < cpus) (joined groups)
+  pub few : count + length (joined groups) ≤ 4096
+  pub leads : Leads (AtBlock []) later end
+
+sched_parts : (cpus count : ℕ) (entries : List ℕ) (b : Bool) (mid : Stand) → b ≡ fits_sched cpus count entries → (if b then Ok (AtSched cpus (count + length entries)) else Err (Limit limits.Sched)) ≡ Ok mid → AllByRecursion (λ entry. entry < cpus) entries × (count + length entries ≤ 4096) × (AtSched cpus (count + length entries) ≡ mid)
+sched_parts cpus count entries false mid is h = absurd (cc h)
+sched_parts cpus count entries true mid is h =
+    let parts = within_parts cpus count entries (sym is) in
+    (parts.0, parts.1, cc h)
+
+sched_read : (cpus count : ℕ) (ls : List Line) (end : Stand) → count ≤ 4096 → Leads (AtSched cpus count) ls end → may_end end ≡ true → IsSched cpus count ls end
+sched_read cpus count [] end few leads whole = absurd (not_over (AtSched cpus count) end refl leads whole)
+sched_read cpus count (lines.Sched entries ∷ ls) end few (mid, step, leads) whole =
+    let parts = sched_parts cpus count entries (fits_sched cpus count entries) mid refl step in
+    let r = sched_read cpus (count + length entries) ls end parts.1 (subst (λ (s : Stand). Leads s ls end) (sym parts.2) leads) whole in
+    let long : length (entries ++ joined r.groups) ≡ length entries + length (joined r.groups) = length-append entries (joined r.groups) in
+    record {
+      groups = entries ∷ r.groups;
+      later = r.later;
+      split = ap (λ (xs : List Line). lines.Sched entries ∷ xs) r.split;
+      below = all_join (λ entry. entry < cpus) entries (joined r.groups) parts.0 r.below;
+      few = omega (arith, long, r.few);
+      leads = r.leads;
+    }
+sched_read cpus count (lines.Begin kind name ∷ ls) end few (mid, step, leads) whole = record {
+  groups = [];
+  later = lines.Begin kind name ∷ ls;
+  split = refl;
+  below = tt;
+  few = omega arith;
+  leads = (mid, step, leads);
+}
+sched_read cpus count (l ∷ ls) end few (mid, step, leads) whole = absurd (cc step)
 
 -- ---- the numbers
 
--- The lines after the machine: its processors, the quantum, the Large areas, and blocks.
+-- The lines after the machine: its processors, the quantum, the Large areas, the schedule, and blocks.
 pub record AreNumbers (ls : List Line) (end : Stand) : Type 0 where
+  pub cpus : ℕ
   pub quantum : ℕ
   pub large : ℕ
-  pub later : List Line
-  pub split : ls ≡ lines.Cpus 1 ∷ lines.Quantum quantum ∷ lines.Large large ∷ later
+  pub after : List Line
+  pub split : ls ≡ lines.Cpus cpus ∷ lines.Quantum quantum ∷ lines.Large large ∷ after
+  pub cpus_fits : (0 < cpus) × (cpus ≤ 16)
   pub quantum_fits : (0 < quantum) × (quantum ≤ 32)
   pub large_fits : large ≤ 64
-  pub leads : Leads (AtBlock []) later end
+  pub sched : IsSched cpus 0 after end
 
-quantum_parts : (n : ℕ) (b : Bool) (mid : Stand) → b ≡ (nat_le 1 n && nat_le n 32) → (if b then Ok AtLarge else Err (Limit limits.Quantum)) ≡ Ok mid → (0 < n) × (n ≤ 32) × (AtLarge ≡ mid)
-quantum_parts n false mid is h = absurd (cc h)
-quantum_parts n true mid is h =
-    let parts = and_parts (nat_le 1 n) (nat_le n 32) (sym is) in
-    (low n parts.0, high n parts.1, cc h)
+-- a number between two bounds, by its test
+between : (n high : ℕ) → (nat_le 1 n && nat_le n high) ≡ true → (0 < n) × (n ≤ high)
+between n high h =
+    let parts = and_parts (nat_le 1 n) (nat_le n high) h in
+    (low n parts.0, top n high parts.1)
   where
     low : (n : ℕ) → nat_le 1 n ≡ true → 0 < n
     low n h = grind (arith, nat_tests)
 
-    high : (n : ℕ) → nat_le n 32 ≡ true → n ≤ 32
-    high n h = grind (arith, nat_tests)
+    top : (n high : ℕ) → nat_le n high ≡ true → n ≤ high
+    top n high h = grind (arith, nat_tests)
 
-large_parts : (n : ℕ) (b : Bool) (mid : Stand) → b ≡ nat_le n 64 → (if b then Ok (AtBlock []) else Err (Limit limits.Large)) ≡ Ok mid → (n ≤ 64) × (AtBlock [] ≡ mid)
-large_parts n false mid is h = absurd (cc h)
-large_parts n true mid is h = (high n (sym is), cc h)
-  where
-    high : (n : ℕ) → nat_le n 64 ≡ true → n ≤ 64
-    high n h = grind (arith, nat_tests)
+-- what a number leads to, by its test
+number_parts : (test : Bool) (to mid : Stand) (limit : LimitName) → (if test then Ok to else Err (Limit limit)) ≡ Ok mid → (test ≡ true) × (to ≡ mid)
+number_parts true to mid limit h = (refl, cc h)
+number_parts false to mid limit h = absurd (cc h)
 
 -- the line of the Large areas
-pub record IsLarge (ls : List Line) (end : Stand) : Type 0 where
+pub record IsLarge (cpus : ℕ) (ls : List Line) (end : Stand) : Type 0 where
   pub large : ℕ
   pub later : List Line
   pub split : ls ≡ lines.Large large ∷ later
   pub fits : large ≤ 64
-  pub leads : Leads (AtBlock []) later end
+  pub sched : IsSched cpus 0 later end
 
-large_read : (ls : List Line) (end : Stand) → Leads AtLarge ls end → may_end end ≡ true → IsLarge ls end
-large_read [] end leads whole = absurd (not_over AtLarge end refl leads whole)
-large_read (lines.Large n ∷ ls) end (mid, step, leads) whole =
-    let parts = large_parts n (nat_le n 64) mid refl step in
-    record { large = n; later = ls; split = refl; fits = parts.0; leads = subst (λ (s : Stand). Leads s ls end) (sym parts.1) leads }
-large_read (l ∷ ls) end (mid, step, leads) whole = absurd (cc step)
+large_read : (cpus : ℕ) (ls : List Line) (end : Stand) → Leads (AtLarge cpus) ls end → may_end end ≡ true → IsLarge cpus ls end
+large_read cpus [] end leads whole = absurd (not_over (AtLarge cpus) end refl leads whole)
+large_read cpus (lines.Large n ∷ ls) end (mid, step, leads) whole =
+    let parts = number_parts (nat_le n 64) (AtSched cpus 0) mid limits.Large step in
+    let few : n ≤ 64 = high n parts.0 in
+    record { large = n; later = ls; split = refl; fits = few; sched = sched_read cpus 0 ls end (omega arith) (subst (λ (s : Stand). Leads s ls end) (sym parts.1) leads) whole }
+  where
+    high : (n : ℕ) → nat_le n 64 ≡ true → n ≤ 64
+    high n h = grind (arith, nat_tests)
+large_read cpus (l ∷ ls) end (mid, step, leads) whole = absurd (cc step)
 
 -- the quantum's line, and the next
-numbers_read : (ls : List Line) (end : Stand) → Leads AtQuantum ls end → may_end end ≡ true → AreNumbers (lines.Cpus 1 ∷ ls) end
-numbers_read [] end leads whole = absurd (not_over AtQuantum end refl leads whole)
-numbers_read (lines.Quantum n ∷ ls) end (mid, step, leads) whole =
-    let parts = quantum_parts n (nat_le 1 n && nat_le n 32) mid refl step in
-    let r = large_read ls end (subst (λ (s : Stand). Leads s ls end) (sym parts.2) leads) whole in
-    record { quantum = n; large = r.large; later = r.later; split = ap (λ (xs : List Line). lines.Cpus 1 ∷ lines.Quantum n ∷ xs) r.split; quantum_fits = (parts.0, parts.1); large_fits = r.fits; leads = r.leads }
-numbers_read (l ∷ ls) end (mid, step, leads) whole = absurd (cc step)
+numbers_read : (cpus : ℕ) (ls : List Line) (end : Stand) → (0 < cpus) × (cpus ≤ 16) → Leads (AtQuantum cpus) ls end → may_end end ≡ true → AreNumbers (lines.Cpus cpus ∷ ls) end
+numbers_read cpus [] end fits leads whole = absurd (not_over (AtQuantum cpus) end refl leads whole)
+numbers_read cpus (lines.Quantum n ∷ ls) end fits (mid, step, leads) whole =
+    let parts = number_parts (nat_le 1 n && nat_le n 32) (AtLarge cpus) mid limits.Quantum step in
+    let r = large_read cpus ls end (subst (λ (s : Stand). Leads s ls end) (sym parts.1) leads) whole in
+    record { cpus = cpus; quantum = n; large = r.large; after = r.later; split = ap (λ (xs : List Line). lines.Cpus cpus ∷ lines.Quantum n ∷ xs) r.split; cpus_fits = fits; quantum_fits = between n 32 parts.0; large_fits = r.fits; sched = r.sched }
+numbers_read cpus (l ∷ ls) end fits (mid, step, leads) whole = absurd (cc step)
 
 after_cpus_read : (n : ℕ) (mid end : Stand) (ls : List Line) → next AtCpus (lines.Cpus n) ≡ Ok mid → Leads mid ls end → may_end end ≡ true → AreNumbers (lines.Cpus n ∷ ls) end
 after_cpus_read n mid end ls step leads whole =
-    let one = after_cpus_one n mid step in
-    let same : AtQuantum ≡ mid = let t = rw one at step in cc t in
-    subst (λ (k : ℕ). AreNumbers (lines.Cpus k ∷ ls) end) (sym one) (numbers_read ls end (subst (λ (s : Stand). Leads s ls end) (sym same) leads) whole)
+    let parts = number_parts (nat_le 1 n && nat_le n 16) (AtQuantum n) mid limits.Cpus step in
+    numbers_read n ls end (between n 16 parts.0) (subst (λ (s : Stand). Leads s ls end) (sym parts.1) leads) whole
 
 cpus_read : (ls : List Line) (end : Stand) → Leads AtCpus ls end → may_end end ≡ true → AreNumbers ls end
 cpus_read [] end leads whole = absurd (not_over AtCpus end refl leads whole)

@@ -1,6 +1,8 @@
 -- Readers of one line, part by part.
-use Rattle.std.proofs.Common.{◌≡◌, ℕ, ◌<◌, ◌≤◌, ◌*◌, Bool, true, false, List, [], ◌∷◌, ◌++◌, length, Some, refl, sym, ◌∙◌, ap, arith, decimal}
+use Rattle.std.proofs.Common.{◌≡◌, ℕ, ◌+◌, ◌<◌, ◌≤◌, ◌*◌, ◌%◌, ◌==◌, Bool, true, false, List, [], ◌∷◌, ◌++◌, length, slice_index, Option, Some, None, refl, sym, ◌∙◌, ap, arith, decimal}
 use Rattle.std.specs.Prelude.{nat_eq}
+use Rattle.std.specs.List.{list_all}
+use Rattle.std.proofs.lemmas.Bool.{and_parts}
 use Rattle.std.specs.Cmp.Lexicographic.{pointwise}
 use Rattle.std.proofs.lemmas.Bool.Decides.{Decides-eqb}
 use Rattle.std.proofs.lemmas.Slice.Eq.{slice_eq-Decides}
@@ -10,14 +12,15 @@ use Rattle.xs_base.specs.declared.component.Row.{Row}
 use Rattle.xs_base.specs.Layout.{row}
 use Rattle.xs_script.specs.declared.line.Line.{Line}
 use Rattle.xs_script.specs.declared.line.Line.TheVariants as lines
-use Rattle.xs_script.specs.ScriptLine.{line_text, IsLine, IsNumber, row_text, kept_bytes, is_register_word}
+use Rattle.xs_script.specs.ScriptLine.{line_text, IsLine, IsNumber, row_text, kept_bytes, kept_line, is_register_word}
 use Rattle.xs_script.specs.Reads.{ReadsAs, Lacks}
 use Rattle.xs_script.specs.Refusal.{NoLine}
-use Rattle.xs_script.specs.Parts.{IsValue, IsSpelledBy, is_hex_text}
+use Rattle.xs_script.specs.Parts.{IsValue, IsSpelledBy, is_lower_digit, digit_value, is_hex_text, IsPlainLine, IsBlockLine, IsHeadLine, NoPlainLine}
 use Rattle.xs_script.proofs.Cuts.{one_cut, no_cut, Lacks-register}
-use Rattle.xs_script.proofs.HexText.{hex_text, hex_text_bytes}
+use Rattle.xs_script.proofs.HexText.{AreDecoded, decoded, hex_text, hex_text_bytes}
 use Rattle.xs_script.proofs.Kept.{kept_same_bytes, kept_long}
-use Rattle.xs_script.proofs.Spellings.{Lacks_line, lacks_space, one_pair}
+use Rattle.xs_script.proofs.Entries.{lacks_space, one_pair}
+use Rattle.xs_script.proofs.Spellings.{Lacks_line}
 
 -- ---- hex
 
@@ -48,6 +51,25 @@ reads_long text many h =
 -- other text is that of no bytes
 pub reads_other : (text x : List ℕ) → is_hex_text text ≡ false → IsValue x → text ≡ encode_lower x → ⊥
 reads_other text x other fits e = let t = hex_text x fits.1 in cc (sym other ∙ ap is_hex_text e ∙ t)
+
+-- two hex digits are the text of a byte
+pub byte_read : (text : List ℕ) (high low : ℕ) → length text ≡ 2 → is_hex_text text ≡ true → high ≡ digit_value (slice_index text 0) → low ≡ digit_value (slice_index text 1) → (16 * high + low < 256) × (text ≡ encode_lower ((16 * high + low) ∷ []))
+byte_read text high low two hex first second =
+    let digits = (and_parts (list_all is_lower_digit text) (length text % 2 == 0) hex).0 in
+    let r = decoded text ((16 * high + low) ∷ []) digits two one in
+    (r.fits.0, r.spelled)
+  where
+    one : AreDecoded ((16 * high + low) ∷ []) text
+    one k below =
+        let here : k ≡ 0 = omega arith in
+        rw here (rw (first, second) refl)
+
+-- and no other text is that of one
+pub no_byte : (text : List ℕ) (x : ℕ) → is_hex_text text ≡ false → x < 256 → text ≡ encode_lower (x ∷ []) → ⊥
+no_byte text x other small e = let t = hex_text (x ∷ []) (small, tt) in cc (sym other ∙ ap is_hex_text e ∙ t)
+
+pub two_digits : (text : List ℕ) (x : ℕ) → (length text ≡ 2 → ⊥) → text ≡ encode_lower (x ∷ []) → ⊥
+two_digits text x other e = other (length_hex (x ∷ []) text e)
 
 -- ---- the words of a row and of a command that sets
 
@@ -88,6 +110,60 @@ no_line text lacks l rest fits e = no_cut 10 text (line_text l) rest lacks e
 pub other_line : (text line rest : List ℕ) → Lacks 10 line → text ≡ line ++ 10 ∷ rest → ((l : Line) → IsLine l → line ≡ line_text l → ⊥) → NoLine text
 other_line text line rest here cut none l more fits e =
     none l fits (one_cut 10 line (line_text l) rest more here (Lacks_line l fits) (sym cut ∙ e)).0
+
+-- a line that is none of a schedule is a line
+pub plain_is_line : (l : Line) → IsPlainLine l → IsLine l
+plain_is_line (lines.Sched entries) fits = absurd fits
+plain_is_line lines.Version fits = fits
+plain_is_line (lines.Machine named) fits = fits
+plain_is_line (lines.Row r) fits = fits
+plain_is_line (lines.Cpus n) fits = fits
+plain_is_line (lines.Quantum n) fits = fits
+plain_is_line (lines.Large n) fits = fits
+plain_is_line (lines.Begin kind name) fits = fits
+plain_is_line (lines.Order command) fits = fits
+plain_is_line lines.End fits = fits
+
+-- such a line is one of a block or one before the schedule
+pub block_is_plain : (l : Line) → IsBlockLine l → IsPlainLine l
+block_is_plain (lines.Begin kind name) fits = fits
+block_is_plain (lines.Order command) fits = fits
+block_is_plain lines.End fits = fits
+block_is_plain l fits = absurd fits
+
+head_is_plain : (l : Line) → IsHeadLine l → IsPlainLine l
+head_is_plain lines.Version fits = fits
+head_is_plain (lines.Machine named) fits = fits
+head_is_plain (lines.Row r) fits = fits
+head_is_plain (lines.Cpus n) fits = fits
+head_is_plain (lines.Quantum n) fits = fits
+head_is_plain (lines.Large n) fits = fits
+head_is_plain l fits = absurd fits
+
+no_other : (bytes : List ℕ) (l : Line) → ((l : Line) → IsBlockLine l → bytes ≡ line_text l → ⊥) → ((l : Line) → IsHeadLine l → bytes ≡ line_text l → ⊥) → IsPlainLine l → bytes ≡ line_text l → ⊥
+no_other bytes (lines.Sched entries) block head fits e = absurd fits
+no_other bytes (lines.Begin kind name) block head fits e = block (lines.Begin kind name) fits e
+no_other bytes (lines.Order command) block head fits e = block (lines.Order command) fits e
+no_other bytes lines.End block head fits e = block lines.End fits e
+no_other bytes lines.Version block head fits e = head lines.Version fits e
+no_other bytes (lines.Machine named) block head fits e = head (lines.Machine named) fits e
+no_other bytes (lines.Row r) block head fits e = head (lines.Row r) fits e
+no_other bytes (lines.Cpus n) block head fits e = head (lines.Cpus n) fits e
+no_other bytes (lines.Quantum n) block head fits e = head (lines.Quantum n) fits e
+no_other bytes (lines.Large n) block head fits e = head (lines.Large n) fits e
+
+-- what isn't read as a line of a block is read as one before the schedule, if it is one
+pub reads_either : (bytes : List ℕ) (r : Option Line) → ((l : Line) → IsBlockLine l → bytes ≡ line_text l → ⊥) → ReadsAs line_text IsHeadLine kept_line r bytes → ReadsAs line_text IsPlainLine kept_line r bytes
+reads_either bytes None block head = λ l fits e. no_other bytes l block head fits e
+reads_either bytes (Some l) block head = (head.0, head_is_plain head.0 head.1, head.2, head.3)
+
+-- such lines among them
+pub no_plain_line : (text : List ℕ) → Lacks 10 text → NoPlainLine text
+no_plain_line text lacks l rest fits e = no_line text lacks l rest (plain_is_line l fits) e
+
+pub other_plain_line : (text line rest : List ℕ) → Lacks 10 line → text ≡ line ++ 10 ∷ rest → ((l : Line) → IsPlainLine l → line ≡ line_text l → ⊥) → NoPlainLine text
+other_plain_line text line rest here cut none l more fits e =
+    none l fits (one_cut 10 line (line_text l) rest more here (Lacks_line l (plain_is_line l fits)) (sym cut ∙ e)).0
 
 -- what the comparison of a line with a word tells, where it is true
 pub word_is : (line word text : List ℕ) (b : Bool) → b ≡ pointwise nat_eq line word → word ≡ text → b ≡ true → line ≡ text

@@ -2,7 +2,7 @@
 use Rattle.std.proofs.Common.{◌≡◌, ℕ, ◌+◌, ◌<◌, ◌≤◌, ◌^◌, Bool, true, false, ◌&&◌, ◌||◌, ◌==◌, nat_le, nat_lt, List, [], ◌∷◌, ◌++◌, length, map, None, Ok, refl, sym, ◌∙◌, ap, subst, arith, length-append}
 use Rattle.std.specs.Prelude.{bytes_eq}
 use Rattle.std.specs.List.{AllByRecursion, flat_map, list_any, list_all}
-use Rattle.std.proofs.lemmas.Bool.{lt-leb, le-leb, lt-ltb}
+use Rattle.std.proofs.lemmas.Bool.{lt-leb, le-leb, lt-ltb, and_parts}
 use Rattle.std.proofs.lemmas.List.{append_assoc, append-nil, append_cancel_left}
 use Rattle.std.proofs.lemmas.Slice.Eq.{bytes_eq-Decides}
 use Rattle.std.proofs.Props.{props}
@@ -15,26 +15,29 @@ use Rattle.xs_base.proofs.Registers.{place_length, name_length, name_spelled, is
 use Rattle.xs_model.specs.declared.script.Named.{Named}
 use Rattle.xs_model.specs.declared.script.Named.TheVariants.{Amx, Avx, Rows}
 use Rattle.xs_model.specs.declared.script.BlockKind.{BlockKind}
-use Rattle.xs_model.specs.declared.script.BlockKind.TheVariants.{Task}
+use Rattle.xs_model.specs.declared.script.BlockKind.TheVariants as kinds
 use Rattle.xs_model.specs.declared.script.Command.{Command}
 use Rattle.xs_model.specs.declared.script.Command.TheVariants as commands
 use Rattle.xs_model.specs.declared.script.Order.{Order}
 use Rattle.xs_model.specs.declared.script.Block.{Block}
 use Rattle.xs_model.specs.declared.script.Script.{Script}
-use Rattle.xs_model.specs.Script.{IsValid, IsCommand, IsBuiltCommand, AreDistinct, AreNumbered, AreBlocksNumbered, is_name, is_letter}
+use Rattle.xs_model.specs.Script.{IsValid, IsBuilt, IsCommand, IsBody, IsBuiltCommand, is_built_kind, is_kernel_command, fits_kind, AreDistinct, AreNumbered, AreBlocksNumbered, is_name, is_letter}
 use Rattle.xs_script.specs.declared.line.Line.{Line}
 use Rattle.xs_script.specs.declared.line.Line.TheVariants as lines
 use Rattle.xs_script.specs.declared.refusal.Kind.{Kind}
-use Rattle.xs_script.specs.ScriptLine.{IsLine, IsCommandLine, is_register_byte, is_register_word}
-use Rattle.xs_script.specs.Grammar.{order_lines, block_lines, row_lines, head_lines, script_lines, Spells}
-use Rattle.xs_script.specs.LineOrder.{Stand, AtVersion, AtMachine, AtRow, AtCpus, AtQuantum, AtLarge, AtBlock, InBlock, next, after_machine, Leads}
+use Rattle.xs_script.specs.ScriptLine.{IsNumber, IsLine, IsCommandLine, is_register_byte, is_register_word}
+use Rattle.xs_script.specs.Grammar.{order_lines, lines_text, block_lines, row_lines, head_lines, sched_lines, script_lines, Spells}
+use Rattle.xs_script.specs.LineOrder.{Stand, AtVersion, AtMachine, AtRow, AtCpus, AtQuantum, AtLarge, AtSched, AtBlock, InBlock, may_have, next, after_machine, Leads}
 use Rattle.xs_script.specs.Refusal.{AreLines, Passes, table_of, IsKnown, CommandFails, Refuses, ByLine, ByCommand}
 use Rattle.xs_script.specs.Body.{names_of}
 use Rattle.xs_script.proofs.CommandFaults.{fits_length}
 use Rattle.xs_script.proofs.HeadRows.{row_leads, rows_over}
 use Rattle.xs_script.proofs.Fronts.{all_join, leads_join}
 use Rattle.xs_script.proofs.KnownLines.{all_parts}
-use Rattle.xs_script.proofs.WholeScripts.{blocks_no_rows, no_rows_table, table_of_lines, head_known, may_end_some}
+use Rattle.xs_script.proofs.WholeScripts.{blocks_no_rows, sched_no_rows, no_rows_table, table_of_lines, head_known, sched_known, some_lines, may_end_some}
+use Rattle.xs_script.specs.Front.{IsFront}
+use Rattle.xs_script.proofs.ScheduleLines.{front_after}
+use Rattle.xs_script.proofs.EntryTests.{joined, within_test}
 use Rattle.xs_script.proofs.OneRefusal.{one_lines, passes_not_refused, known_not_fails}
 
 -- ---- each has a spelling
@@ -73,21 +76,35 @@ register_word reg place named =
     let few : nat_le (length reg) 16 ≡ true = le-leb (length reg) 16 size.1 in
     rw (bytes, some, few) refl
 
-command_fits : (rows : List Row) (command : Command) → IsCommand rows command → IsCommandLine command
-command_fits rows (commands.Set reg bytes) (place, here, fits, bytes_are) =
+command_fits : (rows : List Row) (command : Command) → IsCommand rows command → IsBuiltCommand command → IsCommandLine command
+command_fits rows (commands.Set reg bytes) (place, here, fits, bytes_are) built =
     let size = place_length reg place here.0 in
     let len = fits_length place bytes fits in
     (register_word reg place here.0, omega (arith, size.0, len), bytes_are)
-command_fits rows (commands.Get reg) (place, here) = register_word reg place here.0
+command_fits rows (commands.Get reg) (place, here) built = register_word reg place here.0
+command_fits rows (commands.Ksec byte) fits built = fits
+command_fits rows commands.Yield fits built = tt
+command_fits rows other fits built = absurd built
 
-orders_fit : (rows : List Row) (orders : List Order) → AllByRecursion (λ (order : Order). IsCommand rows order.command) orders → AreLines (order_lines orders)
-orders_fit rows [] h = tt
-orders_fit rows (o ∷ orders) h = (command_fits rows o.command h.0, orders_fit rows orders h.1)
+orders_fit : (rows : List Row) (orders : List Order) → AllByRecursion (λ (order : Order). IsCommand rows order.command) orders → AllByRecursion (λ (order : Order). IsBuiltCommand order.command) orders → AreLines (order_lines orders)
+orders_fit rows [] h g = tt
+orders_fit rows (o ∷ orders) h g = (command_fits rows o.command h.0 g.0, orders_fit rows orders h.1 g.1)
 
-blocks_fit : (rows : List Row) (blocks : List Block) → AllByRecursion (λ (b : Block). is_name b.name ≡ true) blocks → AllByRecursion (λ (b : Block). AllByRecursion (λ (order : Order). IsCommand rows order.command) b.body) blocks → AreLines (flat_map block_lines blocks)
-blocks_fit rows [] h g = tt
-blocks_fit rows (b ∷ blocks) h g =
-    (h.0, all_join IsLine (order_lines b.body ++ lines.End ∷ []) (flat_map block_lines blocks) (all_join IsLine (order_lines b.body) (lines.End ∷ []) (orders_fit rows b.body g.0) (tt, tt)) (blocks_fit rows blocks h.1 g.1))
+blocks_fit : (rows : List Row) (blocks : List Block) → AllByRecursion (λ (b : Block). (is_built_kind b.kind ≡ true) × (b.handler ≡ [])) blocks → AllByRecursion (λ (b : Block). is_name b.name ≡ true) blocks → AllByRecursion (λ (b : Block). IsBody rows b) blocks → AllByRecursion (λ (b : Block). AllByRecursion (λ (order : Order). IsBuiltCommand order.command) b.body) blocks → AreLines (flat_map block_lines blocks)
+blocks_fit rows [] kinds names bodies built = tt
+blocks_fit rows (b ∷ blocks) kinds names bodies built =
+    ((kinds.0.0, names.0), all_join IsLine (order_lines b.body ++ lines.End ∷ []) (flat_map block_lines blocks) (all_join IsLine (order_lines b.body) (lines.End ∷ []) (orders_fit rows b.body bodies.0.body built.0) (tt, tt)) (blocks_fit rows blocks kinds.1 names.1 bodies.1 built.1))
+
+-- the lines of a schedule, whose entries are processors
+sched_fits : (groups : List (List ℕ)) (cpus : ℕ) → cpus ≤ 16 → AllByRecursion (λ group. 0 < length group) groups → AllByRecursion (λ entry. entry < cpus) (joined groups) → AreLines (sched_lines groups)
+sched_fits [] cpus few some below = tt
+sched_fits (g ∷ groups) cpus few some below =
+    let parts = all_parts (λ entry. entry < cpus) g (joined groups) below in
+    ((some.0, numbers g parts.0), sched_fits groups cpus few some.1 parts.1)
+  where
+    numbers : (entries : List ℕ) → AllByRecursion (λ entry. entry < cpus) entries → AllByRecursion IsNumber entries
+    numbers [] h = tt
+    numbers (n ∷ entries) h = let lt = h.0 in (omega (arith, lt), numbers entries h.1)
 
 abbrev number_lines : Script → List Line
 number_lines script = lines.Cpus script.cpus ∷ lines.Quantum script.quantum ∷ lines.Large script.large ∷ []
@@ -105,28 +122,47 @@ rows_lead done (r ∷ rows) h =
     let later = rows_lead (done ++ r ∷ []) rows parts.1 in
     (AtRow (done ++ r ∷ []), row_leads done r parts.0, subst (λ (rs : List Row). Leads (AtRow (done ++ r ∷ [])) (map lines.Row rows) (AtRow rs)) (append_assoc done (r ∷ []) rows) later)
 
--- A machine's lines lead to where one processor may be given.
-machine_leads : (machine : Named) (layout : List Row) → IsLayout layout → (stand : Stand) × Leads (after_machine machine) (row_lines machine layout) stand × (next stand (lines.Cpus 1) ≡ Ok AtQuantum)
-machine_leads Amx layout h = (AtCpus, refl, refl)
-machine_leads Avx layout h = (AtCpus, refl, refl)
-machine_leads Rows layout h =
-    let parts = layout_parts layout h in
-    (AtRow layout, rows_lead [] layout parts.0, rows_over layout 1 parts.1)
+cpus_lead : (n : ℕ) → 0 < n → n ≤ 16 → next AtCpus (lines.Cpus n) ≡ Ok (AtQuantum n)
+cpus_lead n some few =
+    let low : nat_le 1 n ≡ true = le-leb 1 n (omega arith) in
+    let high : nat_le n 16 ≡ true = le-leb n 16 few in
+    rw (low, high) refl
 
-quantum_leads : (n : ℕ) → 0 < n → n ≤ 32 → next AtQuantum (lines.Quantum n) ≡ Ok AtLarge
-quantum_leads n some few =
+-- A machine's lines lead to where the processors may be given.
+machine_leads : (machine : Named) (layout : List Row) (cpus : ℕ) → IsLayout layout → (0 < cpus) × (cpus ≤ 16) → (stand : Stand) × Leads (after_machine machine) (row_lines machine layout) stand × (next stand (lines.Cpus cpus) ≡ Ok (AtQuantum cpus))
+machine_leads Amx layout cpus h fits = (AtCpus, refl, cpus_lead cpus fits.0 fits.1)
+machine_leads Avx layout cpus h fits = (AtCpus, refl, cpus_lead cpus fits.0 fits.1)
+machine_leads Rows layout cpus h fits =
+    let parts = layout_parts layout h in
+    (AtRow layout, rows_lead [] layout parts.0, rows_over layout cpus parts.1 ∙ cpus_lead cpus fits.0 fits.1)
+
+quantum_leads : (cpus n : ℕ) → 0 < n → n ≤ 32 → next (AtQuantum cpus) (lines.Quantum n) ≡ Ok (AtLarge cpus)
+quantum_leads cpus n some few =
     let low : nat_le 1 n ≡ true = le-leb 1 n (omega arith) in
     let high : nat_le n 32 ≡ true = le-leb n 32 few in
     rw (low, high) refl
 
-large_leads : (n : ℕ) → n ≤ 64 → next AtLarge (lines.Large n) ≡ Ok (AtBlock [])
-large_leads n few = let high : nat_le n 64 ≡ true = le-leb n 64 few in rw high refl
+large_leads : (cpus n : ℕ) → n ≤ 64 → next (AtLarge cpus) (lines.Large n) ≡ Ok (AtSched cpus 0)
+large_leads cpus n few = let high : nat_le n 64 ≡ true = le-leb n 64 few in rw high refl
 
-head_leads : (script : Script) → IsValid script → script.cpus ≡ 1 → Leads AtVersion (head_lines script) (AtBlock [])
-head_leads script h one =
-    let (stand, leads, cpus) = machine_leads script.machine script.layout h.layout in
-    let numbers : Leads stand (number_lines script) (AtBlock []) = (AtQuantum, rw one cpus, (AtLarge, quantum_leads script.quantum h.quantum.0 h.quantum.1, (AtBlock [], large_leads script.large h.large, refl))) in
-    (AtMachine, refl, (after_machine script.machine, refl, leads_join (after_machine script.machine) stand (AtBlock []) (row_lines script.machine script.layout) (number_lines script) leads numbers))
+head_leads : (script : Script) → IsValid script → Leads AtVersion (head_lines script) (AtSched script.cpus 0)
+head_leads script h =
+    let (stand, leads, cpus) = machine_leads script.machine script.layout script.cpus h.layout h.cpus in
+    let numbers : Leads stand (number_lines script) (AtSched script.cpus 0) = (AtQuantum script.cpus, cpus, (AtLarge script.cpus, quantum_leads script.cpus script.quantum h.quantum.0 h.quantum.1, (AtSched script.cpus 0, large_leads script.cpus script.large h.large, refl))) in
+    (AtMachine, refl, (after_machine script.machine, refl, leads_join (after_machine script.machine) stand (AtSched script.cpus 0) (row_lines script.machine script.layout) (number_lines script) leads numbers))
+
+sched_leads_on : (cpus count : ℕ) (groups : List (List ℕ)) → AllByRecursion (λ entry. entry < cpus) (joined groups) → count + length (joined groups) ≤ 4096 → Leads (AtSched cpus count) (sched_lines groups) (AtSched cpus (count + length (joined groups)))
+sched_leads_on cpus count [] below few = ap (AtSched cpus) (same count)
+  where
+    same : (n : ℕ) → n + 0 ≡ n
+    same n = omega arith
+sched_leads_on cpus count (g ∷ groups) below few =
+    let parts = all_parts (λ entry. entry < cpus) g (joined groups) below in
+    let long : length (g ++ joined groups) ≡ length g + length (joined groups) = length-append g (joined groups) in
+    let within = within_test cpus count g parts.0 (omega (arith, long, few)) in
+    let all : count + length g + length (joined groups) ≡ count + length (g ++ joined groups) = omega (arith, long) in
+    let later = sched_leads_on cpus (count + length g) groups parts.1 (omega (arith, long, few)) in
+    (AtSched cpus (count + length g), rw within refl, subst (λ (n : ℕ). Leads (AtSched cpus (count + length g)) (sched_lines groups) (AtSched cpus n)) all later)
 
 not_true : (b : Bool) → (b ≡ true → ⊥) → b ≡ false
 not_true true h = absurd (h refl)
@@ -142,41 +178,65 @@ another (n ∷ names) rest name h =
     let here = (all_parts (λ other. other ≡ n → ⊥) names (name ∷ rest) h.0).1 in
     or_false (bytes_eq n name) (list_any (λ other. bytes_eq other name) names) (not_true (bytes_eq n name) (λ t. here.0 (sym ((bytes_eq-Decides n name).0 t)))) (another names rest name h.1)
 
-orders_lead : (names : List (List ℕ)) (orders : List Order) → Leads (InBlock names) (order_lines orders) (InBlock names)
-orders_lead names [] = refl
-orders_lead names (o ∷ orders) = (InBlock names, refl, orders_lead names orders)
+orders_lead : (kind : BlockKind) (names : List (List ℕ)) (orders : List Order) (handler : List Order) → fits_kind kind orders handler ≡ true → Leads (InBlock kind names) (order_lines orders) (InBlock kind names)
+orders_lead kind names [] handler fits = refl
+orders_lead kind names (o ∷ orders) handler fits =
+    let parts = order_may kind o orders handler fits in
+    (InBlock kind names, rw parts.0 refl, orders_lead kind names orders handler parts.1)
+  where
+    order_may : (kind : BlockKind) (order : Order) (orders handler : List Order) → fits_kind kind (order ∷ orders) handler ≡ true → (may_have kind order.command ≡ true) × (fits_kind kind orders handler ≡ true)
+    order_may kinds.Task order orders handler fits = (refl, refl)
+    order_may kinds.Child order orders handler fits = (refl, refl)
+    order_may kinds.Kthread order orders handler fits =
+        let outer = and_parts (is_kernel_command order.command && list_all (λ (o : Order). is_kernel_command o.command) orders) (length handler == 0) fits in
+        let parts = and_parts (is_kernel_command order.command) (list_all (λ (o : Order). is_kernel_command o.command) orders) outer.0 in
+        (parts.0, rw (parts.1, outer.1) refl)
 
-task_leads : (names : List (List ℕ)) (name : List ℕ) → length names < 64 → list_any (λ other. bytes_eq other name) names ≡ false → next (AtBlock names) (lines.Task name) ≡ Ok (InBlock (names ++ name ∷ []))
-task_leads names name few new =
+begin_leads : (kind : BlockKind) (names : List (List ℕ)) (name : List ℕ) → length names < 64 → list_any (λ other. bytes_eq other name) names ≡ false → next (AtBlock names) (lines.Begin kind name) ≡ Ok (InBlock kind (names ++ name ∷ []))
+begin_leads kind names name few new =
     let fewer : nat_le 64 (length names) ≡ false = lt-leb 64 (length names) few in
     rw (fewer, new) refl
 
-block_leads : (names : List (List ℕ)) (b : Block) → length names < 64 → list_any (λ other. bytes_eq other b.name) names ≡ false → Leads (AtBlock names) (block_lines b) (AtBlock (names ++ b.name ∷ []))
-block_leads names b few new =
+block_leads : (names : List (List ℕ)) (b : Block) → length names < 64 → list_any (λ other. bytes_eq other b.name) names ≡ false → fits_kind b.kind b.body b.handler ≡ true → Leads (AtBlock names) (block_lines b) (AtBlock (names ++ b.name ∷ []))
+block_leads names b few new fits =
     let more = names ++ b.name ∷ [] in
-    (InBlock more, task_leads names b.name few new, leads_join (InBlock more) (InBlock more) (AtBlock more) (order_lines b.body) (lines.End ∷ []) (orders_lead more b.body) (AtBlock more, refl, refl))
+    (InBlock b.kind more, begin_leads b.kind names b.name few new, leads_join (InBlock b.kind more) (InBlock b.kind more) (AtBlock more) (order_lines b.body) (lines.End ∷ []) (orders_lead b.kind more b.body b.handler fits) (AtBlock more, refl, refl))
 
-blocks_lead : (names : List (List ℕ)) (blocks : List Block) → length names + length blocks ≤ 64 → AreDistinct (names ++ names_of blocks) → Leads (AtBlock names) (flat_map block_lines blocks) (AtBlock (names ++ names_of blocks))
-blocks_lead names [] few h = ap AtBlock (append-nil names)
-blocks_lead names (b ∷ blocks) few h =
+blocks_lead : (rows : List Row) (names : List (List ℕ)) (blocks : List Block) → length names + length blocks ≤ 64 → AreDistinct (names ++ names_of blocks) → AllByRecursion (λ (b : Block). IsBody rows b) blocks → Leads (AtBlock names) (flat_map block_lines blocks) (AtBlock (names ++ names_of blocks))
+blocks_lead rows names [] few h bodies = ap AtBlock (append-nil names)
+blocks_lead rows names (b ∷ blocks) few h bodies =
     let more = names ++ b.name ∷ [] in
     let all : more ++ names_of blocks ≡ names ++ b.name ∷ names_of blocks = append_assoc names (b.name ∷ []) (names_of blocks) in
     let long : length more ≡ length names + 1 = length-append names (b.name ∷ []) in
-    let later = blocks_lead more blocks (omega (arith, few, long)) (subst AreDistinct (sym all) h) in
+    let later = blocks_lead rows more blocks (omega (arith, few, long)) (subst AreDistinct (sym all) h) bodies.1 in
     leads_join (AtBlock names) (AtBlock more) (AtBlock (names ++ names_of (b ∷ blocks))) (block_lines b) (flat_map block_lines blocks)
-    (block_leads names b (omega (arith, few)) (another names (names_of blocks) b.name h))
+    (block_leads names b (omega (arith, few)) (another names (names_of blocks) b.name h) bodies.0.kind)
     (subst (λ (ns : List (List ℕ)). Leads (AtBlock more) (flat_map block_lines blocks) (AtBlock ns)) all later)
 
 -- ---- a text that spells a script
 
-pub spelled_passes : (text : List ℕ) (script : Script) → Spells text script → Passes text (script_lines script)
+-- the lines of its blocks, after a schedule
+blocks_after : (cpus count : ℕ) (script : Script) → IsValid script → IsBuilt script → Leads (AtSched cpus count) (flat_map block_lines script.blocks) (AtBlock (names_of script.blocks))
+blocks_after cpus count script valid built =
+    let few : 0 + length script.blocks ≤ 64 = omega (arith, valid.few) in
+    let fit = blocks_fit script.layout script.blocks built.kinds valid.names valid.bodies built.commands in
+    let text = lines_text (flat_map block_lines script.blocks) in
+    let front : IsFront (AtBlock []) text (flat_map block_lines script.blocks) (AtBlock (names_of script.blocks)) [] = record { lines_fit = fit; parts = sym (append-nil text); leads = blocks_lead script.layout [] script.blocks few valid.distinct valid.bodies } in
+    (front_after cpus count text [] (flat_map block_lines script.blocks) (AtBlock (names_of script.blocks)) (some_lines script.blocks valid.some) front).leads
+
+pub spelled_passes : (text : List ℕ) (script : Script) (h : Spells text script) → Passes text (script_lines script h.groups)
 spelled_passes text script h =
-    let few : 0 + length script.blocks ≤ 64 = omega (arith, h.valid.few) in
+    let entries = subst (λ (xs : List ℕ). AllByRecursion (λ entry. entry < script.cpus) xs) h.grouped.joined h.valid.entries in
+    let long : length script.sched ≡ length (joined h.groups) = ap length h.grouped.joined in
+    let end = AtBlock (names_of script.blocks) in
+    let after = AtSched script.cpus (0 + length (joined h.groups)) in
     record {
-      lines_fit = all_join IsLine (head_lines script) (flat_map block_lines script.blocks) (head_fits script h.valid) (blocks_fit script.layout script.blocks h.valid.names h.valid.commands);
+      lines_fit = all_join IsLine (head_lines script) (sched_lines h.groups ++ flat_map block_lines script.blocks) (head_fits script h.valid)
+          (all_join IsLine (sched_lines h.groups) (flat_map block_lines script.blocks) (sched_fits h.groups script.cpus h.valid.cpus.1 h.grouped.some entries) (blocks_fit script.layout script.blocks h.built.kinds h.valid.names h.valid.bodies h.built.commands));
       spelled = h.spelled;
-      stand = AtBlock (names_of script.blocks);
-      leads = leads_join AtVersion (AtBlock []) (AtBlock (names_of script.blocks)) (head_lines script) (flat_map block_lines script.blocks) (head_leads script h.valid h.built.one) (blocks_lead [] script.blocks few h.valid.distinct);
+      stand = end;
+      leads = leads_join AtVersion (AtSched script.cpus 0) end (head_lines script) (sched_lines h.groups ++ flat_map block_lines script.blocks) (head_leads script h.valid)
+          (leads_join (AtSched script.cpus 0) after end (sched_lines h.groups) (flat_map block_lines script.blocks) (sched_leads_on script.cpus 0 h.groups entries (omega (arith, long, h.valid.schedule))) (blocks_after script.cpus (0 + length (joined h.groups)) script h.valid h.built));
       whole = may_end_some script.blocks h.valid.some;
     }
 
@@ -184,25 +244,29 @@ orders_are_known : (rows : List Row) (orders : List Order) → AllByRecursion (�
 orders_are_known rows [] h g = tt
 orders_are_known rows (o ∷ orders) h g = ((h.0, g.0), orders_are_known rows orders h.1 g.1)
 
-blocks_are_known : (rows : List Row) (blocks : List Block) → AllByRecursion (λ (b : Block). AllByRecursion (λ (order : Order). IsCommand rows order.command) b.body) blocks → AllByRecursion (λ (b : Block). AllByRecursion (λ (order : Order). IsBuiltCommand order.command) b.body) blocks → AllByRecursion (IsKnown rows) (flat_map block_lines blocks)
+blocks_are_known : (rows : List Row) (blocks : List Block) → AllByRecursion (λ (b : Block). IsBody rows b) blocks → AllByRecursion (λ (b : Block). AllByRecursion (λ (order : Order). IsBuiltCommand order.command) b.body) blocks → AllByRecursion (IsKnown rows) (flat_map block_lines blocks)
 blocks_are_known rows [] h g = tt
 blocks_are_known rows (b ∷ blocks) h g =
-    (tt, all_join (IsKnown rows) (order_lines b.body ++ lines.End ∷ []) (flat_map block_lines blocks) (all_join (IsKnown rows) (order_lines b.body) (lines.End ∷ []) (orders_are_known rows b.body h.0 g.0) (tt, tt)) (blocks_are_known rows blocks h.1 g.1))
+    (tt, all_join (IsKnown rows) (order_lines b.body ++ lines.End ∷ []) (flat_map block_lines blocks) (all_join (IsKnown rows) (order_lines b.body) (lines.End ∷ []) (orders_are_known rows b.body h.0.body g.0) (tt, tt)) (blocks_are_known rows blocks h.1 g.1))
 
-pub spelled_known : (text : List ℕ) (script : Script) → Spells text script → AllByRecursion (IsKnown script.layout) (script_lines script)
+pub spelled_known : (text : List ℕ) (script : Script) (h : Spells text script) → AllByRecursion (IsKnown script.layout) (script_lines script h.groups)
 spelled_known text script h =
-    all_join (IsKnown script.layout) (head_lines script) (flat_map block_lines script.blocks) (head_known script.layout script) (blocks_are_known script.layout script.blocks h.valid.commands h.built.registers)
+    all_join (IsKnown script.layout) (head_lines script) (sched_lines h.groups ++ flat_map block_lines script.blocks) (head_known script.layout script)
+    (all_join (IsKnown script.layout) (sched_lines h.groups) (flat_map block_lines script.blocks) (sched_known script.layout h.groups) (blocks_are_known script.layout script.blocks h.valid.bodies h.built.commands))
 
-pub spelled_table : (text : List ℕ) (script : Script) → Spells text script → table_of (script_lines script) ≡ script.layout
-spelled_table text script h = table_of_lines script (flat_map block_lines script.blocks) h.valid.machine (no_rows_table (flat_map block_lines script.blocks) (blocks_no_rows script.blocks))
+pub spelled_table : (text : List ℕ) (script : Script) (h : Spells text script) → table_of (script_lines script h.groups) ≡ script.layout
+spelled_table text script h =
+    let later = sched_lines h.groups ++ flat_map block_lines script.blocks in
+    table_of_lines script later h.valid.machine (no_rows_table later (sched_no_rows h.groups (flat_map block_lines script.blocks) (blocks_no_rows script.blocks)))
 
 -- What is refused spells no script.
 pub not_both : (text : List ℕ) (script : Script) (number : ℕ) (kind : Kind) → Spells text script → Refuses text number kind → ⊥
-not_both text script number kind h (ByLine r) = passes_not_refused text (script_lines script) number kind (spelled_passes text script h) r
+not_both text script number kind h (ByLine r) = passes_not_refused text (script_lines script h.groups) number kind (spelled_passes text script h) r
 not_both text script number kind h (ByCommand r) =
+    let lined = script_lines script h.groups in
     let mine = r.done ++ lines.Order r.command ∷ r.later in
     let passes = spelled_passes text script h in
-    let same : script_lines script ≡ mine = one_lines (script_lines script) mine passes.lines_fit r.passes.lines_fit (sym h.spelled ∙ r.passes.spelled) in
+    let same : lined ≡ mine = one_lines lined mine passes.lines_fit r.passes.lines_fit (sym h.spelled ∙ r.passes.spelled) in
     let table : table_of mine ≡ script.layout = ap table_of (sym same) ∙ spelled_table text script h in
     let known = all_parts (IsKnown script.layout) r.done (lines.Order r.command ∷ r.later) (subst (λ (ls : List Line). AllByRecursion (IsKnown script.layout) ls) same (spelled_known text script h)) in
     known_not_fails script.layout r.command kind known.1.0 (subst (λ (rows : List Row). CommandFails rows r.command kind) table r.fails)
@@ -239,15 +303,16 @@ same_block a b ek en eb eh =
     ∙ ap (λ (os : List Order). record { kind = b.kind; name = b.name; body = os; handler = a.handler }) eb
     ∙ ap (λ (os : List Order). record { kind = b.kind; name = b.name; body = b.body; handler = os }) eh
 
-same_blocks : (first : ℕ) (x y : List Block) → AreBlocksNumbered first x → AreBlocksNumbered first y → AllByRecursion (λ (b : Block). (b.kind ≡ Task) × (b.handler ≡ [])) x → AllByRecursion (λ (b : Block). (b.kind ≡ Task) × (b.handler ≡ [])) y → flat_map block_lines x ≡ flat_map block_lines y → x ≡ y
+same_blocks : (first : ℕ) (x y : List Block) → AreBlocksNumbered first x → AreBlocksNumbered first y → AllByRecursion (λ (b : Block). (is_built_kind b.kind ≡ true) × (b.handler ≡ [])) x → AllByRecursion (λ (b : Block). (is_built_kind b.kind ≡ true) × (b.handler ≡ [])) y → flat_map block_lines x ≡ flat_map block_lines y → x ≡ y
 same_blocks first [] [] nx ny tx ty e = refl
 same_blocks first [] (c ∷ y) nx ny tx ty e = absurd (cc e)
 same_blocks first (b ∷ x) [] nx ny tx ty e = absurd (cc e)
 same_blocks first (b ∷ x) (c ∷ y) nx ny tx ty e =
+    let kind : b.kind ≡ c.kind = cc e in
     let name : b.name ≡ c.name = cc e in
     let tail : (order_lines b.body ++ lines.End ∷ []) ++ flat_map block_lines x ≡ (order_lines c.body ++ lines.End ∷ []) ++ flat_map block_lines y = cc e in
     let body = same_orders (first + 1) b.body c.body (flat_map block_lines x) (flat_map block_lines y) nx.0 ny.0 (sym (append_assoc (order_lines b.body) (lines.End ∷ []) (flat_map block_lines x)) ∙ tail ∙ append_assoc (order_lines c.body) (lines.End ∷ []) (flat_map block_lines y)) in
-    let here = same_block b c (tx.0.0 ∙ sym ty.0.0) name body.0 (tx.0.1 ∙ sym ty.0.1) in
+    let here = same_block b c kind name body.0 (tx.0.1 ∙ sym ty.0.1) in
     let next_first : first + length c.body + 2 ≡ first + length b.body + 2 = ap (λ (os : List Order). first + length os + 2) (sym body.0) in
     let rest = same_blocks (first + length b.body + 2) x y nx.1 (subst (λ (n : ℕ). AreBlocksNumbered n y) next_first ny.1) tx.1 ty.1 body.1 in
     cc (here, rest)
@@ -262,35 +327,55 @@ same_script a b em et ec eq el es eb =
     ∙ ap (λ (s : List ℕ). record { machine = b.machine; layout = b.layout; cpus = b.cpus; quantum = b.quantum; large = b.large; sched = s; blocks = a.blocks }) es
     ∙ ap (λ (bs : List Block). record { machine = b.machine; layout = b.layout; cpus = b.cpus; quantum = b.quantum; large = b.large; sched = b.sched; blocks = bs }) eb
 
+-- before blocks the lines of two schedules are of the same groups
+same_groups : (a b : List (List ℕ)) (x y : List Block) → sched_lines a ++ flat_map block_lines x ≡ sched_lines b ++ flat_map block_lines y → (a ≡ b) × (flat_map block_lines x ≡ flat_map block_lines y)
+same_groups [] [] x y e = (refl, e)
+same_groups [] (g ∷ b) [] y e = absurd (cc e)
+same_groups [] (g ∷ b) (c ∷ x) y e = absurd (cc e)
+same_groups (g ∷ a) [] x [] e = absurd (cc e)
+same_groups (g ∷ a) [] x (c ∷ y) e = absurd (cc e)
+same_groups (g ∷ a) (k ∷ b) x y e =
+    let first : g ≡ k = cc e in
+    let tail : sched_lines a ++ flat_map block_lines x ≡ sched_lines b ++ flat_map block_lines y = cc e in
+    let rest = same_groups a b x y tail in
+    (cc (first, rest.0), rest.1)
+
 -- what scripts of the same lines have alike
-record IsAlike (a b : Script) : Type 0 where
+record IsAlike (a b : Script) (ga gb : List (List ℕ)) : Type 0 where
   cpus : a.cpus ≡ b.cpus
   quantum : a.quantum ≡ b.quantum
   large : a.large ≡ b.large
+  groups : ga ≡ gb
   blocks : flat_map block_lines a.blocks ≡ flat_map block_lines b.blocks
 
-alike : (a b : Script) → a.machine ≡ b.machine → a.layout ≡ b.layout → script_lines a ≡ script_lines b → IsAlike a b
-alike a b em et e =
+alike : (a b : Script) (ga gb : List (List ℕ)) → a.machine ≡ b.machine → a.layout ≡ b.layout → script_lines a ga ≡ script_lines b gb → IsAlike a b ga gb
+alike a b ga gb em et e =
     let front = row_lines a.machine a.layout in
-    let both : (front ++ number_lines a) ++ flat_map block_lines a.blocks ≡ (row_lines b.machine b.layout ++ number_lines b) ++ flat_map block_lines b.blocks = cc e in
+    let later_a = sched_lines ga ++ flat_map block_lines a.blocks in
+    let later_b = sched_lines gb ++ flat_map block_lines b.blocks in
+    let both : (front ++ number_lines a) ++ later_a ≡ (row_lines b.machine b.layout ++ number_lines b) ++ later_b = cc e in
     let fronts : row_lines b.machine b.layout ≡ front = rw (em, et) refl in
-    let joined : front ++ (number_lines a ++ flat_map block_lines a.blocks) ≡ front ++ (number_lines b ++ flat_map block_lines b.blocks) =
-    sym (append_assoc front (number_lines a) (flat_map block_lines a.blocks)) ∙ both
-    ∙ append_assoc (row_lines b.machine b.layout) (number_lines b) (flat_map block_lines b.blocks)
-    ∙ ap (λ (ls : List Line). ls ++ (number_lines b ++ flat_map block_lines b.blocks)) fronts in
-    let tail = append_cancel_left front (number_lines a ++ flat_map block_lines a.blocks) (number_lines b ++ flat_map block_lines b.blocks) joined in
-    record { cpus = cc tail; quantum = cc tail; large = cc tail; blocks = cc tail }
+    let joined : front ++ (number_lines a ++ later_a) ≡ front ++ (number_lines b ++ later_b) =
+    sym (append_assoc front (number_lines a) later_a) ∙ both
+    ∙ append_assoc (row_lines b.machine b.layout) (number_lines b) later_b
+    ∙ ap (λ (ls : List Line). ls ++ (number_lines b ++ later_b)) fronts in
+    let tail = append_cancel_left front (number_lines a ++ later_a) (number_lines b ++ later_b) joined in
+    let later : later_a ≡ later_b = cc tail in
+    let rest = same_groups ga gb a.blocks b.blocks later in
+    record { cpus = cc tail; quantum = cc tail; large = cc tail; groups = rest.0; blocks = rest.1 }
 
 -- A text spells one script at most.
 pub one_script : (text : List ℕ) (a b : Script) → Spells text a → Spells text b → a ≡ b
 one_script text a b ha hb =
     let pa = spelled_passes text a ha in
     let pb = spelled_passes text b hb in
-    let same : script_lines a ≡ script_lines b = one_lines (script_lines a) (script_lines b) pa.lines_fit pb.lines_fit (sym ha.spelled ∙ hb.spelled) in
+    let same : script_lines a ha.groups ≡ script_lines b hb.groups = one_lines (script_lines a ha.groups) (script_lines b hb.groups) pa.lines_fit pb.lines_fit (sym ha.spelled ∙ hb.spelled) in
     let machine : a.machine ≡ b.machine = cc same in
     let layout : a.layout ≡ b.layout = sym (spelled_table text a ha) ∙ ap table_of same ∙ spelled_table text b hb in
-    let like = alike a b machine layout same in
+    let like = alike a b ha.groups hb.groups machine layout same in
     let heads : head_lines b ≡ head_lines a = rw (machine, layout, like.cpus, like.quantum, like.large) refl in
-    let numbered : AreBlocksNumbered (length (head_lines a) + 1) b.blocks = subst (λ (ls : List Line). AreBlocksNumbered (length ls + 1) b.blocks) heads hb.numbered in
-    let blocks = same_blocks (length (head_lines a) + 1) a.blocks b.blocks ha.numbered numbered ha.built.tasks hb.built.tasks like.blocks in
-    same_script a b machine layout like.cpus like.quantum like.large (ha.built.unscheduled ∙ sym hb.built.unscheduled) blocks
+    let at : length (head_lines b) + length hb.groups + 1 ≡ length (head_lines a) + length ha.groups + 1 = ap (λ (ls : List Line). length ls + length hb.groups + 1) heads ∙ ap (λ (gs : List (List ℕ)). length (head_lines a) + length gs + 1) (sym like.groups) in
+    let numbered : AreBlocksNumbered (length (head_lines a) + length ha.groups + 1) b.blocks = subst (λ (n : ℕ). AreBlocksNumbered n b.blocks) at hb.numbered in
+    let blocks = same_blocks (length (head_lines a) + length ha.groups + 1) a.blocks b.blocks ha.numbered numbered ha.built.kinds hb.built.kinds like.blocks in
+    let sched : a.sched ≡ b.sched = ha.grouped.joined ∙ ap joined like.groups ∙ sym hb.grouped.joined in
+    same_script a b machine layout like.cpus like.quantum like.large sched blocks

@@ -1,5 +1,5 @@
 -- One spelling for each line, and a line has no line feed in it.
-use Rattle.std.proofs.Common.{◌≡◌, ℕ, ◌&&◌, ◌==◌, not, Bool, true, false, List, [], ◌∷◌, ◌++◌, refl, sym, ◌∙◌, ap, arith, codes, decimal}
+use Rattle.std.proofs.Common.{◌≡◌, ℕ, ◌+◌, ◌*◌, ◌&&◌, ◌==◌, not, Bool, true, false, List, [], ◌∷◌, ◌++◌, refl, sym, ◌∙◌, ap, arith, codes, decimal}
 use Rattle.std.specs.Prelude.{if◌then◌else◌}
 use Rattle.std.proofs.lemmas.Bool.{and_parts}
 use Rattle.std.proofs.lemmas.List.{append_cancel_left}
@@ -9,14 +9,17 @@ use Rattle.xs_base.specs.declared.component.Row.{Row}
 use Rattle.xs_base.specs.Layout.{row}
 use Rattle.xs_model.specs.declared.script.Named.{Named}
 use Rattle.xs_model.specs.declared.script.Named.TheVariants as machines
+use Rattle.xs_model.specs.declared.script.BlockKind.{BlockKind}
+use Rattle.xs_model.specs.declared.script.BlockKind.TheVariants as blocks
 use Rattle.xs_model.specs.declared.script.Command.{Command}
 use Rattle.xs_model.specs.declared.script.Command.TheVariants as commands
 use Rattle.xs_script.specs.declared.line.Line.{Line}
 use Rattle.xs_script.specs.declared.line.Line.TheVariants as lines
-use Rattle.xs_script.specs.ScriptLine.{line_text, IsLine, IsNumber, row_text, command_text, IsCommandLine, machine_name}
+use Rattle.xs_script.specs.ScriptLine.{line_text, IsLine, IsNumber, row_text, command_text, IsCommandLine, machine_name, block_word, entries_text}
 use Rattle.xs_script.specs.Reads.{Lacks}
-use Rattle.xs_script.proofs.Cuts.{Lacks-append, Lacks-decimal, Lacks-name, Lacks-register, Lacks-hex, one_cut}
+use Rattle.xs_script.proofs.Cuts.{Lacks-append, Lacks-name, Lacks-register, Lacks-hex, one_cut}
 use Rattle.xs_script.proofs.Lanes.{one_hex}
+use Rattle.xs_script.proofs.Entries.{lacks_feed, one_pair, lacks_entries, one_entries}
 
 -- ---- no line has a line feed in it
 
@@ -32,14 +35,7 @@ lacks_word (b ∷ bs) h =
     let p = and_parts (not (b == 10)) (lacks_test bs) h in
     (λ e. let t = rw e at p.0 in cc t, lacks_word bs p.1)
 
--- a number's digits lack the space and the line feed
-pub lacks_space : (n : ℕ) → IsNumber n → Lacks 32 (decimal n)
-lacks_space n fits = Lacks-decimal 32 n (omega arith) (omega arith)
-
-lacks_feed : (n : ℕ) → IsNumber n → Lacks 10 (decimal n)
-lacks_feed n fits = Lacks-decimal 10 n (omega arith) (omega arith)
-
--- so does a number's text behind a word
+-- a number's text behind a word
 lacks_number : (word : List ℕ) (n : ℕ) → Lacks 10 word → IsNumber n → Lacks 10 (word ++ decimal n)
 lacks_number word n w fits = Lacks-append 10 word (decimal n) w (lacks_feed n fits)
 
@@ -58,6 +54,14 @@ lacks_command (commands.Set reg bytes) fits =
     Lacks-append 10 (codes "set ") (reg ++ 32 ∷ encode_lower bytes) (lacks_word (codes "set ") refl)
     (lacks_both reg (encode_lower bytes) (Lacks-register 10 reg refl fits.0) (Lacks-hex 10 bytes refl fits.2))
 lacks_command (commands.Get reg) fits = Lacks-append 10 (codes "get ") reg (lacks_word (codes "get ") refl) (Lacks-register 10 reg refl fits)
+lacks_command (commands.Ksec byte) fits = Lacks-append 10 (codes "ksec ") (encode_lower (byte ∷ [])) (lacks_word (codes "ksec ") refl) (Lacks-hex 10 (byte ∷ []) refl (fits, tt))
+lacks_command commands.Yield fits = lacks_word (codes "yield") refl
+lacks_command other fits = absurd fits
+
+lacks_block_word : (kind : BlockKind) → Lacks 10 (block_word kind)
+lacks_block_word blocks.Task = lacks_word (codes "task ") refl
+lacks_block_word blocks.Child = lacks_word (codes "child ") refl
+lacks_block_word blocks.Kthread = lacks_word (codes "kthread ") refl
 
 -- no line has a line feed in it
 pub Lacks_line : (l : Line) → IsLine l → Lacks 10 (line_text l)
@@ -69,7 +73,8 @@ Lacks_line (lines.Row r) fits = Lacks-append 10 (codes "row ") (row_text r) (lac
 Lacks_line (lines.Cpus n) fits = lacks_number (codes "cpus ") n (lacks_word (codes "cpus ") refl) fits
 Lacks_line (lines.Quantum n) fits = lacks_number (codes "quantum ") n (lacks_word (codes "quantum ") refl) fits
 Lacks_line (lines.Large n) fits = lacks_number (codes "large ") n (lacks_word (codes "large ") refl) fits
-Lacks_line (lines.Task name) fits = Lacks-append 10 (codes "task ") name (lacks_word (codes "task ") refl) (Lacks-name 10 name refl refl fits)
+Lacks_line (lines.Sched entries) fits = Lacks-append 10 (codes "sched") (entries_text entries) (lacks_word (codes "sched") refl) (lacks_entries entries fits.1)
+Lacks_line (lines.Begin kind name) fits = Lacks-append 10 (block_word kind) name (lacks_block_word kind) (Lacks-name 10 name refl refl fits.1)
 Lacks_line (lines.Order command) fits = lacks_command command fits
 Lacks_line lines.End fits = lacks_word (codes "end") refl
 
@@ -81,7 +86,37 @@ begins [] bs = true
 begins (p ∷ ps) [] = false
 begins (p ∷ ps) (b ∷ bs) = (p == b) && begins ps bs
 
--- a number for each kind of line
+-- a number for each kind of command
+abbrev command_kind : Command → ℕ
+command_kind (commands.Set reg bytes) = 0
+command_kind (commands.Get reg) = 1
+command_kind (commands.Ksec byte) = 2
+command_kind commands.Yield = 3
+command_kind other = 4
+
+-- the same, read from the first word
+abbrev command_kind_of : List ℕ → ℕ
+command_kind_of bs =
+    if begins (codes "set ") bs then 0
+    else if begins (codes "get ") bs then 1
+    else if begins (codes "ksec ") bs then 2
+    else if begins (codes "yield") bs then 3
+    else 4
+
+command_kind_is : (k : Command) → command_kind_of (command_text k) ≡ command_kind k
+command_kind_is (commands.Set reg bytes) = refl
+command_kind_is (commands.Get reg) = refl
+command_kind_is (commands.Ksec byte) = refl
+command_kind_is commands.Yield = refl
+command_kind_is other = refl
+
+-- a number for each kind of block
+abbrev pub block_kind : BlockKind → ℕ
+block_kind blocks.Task = 0
+block_kind blocks.Child = 1
+block_kind blocks.Kthread = 2
+
+-- a number for each kind of line: odd from 9 on for the first line of a block, even from 10 on for a command
 abbrev pub kind : Line → ℕ
 kind lines.Version = 0
 kind (lines.Machine named) = 1
@@ -89,9 +124,10 @@ kind (lines.Row r) = 2
 kind (lines.Cpus n) = 3
 kind (lines.Quantum n) = 4
 kind (lines.Large n) = 5
-kind (lines.Task name) = 6
-kind (lines.Order command) = 7
-kind lines.End = 8
+kind (lines.Sched entries) = 6
+kind lines.End = 7
+kind (lines.Begin block name) = 9 + 2 * block_kind block
+kind (lines.Order command) = 10 + 2 * command_kind command
 
 -- the kind, read from the first word
 abbrev pub kind_of : List ℕ → ℕ
@@ -102,10 +138,12 @@ kind_of bs =
     else if begins (codes "cpus ") bs then 3
     else if begins (codes "quantum ") bs then 4
     else if begins (codes "large ") bs then 5
-    else if begins (codes "task ") bs then 6
-    else if begins (codes "set ") bs then 7
-    else if begins (codes "get ") bs then 7
-    else 8
+    else if begins (codes "sched") bs then 6
+    else if begins (codes "end") bs then 7
+    else if begins (codes "task ") bs then 9
+    else if begins (codes "child ") bs then 11
+    else if begins (codes "kthread ") bs then 13
+    else 10 + 2 * command_kind_of bs
 
 -- a line's first word is that of its kind
 pub kind_is : (l : Line) → kind_of (line_text l) ≡ kind l
@@ -115,9 +153,15 @@ kind_is (lines.Row r) = refl
 kind_is (lines.Cpus n) = refl
 kind_is (lines.Quantum n) = refl
 kind_is (lines.Large n) = refl
-kind_is (lines.Task name) = refl
+kind_is (lines.Sched entries) = refl
+kind_is (lines.Begin blocks.Task name) = refl
+kind_is (lines.Begin blocks.Child name) = refl
+kind_is (lines.Begin blocks.Kthread name) = refl
 kind_is (lines.Order (commands.Set reg bytes)) = refl
 kind_is (lines.Order (commands.Get reg)) = refl
+kind_is (lines.Order (commands.Ksec byte)) = refl
+kind_is (lines.Order commands.Yield) = refl
+kind_is (lines.Order other) = refl
 kind_is lines.End = refl
 
 -- lines of one text are of one kind
@@ -155,12 +199,6 @@ one_machine machines.Avx machines.Avx e = refl
 one_machine machines.Rows machines.Rows e = refl
 one_machine a b e = let k = same_machine_kind a b e in absurd (omega arith)
 
--- two numbers are cut at the space between them
-pub one_pair : (m n : ℕ) (x y : List ℕ) → IsNumber m → IsNumber n → decimal m ++ 32 ∷ x ≡ decimal n ++ 32 ∷ y → (m ≡ n) × (x ≡ y)
-one_pair m n x y fm fn e =
-    let cut = one_cut 32 (decimal m) (decimal n) x y (lacks_space m fm) (lacks_space n fn) e in
-    (decimal_injective m n (omega arith) (omega arith) cut.0, cut.1)
-
 -- rows of the same numbers are equal
 pub same_row : (r s : Row) → r.comp.0 ≡ s.comp.0 → r.size ≡ s.size → r.offset ≡ s.offset → r.flags ≡ s.flags → r ≡ s
 same_row r s number size offset flags =
@@ -174,19 +212,6 @@ one_row r s f g e =
     let size = one_pair r.size s.size (decimal r.offset ++ 32 ∷ decimal r.flags) (decimal s.offset ++ 32 ∷ decimal s.flags) f.1 g.1 number.1 in
     let offset = one_pair r.offset s.offset (decimal r.flags) (decimal s.flags) f.2 g.2 size.1 in
     same_row r s number.0 size.0 offset.0 (one_number [] r.flags s.flags f.3 g.3 offset.1)
-
--- a number for each kind of command
-abbrev command_kind : Command → ℕ
-command_kind (commands.Set reg bytes) = 0
-command_kind (commands.Get reg) = 1
-
--- the same, read from the first word
-abbrev pub command_kind_of : List ℕ → ℕ
-command_kind_of bs = if begins (codes "set ") bs then 0 else 1
-
-command_kind_is : (k : Command) → command_kind_of (command_text k) ≡ command_kind k
-command_kind_is (commands.Set reg bytes) = refl
-command_kind_is (commands.Get reg) = refl
 
 same_command_kind : (a b : Command) → command_text a ≡ command_text b → command_kind a ≡ command_kind b
 same_command_kind a b e = sym (command_kind_is a) ∙ ap command_kind_of e ∙ command_kind_is b
@@ -206,6 +231,10 @@ one_command (commands.Set a x) (commands.Set b y) f g e =
     let ex = s.1 in
     cc
 one_command (commands.Get a) (commands.Get b) f g e = ap commands.Get (append_cancel_left (codes "get ") a b e)
+one_command (commands.Ksec a) (commands.Ksec b) f g e =
+    let same = one_hex (a ∷ []) (b ∷ []) (f, tt) (g, tt) (append_cancel_left (codes "ksec ") (encode_lower (a ∷ [])) (encode_lower (b ∷ [])) e) in
+    cc same
+one_command commands.Yield commands.Yield f g e = refl
 one_command a b f g e = let k = same_command_kind a b e in absurd (omega arith)
 
 -- lines of one text are equal
@@ -216,7 +245,10 @@ one_line (lines.Row r) (lines.Row s) f g e = ap lines.Row (one_row r s f g (appe
 one_line (lines.Cpus m) (lines.Cpus n) f g e = ap lines.Cpus (one_number (codes "cpus ") m n f g e)
 one_line (lines.Quantum m) (lines.Quantum n) f g e = ap lines.Quantum (one_number (codes "quantum ") m n f g e)
 one_line (lines.Large m) (lines.Large n) f g e = ap lines.Large (one_number (codes "large ") m n f g e)
-one_line (lines.Task x) (lines.Task y) f g e = ap lines.Task (append_cancel_left (codes "task ") x y e)
+one_line (lines.Sched a) (lines.Sched b) f g e = ap lines.Sched (one_entries a b f.1 g.1 (append_cancel_left (codes "sched") (entries_text a) (entries_text b) e))
+one_line (lines.Begin blocks.Task x) (lines.Begin blocks.Task y) f g e = ap (lines.Begin blocks.Task) (append_cancel_left (codes "task ") x y e)
+one_line (lines.Begin blocks.Child x) (lines.Begin blocks.Child y) f g e = ap (lines.Begin blocks.Child) (append_cancel_left (codes "child ") x y e)
+one_line (lines.Begin blocks.Kthread x) (lines.Begin blocks.Kthread y) f g e = ap (lines.Begin blocks.Kthread) (append_cancel_left (codes "kthread ") x y e)
 one_line (lines.Order a) (lines.Order b) f g e = ap lines.Order (one_command a b f g e)
 one_line lines.End lines.End f g e = refl
 one_line a b f g e = let k = same_kind a b e in absurd (omega arith)

@@ -1,6 +1,7 @@
 -- A script and the lines that it was read from.
 use Rattle.std.specs.Prelude.{bytes_eq, if◌then◌else◌}
 use Rattle.std.proofs.Common.{Bool, false, nat_le, Ok, Err, ◌≡◌, ℕ, ◌+◌, ◌<◌, true, List, [], ◌∷◌, ◌++◌, length, map, refl, sym, ◌∙◌, ap, subst, arith, length-append}
+use Rattle.std.proofs.lemmas.List.{length-map}
 use Rattle.std.specs.List.{AllByRecursion, flat_map, list_any}
 use Rattle.std.proofs.lemmas.List.{append_assoc, append-nil}
 use Rattle.xs_base.specs.declared.component.Row.{Row}
@@ -8,6 +9,7 @@ use Rattle.xs_base.specs.Layout.{amx_rows, avx_rows}
 use Rattle.xs_model.specs.declared.script.Named.{Named}
 use Rattle.xs_model.specs.declared.script.Named.TheVariants.{Amx, Avx, Rows}
 use Rattle.xs_base.proofs.Registers.{place_length}
+use Rattle.xs_model.specs.declared.script.BlockKind.{BlockKind}
 use Rattle.xs_model.specs.declared.script.Command.TheVariants as commands
 use Rattle.xs_model.specs.declared.script.Order.{Order}
 use Rattle.xs_model.specs.declared.script.Block.{Block}
@@ -20,18 +22,20 @@ use Rattle.xs_script.specs.declared.head.Head.{Head}
 use Rattle.xs_script.specs.declared.refusal.ScriptError.{ScriptError}
 use Rattle.xs_script.specs.declared.refusal.ScriptError.TheVariants as errors
 use Rattle.xs_script.specs.ScriptLine.{kept_line}
-use Rattle.xs_script.specs.Grammar.{lines_text, order_lines, block_lines, row_lines, head_lines, Spells}
-use Rattle.xs_script.specs.declared.refusal.Kind.TheVariants.{Limit, Repeated}
+use Rattle.xs_script.specs.Grammar.{lines_text, order_lines, block_lines, row_lines, head_lines, sched_lines, Spells}
+use Rattle.xs_script.specs.declared.refusal.Kind.TheVariants.{BadLine, Limit, Repeated}
 use Rattle.xs_script.specs.declared.refusal.LimitName.TheVariants.{Blocks}
-use Rattle.xs_script.specs.LineOrder.{Stand, AtVersion, AtMachine, AtRow, AtCpus, AtQuantum, AtLarge, AtBlock, InBlock, may_end, next, Leads}
+use Rattle.xs_script.specs.LineOrder.{Stand, AtVersion, AtMachine, AtRow, AtCpus, AtQuantum, AtLarge, AtSched, AtBlock, InBlock, may_end, may_have, next, Leads}
 use Rattle.xs_script.specs.Refusal.{AreLines, Passes, rows_of_line, table_of, IsKnown, ByLine, ByCommand, Explains, CommandFails}
 use Rattle.xs_script.specs.Front.{IsFront, ExplainsFrom}
 use Rattle.xs_script.specs.Head.{IsHeadOf, lines_of_head, machine_lines}
 use Rattle.xs_script.specs.Body.{names_of, AreBlocksOf}
+use Rattle.xs_script.specs.Schedule.{IsScheduleOf}
 use Rattle.xs_script.specs.Outline.{AreKnownBlocks, ExplainsBlocks, ByBlockLine, ByBlockCommand}
 use Rattle.xs_script.proofs.Numbering.{blocks_rise}
 use Rattle.xs_script.proofs.Fronts.{all_join, front_join, rest_explains}
-use Rattle.xs_script.proofs.KnownLines.{names_fit, blocks_known}
+use Rattle.xs_script.proofs.KnownLines.{names_fit, kinds_built, plain_handlers, blocks_known}
+use Rattle.xs_script.proofs.ScheduleLines.{front_after, after_explains}
 use Rattle.xs_script.proofs.Kept.{kept_same_bytes}
 use Rattle.xs_script.proofs.CommandFaults.{fits_length}
 use Rattle.xs_script.proofs.OneRefusal.{one_lines}
@@ -39,11 +43,11 @@ use Rattle.xs_script.proofs.OneRefusal.{one_lines}
 -- ---- the head
 
 -- the lines of a whole head are those of a script with its parts
-pub whole_lines : (head : Head) (script : Script) → head.stage ≡ stages.Block → script.machine ≡ head.machine → script.layout ≡ head.layout → script.cpus ≡ 1 → script.quantum ≡ head.quantum → script.large ≡ head.large → lines_of_head head ≡ head_lines script
+pub whole_lines : (head : Head) (script : Script) → head.stage ≡ stages.Sched → script.machine ≡ head.machine → script.layout ≡ head.layout → script.cpus ≡ head.cpus → script.quantum ≡ head.quantum → script.large ≡ head.large → lines_of_head head ≡ head_lines script
 whole_lines head script whole machine layout one quantum large =
     rw (whole, machine, layout, one, quantum, large) (
-    append_assoc (machine_lines head.machine head.layout ++ lines.Cpus 1 ∷ []) (lines.Quantum head.quantum ∷ []) (lines.Large head.large ∷ [])
-    ∙ append_assoc (machine_lines head.machine head.layout) (lines.Cpus 1 ∷ []) (lines.Quantum head.quantum ∷ lines.Large head.large ∷ []))
+    append_assoc (machine_lines head.machine head.layout ++ lines.Cpus head.cpus ∷ []) (lines.Quantum head.quantum ∷ []) (lines.Large head.large ∷ [])
+    ∙ append_assoc (machine_lines head.machine head.layout) (lines.Cpus head.cpus ∷ []) (lines.Quantum head.quantum ∷ lines.Large head.large ∷ []))
 
 rows_of_rows : (rows : List Row) (ls : List Line) → table_of (map lines.Row rows ++ ls) ≡ rows ++ table_of ls
 rows_of_rows [] ls = refl
@@ -63,7 +67,8 @@ no_row rows (lines.Row r) h = absurd (cc h)
 no_row rows (lines.Cpus n) h = h
 no_row rows (lines.Quantum n) h = h
 no_row rows (lines.Large n) h = h
-no_row rows (lines.Task name) h = h
+no_row rows (lines.Sched entries) h = h
+no_row rows (lines.Begin kind name) h = h
 no_row rows (lines.Order command) h = h
 no_row rows lines.End h = h
 
@@ -92,15 +97,20 @@ blocks_no_rows (b ∷ blocks) =
 -- ---- what the first pass leaves
 
 abbrev pub script_of : Head → List ℕ → List Block → Script
-script_of head sched blocks = record { machine = head.machine; layout = head.layout; cpus = 1; quantum = head.quantum; large = head.large; sched = sched; blocks = blocks }
+script_of head sched blocks = record { machine = head.machine; layout = head.layout; cpus = head.cpus; quantum = head.quantum; large = head.large; sched = sched; blocks = blocks }
 
--- The text is the script's head and lines of which its blocks were kept.
-pub record IsRead (text : List ℕ) (script : Script) : Type 0 where
+-- the lines of a schedule have no rows either
+pub sched_no_rows : (groups : List (List ℕ)) (ls : List Line) → HasNoRows ls → HasNoRows (sched_lines groups ++ ls)
+sched_no_rows [] ls h = h
+sched_no_rows (g ∷ groups) ls h = (refl, sched_no_rows groups ls h)
+
+-- The text is the lines of the script's head and its schedule, and lines of which its blocks were kept.
+pub record IsRead (text : List ℕ) (script : Script) (groups : List (List ℕ)) : Type 0 where
   pub later : List Line
   pub later_fits : AreLines later
   pub kept_is : flat_map block_lines script.blocks ≡ map kept_line later
-  pub passes : Passes text (head_lines script ++ later)
-  pub table : table_of (head_lines script ++ later) ≡ script.layout
+  pub passes : Passes text (head_lines script ++ (sched_lines groups ++ later))
+  pub table : table_of (head_lines script ++ (sched_lines groups ++ later)) ≡ script.layout
 
 pub may_end_some : (blocks : List Block) → 0 < length blocks → may_end (AtBlock (names_of blocks)) ≡ true
 may_end_some [] h = absurd (omega arith)
@@ -112,25 +122,39 @@ table_of_lines script later is none =
     ap (λ (ls : List Line). table_of (lines.Version ∷ lines.Machine script.machine ∷ ls)) (append_assoc (row_lines script.machine script.layout) numbers later)
     ∙ table_of_head script.machine script.layout (numbers ++ later) is none
 
-pub read_both : (text rest : List ℕ) (head : Head) (number : ℕ) (sched : List ℕ) (blocks : List Block) → IsHeadOf text head number rest → AreBlocksOf number rest blocks → IsRead text (script_of head sched blocks)
-read_both text rest head number sched blocks h b =
+-- the head, the schedule, and what comes after them
+pub fronts_join : (text first rest left : List ℕ) (head : Head) (sched : List ℕ) (number later_number : ℕ) (ls : List Line) (end : Stand) → IsHeadOf text head number first → (s : IsScheduleOf head.cpus number first sched later_number rest) → IsFront (AtSched head.cpus (length sched)) rest ls end left → IsFront AtVersion text (lines_of_head head ++ (sched_lines s.groups ++ ls)) end left
+fronts_join text first rest left head sched number later_number ls end h s front =
+    front_join AtVersion (AtSched head.cpus 0) end text first left (lines_of_head head) (sched_lines s.groups ++ ls) h.front
+    (front_join (AtSched head.cpus 0) (AtSched head.cpus (length sched)) end first rest left (sched_lines s.groups) ls s.front front)
+
+pub some_lines : (blocks : List Block) → 0 < length blocks → 0 < length (flat_map block_lines blocks)
+some_lines [] some = absurd (omega arith)
+some_lines (b ∷ blocks) some = omega arith
+
+pub read_both : (text first rest : List ℕ) (head : Head) (number later_number : ℕ) (sched : List ℕ) (blocks : List Block) → IsHeadOf text head number first → (s : IsScheduleOf head.cpus number first sched later_number rest) → AreBlocksOf later_number rest blocks → IsRead text (script_of head sched blocks) s.groups
+read_both text first rest head number later_number sched blocks h s b =
     let script = script_of head sched blocks in
     let later = b.front.lines in
     let lines_are : lines_of_head head ≡ head_lines script = whole_lines head script h.whole refl refl refl refl refl in
-    let joined = front_join AtVersion (AtBlock []) (AtBlock (names_of blocks)) text rest [] (lines_of_head head) later h.front b.front.front in
-    let front : IsFront AtVersion text (head_lines script ++ later) (AtBlock (names_of blocks)) [] = subst (λ (ls : List Line). IsFront AtVersion text (ls ++ later) (AtBlock (names_of blocks)) []) lines_are joined in
+    let long : length (flat_map block_lines blocks) ≡ length later = ap length b.front.kept_is ∙ length-map later kept_line in
+    let some : 0 < length later = omega (arith, long, some_lines blocks b.some) in
+    let front = front_after head.cpus (length sched) rest [] later (AtBlock (names_of blocks)) some b.front.front in
+    let joined = fronts_join text first rest [] head sched number later_number later (AtBlock (names_of blocks)) h s front in
+    let whole : IsFront AtVersion text (head_lines script ++ (sched_lines s.groups ++ later)) (AtBlock (names_of blocks)) [] = subst (λ (ls : List Line). IsFront AtVersion text (ls ++ (sched_lines s.groups ++ later)) (AtBlock (names_of blocks)) []) lines_are joined in
+    let bare = kept_bare later (subst HasNoRows b.front.kept_is (blocks_no_rows blocks)) in
     record {
       later = later;
       later_fits = b.front.front.lines_fit;
       kept_is = b.front.kept_is;
       passes = record {
-        lines_fit = front.lines_fit;
-        spelled = front.parts ∙ append-nil (lines_text (head_lines script ++ later));
+        lines_fit = whole.lines_fit;
+        spelled = whole.parts ∙ append-nil (lines_text (head_lines script ++ (sched_lines s.groups ++ later)));
         stand = AtBlock (names_of blocks);
-        leads = front.leads;
+        leads = whole.leads;
         whole = may_end_some blocks b.some;
       };
-      table = table_of_lines script later h.fits.machine (no_rows_table later (kept_bare later (subst HasNoRows b.front.kept_is (blocks_no_rows blocks))));
+      table = table_of_lines script (sched_lines s.groups ++ later) h.fits.machine (no_rows_table (sched_lines s.groups ++ later) (sched_no_rows s.groups later bare));
     }
 
 -- ---- what the second pass adds
@@ -143,12 +167,14 @@ known_whole rows (lines.Row r) h none = absurd (cc none)
 known_whole rows (lines.Cpus n) h none = refl
 known_whole rows (lines.Quantum n) h none = refl
 known_whole rows (lines.Large n) h none = refl
-known_whole rows (lines.Task name) h none = refl
+known_whole rows (lines.Sched entries) h none = refl
+known_whole rows (lines.Begin kind name) h none = refl
 known_whole rows (lines.Order (commands.Set reg bytes)) ((place, here, fits, bytes_are), built) none =
     let size = place_length reg place here.0 in
     let len = fits_length place bytes fits in
     ap (λ (bs : List ℕ). lines.Order (commands.Set reg bs)) (kept_same_bytes bytes (omega (arith, size.1, len)))
 known_whole rows (lines.Order (commands.Get reg)) h none = refl
+known_whole rows (lines.Order other) h none = refl
 known_whole rows lines.End h none = refl
 
 known_lines_whole : (rows : List Row) (ls : List Line) → AllByRecursion (IsKnown rows) ls → HasNoRows ls → map kept_line ls ≡ ls
@@ -156,36 +182,43 @@ known_lines_whole rows [] h none = refl
 known_lines_whole rows (l ∷ ls) h none = cc (known_whole rows l h.0 none.0, known_lines_whole rows ls h.1 none.1)
 
 -- Where it finds nothing, the text spells the script.
-pub read_spells : (text rest : List ℕ) (head : Head) (number : ℕ) (sched : List ℕ) (blocks : List Block) → sched ≡ [] → IsHeadOf text head number rest → AreKnownBlocks head.layout rest → AreBlocksOf number rest blocks → Spells text (script_of head sched blocks)
+pub read_spells : (text first rest : List ℕ) (head : Head) (number later_number : ℕ) (sched : List ℕ) (blocks : List Block) → IsHeadOf text head number first → IsScheduleOf head.cpus number first sched later_number rest → AreKnownBlocks head.layout rest → AreBlocksOf later_number rest blocks → Spells text (script_of head sched blocks)
 unfolding read_both
-read_spells text rest head number sched blocks none h k b =
+read_spells text first rest head number later_number sched blocks h s k b =
     let script = script_of head sched blocks in
-    let r = read_both text rest head number sched blocks h b in
+    let r = read_both text first rest head number later_number sched blocks h s b in
     let rows = head.layout in
     let one : k.lines ≡ r.later = one_lines k.lines r.later k.front.lines_fit r.later_fits (sym (append-nil (lines_text k.lines)) ∙ sym k.front.parts ∙ b.front.front.parts ∙ append-nil (lines_text r.later)) in
     let known = subst (λ (ls : List Line). AllByRecursion (IsKnown rows) ls) one k.known in
     let bare = kept_bare r.later (subst HasNoRows r.kept_is (blocks_no_rows blocks)) in
     let same : flat_map block_lines blocks ≡ r.later = r.kept_is ∙ known_lines_whole rows r.later known bare in
-    let commands = blocks_known rows blocks (subst (λ (ls : List Line). AllByRecursion (IsKnown rows) ls) (sym same) known) in
+    let fit = subst AreLines (sym same) r.later_fits in
+    let handlers = plain_handlers blocks b.fits.plain in
+    let commands = blocks_known rows blocks b.fits.plain (subst (λ (ls : List Line). AllByRecursion (IsKnown rows) ls) (sym same) known) in
     let lines_are : lines_of_head head ≡ head_lines script = whole_lines head script h.whole refl refl refl refl refl in
-    let first : number ≡ length (head_lines script) + 1 = rw lines_are at h.next in
+    let at : number ≡ length (head_lines script) + 1 = rw lines_are at h.next in
+    let later_at : later_number ≡ length (head_lines script) + length s.groups + 1 = omega (arith, at, s.next) in
     record {
       valid = record {
         layout = h.fits.layout;
         machine = h.fits.machine;
-        cpus = (omega arith, omega arith);
+        cpus = h.fits.cpus;
         quantum = h.fits.quantum;
         large = h.fits.large;
+        entries = s.below;
+        schedule = s.few;
         some = b.some;
         few = b.fits.few;
-        names = names_fit blocks (subst AreLines (sym same) r.later_fits);
+        names = names_fit blocks fit;
         distinct = b.fits.distinct;
-        rising = blocks_rise 0 number blocks (omega arith) b.fits.numbered;
-        commands = commands.0;
+        rising = blocks_rise 0 later_number blocks (omega arith) handlers b.fits.numbered;
+        bodies = commands.0;
       };
-      built = record { one = refl; unscheduled = none; tasks = b.fits.tasks; registers = commands.1 };
-      numbered = rw first at b.fits.numbered;
-      spelled = r.passes.spelled ∙ ap (λ (ls : List Line). lines_text (head_lines script ++ ls)) (sym same);
+      built = record { kinds = kinds_built blocks fit handlers; commands = commands.1 };
+      groups = s.groups;
+      grouped = s.grouped;
+      numbered = rw later_at at b.fits.numbered;
+      spelled = r.passes.spelled ∙ ap (λ (ls : List Line). lines_text (head_lines script ++ (sched_lines s.groups ++ ls))) (sym same);
     }
 
 -- a refusal of the first pass
@@ -195,9 +228,16 @@ line_refuses text (errors.Refused line kind) r =
     ByLine (record { done = r.done; rest = r.rest; stand = r.stand; lines_fit = r.front.lines_fit; parts = r.front.parts; leads = r.front.leads; fails = rw at at r.fails })
 line_refuses text errors.Memory r = tt
 
+-- a refusal of the schedule
+pub sched_refuses : (text first : List ℕ) (head : Head) (number : ℕ) (e : ScriptError) → IsHeadOf text head number first → ExplainsFrom (AtSched head.cpus 0) number first e → Explains text e
+sched_refuses text first head number e h r = line_refuses text e (rest_explains AtVersion (AtSched head.cpus 0) 1 number text first (lines_of_head head) e h.front (omega (arith, h.next)) r)
+
 -- a refusal of the blocks
-pub blocks_refuse : (text rest : List ℕ) (head : Head) (number : ℕ) (e : ScriptError) → IsHeadOf text head number rest → ExplainsFrom (AtBlock []) number rest e → Explains text e
-blocks_refuse text rest head number e h r = line_refuses text e (rest_explains AtVersion (AtBlock []) 1 number text rest (lines_of_head head) e h.front (omega (arith, h.next)) r)
+pub blocks_refuse : (text first rest : List ℕ) (head : Head) (number later_number : ℕ) (sched : List ℕ) (e : ScriptError) → IsHeadOf text head number first → IsScheduleOf head.cpus number first sched later_number rest → ExplainsFrom (AtBlock []) later_number rest e → Explains text e
+blocks_refuse text first rest head number later_number sched e h s r =
+    let long : length (sched_lines s.groups) ≡ length s.groups = length-map s.groups lines.Sched in
+    sched_refuses text first head number e h
+    (rest_explains (AtSched head.cpus 0) (AtSched head.cpus (length sched)) number later_number first rest (sched_lines s.groups) e s.front (omega (arith, long, s.next)) (after_explains head.cpus (length sched) later_number rest e s.over r))
 
 -- ---- a refusal of the second pass
 
@@ -214,21 +254,31 @@ head_known rows script =
     rows_known Avx layout = tt
     rows_known Rows layout = all_rows layout
 
+-- the lines of a schedule have no registers
+pub sched_known : (rows : List Row) (groups : List (List ℕ)) → AllByRecursion (IsKnown rows) (sched_lines groups)
+sched_known rows [] = tt
+sched_known rows (g ∷ groups) = (tt, sched_known rows groups)
+
 -- the stand is among blocks
 abbrev IsAmongBlocks : Stand → Type 0
 IsAmongBlocks AtVersion = ⊥
 IsAmongBlocks AtMachine = ⊥
 IsAmongBlocks (AtRow rows) = ⊥
 IsAmongBlocks AtCpus = ⊥
-IsAmongBlocks AtQuantum = ⊥
-IsAmongBlocks AtLarge = ⊥
+IsAmongBlocks (AtQuantum cpus) = ⊥
+IsAmongBlocks (AtLarge cpus) = ⊥
+IsAmongBlocks (AtSched cpus count) = ⊥
 IsAmongBlocks (AtBlock names) = Unit {0}
-IsAmongBlocks (InBlock names) = Unit {0}
+IsAmongBlocks (InBlock kind names) = Unit {0}
 
-task_among : (full repeated : Bool) (names : List (List ℕ)) (mid : Stand) → (if full then Err (Limit Blocks) else if repeated then Err Repeated else Ok (InBlock names)) ≡ Ok mid → IsAmongBlocks mid
-task_among true repeated names mid h = absurd (cc h)
-task_among false true names mid h = absurd (cc h)
-task_among false false names mid h = let is : InBlock names ≡ mid = cc h in subst IsAmongBlocks is tt
+begin_among : (full repeated : Bool) (kind : BlockKind) (names : List (List ℕ)) (mid : Stand) → (if full then Err (Limit Blocks) else if repeated then Err Repeated else Ok (InBlock kind names)) ≡ Ok mid → IsAmongBlocks mid
+begin_among true repeated kind names mid h = absurd (cc h)
+begin_among false true kind names mid h = absurd (cc h)
+begin_among false false kind names mid h = let is : InBlock kind names ≡ mid = cc h in subst IsAmongBlocks is tt
+
+order_among : (may : Bool) (kind : BlockKind) (names : List (List ℕ)) (mid : Stand) → (if may then Ok (InBlock kind names) else Err BadLine) ≡ Ok mid → IsAmongBlocks mid
+order_among true kind names mid h = let is : InBlock kind names ≡ mid = cc h in subst IsAmongBlocks is tt
+order_among false kind names mid h = absurd (cc h)
 
 -- A line that leads on from there is no row, and leads to such a stand.
 among_step : (stand mid : Stand) (l : Line) → IsAmongBlocks stand → next stand l ≡ Ok mid → (rows_of_line l ≡ []) × IsAmongBlocks mid
@@ -236,26 +286,14 @@ among_step AtVersion mid l among h = absurd among
 among_step AtMachine mid l among h = absurd among
 among_step (AtRow rows) mid l among h = absurd among
 among_step AtCpus mid l among h = absurd among
-among_step AtQuantum mid l among h = absurd among
-among_step AtLarge mid l among h = absurd among
-among_step (AtBlock names) mid lines.Version among h = absurd (cc h)
-among_step (AtBlock names) mid (lines.Machine named) among h = absurd (cc h)
-among_step (AtBlock names) mid (lines.Row r) among h = absurd (cc h)
-among_step (AtBlock names) mid (lines.Cpus n) among h = absurd (cc h)
-among_step (AtBlock names) mid (lines.Quantum n) among h = absurd (cc h)
-among_step (AtBlock names) mid (lines.Large n) among h = absurd (cc h)
-among_step (AtBlock names) mid (lines.Task name) among h = (refl, task_among (nat_le 64 (length names)) (list_any (λ other. bytes_eq other name) names) (names ++ name ∷ []) mid h)
-among_step (AtBlock names) mid (lines.Order command) among h = absurd (cc h)
-among_step (AtBlock names) mid lines.End among h = absurd (cc h)
-among_step (InBlock names) mid lines.Version among h = absurd (cc h)
-among_step (InBlock names) mid (lines.Machine named) among h = absurd (cc h)
-among_step (InBlock names) mid (lines.Row r) among h = absurd (cc h)
-among_step (InBlock names) mid (lines.Cpus n) among h = absurd (cc h)
-among_step (InBlock names) mid (lines.Quantum n) among h = absurd (cc h)
-among_step (InBlock names) mid (lines.Large n) among h = absurd (cc h)
-among_step (InBlock names) mid (lines.Task name) among h = absurd (cc h)
-among_step (InBlock names) mid (lines.Order command) among h = (refl, let is : InBlock names ≡ mid = cc h in subst IsAmongBlocks is tt)
-among_step (InBlock names) mid lines.End among h = (refl, let is : AtBlock names ≡ mid = cc h in subst IsAmongBlocks is tt)
+among_step (AtQuantum cpus) mid l among h = absurd among
+among_step (AtLarge cpus) mid l among h = absurd among
+among_step (AtSched cpus count) mid l among h = absurd among
+among_step (AtBlock names) mid (lines.Begin kind name) among h = (refl, begin_among (nat_le 64 (length names)) (list_any (λ other. bytes_eq other name) names) kind (names ++ name ∷ []) mid h)
+among_step (AtBlock names) mid l among h = absurd (cc h)
+among_step (InBlock kind names) mid (lines.Order command) among h = (refl, order_among (may_have kind command) kind names mid h)
+among_step (InBlock kind names) mid lines.End among h = (refl, let is : AtBlock names ≡ mid = cc h in subst IsAmongBlocks is tt)
+among_step (InBlock kind names) mid l among h = absurd (cc h)
 
 lead_bare : (stand end : Stand) (ls : List Line) → IsAmongBlocks stand → Leads stand ls end → HasNoRows ls
 lead_bare stand end [] among h = tt
@@ -264,20 +302,28 @@ lead_bare stand end (l ∷ ls) among (mid, leads, rest) =
     (step.0, lead_bare mid end ls step.1 rest)
 
 -- A refusal of the blocks is one of the text.
-pub outline_refuses : (text rest : List ℕ) (head : Head) (number : ℕ) (e : ScriptError) → IsHeadOf text head number rest → ExplainsBlocks head.layout number rest e → Explains text e
-outline_refuses text rest head number (errors.Refused line kind) h (ByBlockLine r) = blocks_refuse text rest head number (errors.Refused line kind) h r
-outline_refuses text rest head number (errors.Refused line kind) h (ByBlockCommand ls stand front whole f) =
-    let script = script_of head [] [] in
+pub outline_refuses : (text first rest : List ℕ) (head : Head) (number later_number : ℕ) (sched : List ℕ) (e : ScriptError) → IsHeadOf text head number first → IsScheduleOf head.cpus number first sched later_number rest → ExplainsBlocks head.layout later_number rest e → Explains text e
+outline_refuses text first rest head number later_number sched (errors.Refused line kind) h s (ByBlockLine r) = blocks_refuse text first rest head number later_number sched (errors.Refused line kind) h s r
+outline_refuses text first rest head number later_number sched (errors.Refused line kind) h s (ByBlockCommand ls stand front whole f) =
+    let script = script_of head sched [] in
     let rows = head.layout in
-    let before = lines_of_head head in
+    let before = lines_of_head head ++ sched_lines s.groups in
     let all = (before ++ f.done) ++ lines.Order f.command ∷ f.later in
     let same : before ++ ls ≡ all = ap (λ (xs : List Line). before ++ xs) f.split ∙ sym (append_assoc before f.done (lines.Order f.command ∷ f.later)) in
-    let lines_are : before ≡ head_lines script = whole_lines head script h.whole refl refl refl refl refl in
-    let joined = front_join AtVersion (AtBlock []) stand text rest [] before ls h.front front in
-    let bare = lead_bare (AtBlock []) stand ls tt front.leads in
-    let table : table_of all ≡ rows = sym (ap table_of same) ∙ ap (λ (xs : List Line). table_of (xs ++ ls)) lines_are ∙ table_of_lines script ls h.fits.machine (no_rows_table ls bare) in
+    let lines_are : lines_of_head head ≡ head_lines script = whole_lines head script h.whole refl refl refl refl refl in
+    let some : 0 < length ls = rw f.split (rw length-append (omega arith)) in
+    let after = front_after head.cpus (length sched) rest [] ls stand some front in
+    let parted : (lines_of_head head ++ (sched_lines s.groups ++ ls)) ≡ before ++ ls = sym (append_assoc (lines_of_head head) (sched_lines s.groups) ls) in
+    let joined = subst (λ (xs : List Line). IsFront AtVersion text xs stand []) parted (fronts_join text first rest [] head sched number later_number ls stand h s after) in
+    let bare = sched_no_rows s.groups ls (lead_bare (AtBlock []) stand ls tt front.leads) in
+    let table : table_of all ≡ rows =
+    sym (ap table_of (parted ∙ same)) ∙ ap (λ (xs : List Line). table_of (xs ++ (sched_lines s.groups ++ ls))) lines_are
+    ∙ table_of_lines script (sched_lines s.groups ++ ls) h.fits.machine (no_rows_table (sched_lines s.groups ++ ls) bare) in
     let head_is_known = subst (λ (xs : List Line). AllByRecursion (IsKnown rows) xs) (sym lines_are) (head_known rows script) in
+    let before_known = all_join (IsKnown rows) (lines_of_head head) (sched_lines s.groups) head_is_known (sched_known rows s.groups) in
     let long : length (before ++ f.done) ≡ length before + length f.done = length-append before f.done in
+    let parts : length before ≡ length (lines_of_head head) + length (sched_lines s.groups) = length-append (lines_of_head head) (sched_lines s.groups) in
+    let groups : length (sched_lines s.groups) ≡ length s.groups = length-map s.groups lines.Sched in
     ByCommand (record {
       done = before ++ f.done;
       command = f.command;
@@ -289,8 +335,8 @@ outline_refuses text rest head number (errors.Refused line kind) h (ByBlockComma
         leads = joined.leads;
         whole = whole;
       });
-      known = subst (λ (rs : List Row). AllByRecursion (IsKnown rs) (before ++ f.done)) (sym table) (all_join (IsKnown rows) before f.done head_is_known f.known);
+      known = subst (λ (rs : List Row). AllByRecursion (IsKnown rs) (before ++ f.done)) (sym table) (all_join (IsKnown rows) before f.done before_known f.known);
       fails = subst (λ (rs : List Row). CommandFails rs f.command kind) (sym table) f.fails;
-      number_is = omega (arith, h.next, f.number_is, long);
+      number_is = omega (arith, h.next, s.next, f.number_is, long, parts, groups);
     })
-outline_refuses text rest head number errors.Memory h e = tt
+outline_refuses text first rest head number later_number sched errors.Memory h s e = tt

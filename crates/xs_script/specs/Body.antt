@@ -1,9 +1,8 @@
 -- What a reader keeps of the blocks.
-use Rattle.std.specs.Prelude.{◌≡◌, ℕ, ◌+◌, ◌<◌, ◌≤◌, List, [], ◌∷◌, ◌++◌, length, map, Option, Some, None, Ok}
+use Rattle.std.specs.Prelude.{◌≡◌, ℕ, ◌+◌, ◌<◌, ◌≤◌, true, List, [], ◌∷◌, ◌++◌, length, map, Option, Some, None, Ok}
 use Rattle.std.specs.List.{flat_map, AllByRecursion}
-use Rattle.xs_model.specs.declared.script.BlockKind.TheVariants.{Task}
 use Rattle.xs_model.specs.declared.script.Block.{Block}
-use Rattle.xs_model.specs.Script.{AreDistinct, AreBlocksNumbered}
+use Rattle.xs_model.specs.Script.{AreDistinct, AreBlocksNumbered, fits_kind}
 use Rattle.xs_script.specs.declared.line.Line.{Line}
 use Rattle.xs_script.specs.declared.line.Line.TheVariants as lines
 use Rattle.xs_script.specs.declared.body.Body.{Body}
@@ -26,7 +25,7 @@ blocks_of body = with_begun body.blocks body.begun
 -- where a reader stands with it
 abbrev pub begun_stand : List Block → Option Block → Stand
 begun_stand blocks None = AtBlock (names_of blocks)
-begun_stand blocks (Some block) = InBlock (names_of (blocks ++ block ∷ []))
+begun_stand blocks (Some block) = InBlock block.kind (names_of (blocks ++ block ∷ []))
 
 abbrev pub body_stand : Body → Stand
 body_stand body = begun_stand body.blocks body.begun
@@ -34,17 +33,22 @@ body_stand body = begun_stand body.blocks body.begun
 -- the lines that came
 abbrev pub begun_lines : Option Block → List Line
 begun_lines None = []
-begun_lines (Some block) = lines.Task block.name ∷ order_lines block.body
+begun_lines (Some block) = lines.Begin block.kind block.name ∷ order_lines block.body
 
 abbrev pub lines_of_body : Body → List Line
 lines_of_body body = flat_map block_lines body.blocks ++ begun_lines body.begun
+
+-- a block without a handler, whose commands its kind may have
+pub record IsPlainBlock (block : Block) : Type 0 where
+  pub handler : block.handler ≡ []
+  pub fits : fits_kind block.kind block.body block.handler ≡ true
 
 -- These are blocks that a script may have, where line `first` is their first.
 pub record AreBlocks (first : ℕ) (blocks : List Block) : Type 0 where
   pub few : length blocks ≤ 64
   pub distinct : AreDistinct (names_of blocks)
   pub numbered : AreBlocksNumbered first blocks
-  pub tasks : AllByRecursion (λ (block : Block). (block.kind ≡ Task) × (block.handler ≡ [])) blocks
+  pub plain : AllByRecursion IsPlainBlock blocks
 
 -- It takes one line more, which is line `number`.
 pub record TakesLine (number : ℕ) (body : Body) (line : Line) (after : Body) : Type 0 where

@@ -23,3 +23,4 @@ pub data RegisterFails (rows : List Row) (reg : List ℕ) : Kind → Type 0 wher
 abbrev pub PassesCommand : List Row → Command → Type 0
 PassesCommand rows (Set reg bytes) = (place : Place) × IsBuiltRegister rows reg place × (fits_register place bytes ≡ true)
 PassesCommand rows (Get reg) = (place : Place) × IsBuiltRegister rows reg place
+PassesCommand rows other = Unit {0}

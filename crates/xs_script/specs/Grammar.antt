@@ -1,7 +1,7 @@
 -- The script that a text spells. A script is written as an order of lines, each line in its one spelling and ended
 -- by one line feed; so a text is said to spell a script by writing the script, and not by reading the text.
-use Rattle.std.specs.Prelude.{◌≡◌, ℕ, ◌+◌, List, [], ◌∷◌, ◌++◌, length, map}
-use Rattle.std.specs.List.{flat_map}
+use Rattle.std.specs.Prelude.{◌≡◌, ℕ, ◌+◌, ◌<◌, List, [], ◌∷◌, ◌++◌, length, map}
+use Rattle.std.specs.List.{flat_map, AllByRecursion}
 use Rattle.xs_base.specs.declared.component.Row.{Row}
 use Rattle.xs_model.specs.declared.script.Named.{Named}
 use Rattle.xs_model.specs.declared.script.Named.TheVariants as machines
@@ -22,7 +22,15 @@ abbrev pub order_lines : List Order → List Line
 order_lines orders = map (λ order. lines.Order order.command) orders
 
 abbrev pub block_lines : Block → List Line
-block_lines block = lines.Task block.name ∷ (order_lines block.body ++ lines.End ∷ [])
+block_lines block = lines.Begin block.kind block.name ∷ (order_lines block.body ++ lines.End ∷ [])
+
+-- The entries of a schedule stand in groups, one a line and none of them empty.
+pub record AreGroups (groups : List (List ℕ)) (sched : List ℕ) : Type 0 where
+  pub some : AllByRecursion (λ group. 0 < length group) groups
+  pub joined : sched ≡ flat_map (λ group. group) groups
+
+abbrev pub sched_lines : List (List ℕ) → List Line
+sched_lines groups = map lines.Sched groups
 
 -- a machine without a name of its own is given by its rows
 abbrev pub row_lines : Named → List Row → List Line
@@ -36,12 +44,14 @@ head_lines script =
     lines.Version ∷ lines.Machine script.machine
     ∷ (row_lines script.machine script.layout ++ lines.Cpus script.cpus ∷ lines.Quantum script.quantum ∷ lines.Large script.large ∷ [])
 
-abbrev pub script_lines : Script → List Line
-script_lines script = head_lines script ++ flat_map block_lines script.blocks
+abbrev pub script_lines : Script → List (List ℕ) → List Line
+script_lines script groups = head_lines script ++ (sched_lines groups ++ flat_map block_lines script.blocks)
 
 -- The text spells the script: it is the script's lines, and each order has the number of its line, counted from 1.
 pub record Spells (text : List ℕ) (script : Script) : Type 0 where
   pub valid : IsValid script
   pub built : IsBuilt script
-  pub numbered : AreBlocksNumbered (length (head_lines script) + 1) script.blocks
-  pub spelled : text ≡ lines_text (script_lines script)
+  pub groups : List (List ℕ)
+  pub grouped : AreGroups groups script.sched
+  pub numbered : AreBlocksNumbered (length (head_lines script) + length groups + 1) script.blocks
+  pub spelled : text ≡ lines_text (script_lines script groups)

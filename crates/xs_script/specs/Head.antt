@@ -12,21 +12,21 @@ use Rattle.xs_script.specs.declared.head.Stage.TheVariants as stages
 use Rattle.xs_script.specs.declared.head.Head.{Head}
 use Rattle.xs_script.specs.ScriptLine.{IsLine, line_text}
 use Rattle.xs_script.specs.Grammar.{row_lines}
-use Rattle.xs_script.specs.LineOrder.{Stand, AtVersion, AtMachine, AtRow, AtCpus, AtQuantum, AtLarge, AtBlock, next}
+use Rattle.xs_script.specs.LineOrder.{Stand, AtVersion, AtMachine, AtRow, AtCpus, AtQuantum, AtLarge, AtSched, next}
 use Rattle.xs_script.specs.Front.{IsFront}
 
 -- where a reader stands with it
-abbrev pub stage_stand : Stage → List Row → Stand
-stage_stand stages.Version rows = AtVersion
-stage_stand stages.Machine rows = AtMachine
-stage_stand stages.Row rows = AtRow rows
-stage_stand stages.Cpus rows = AtCpus
-stage_stand stages.Quantum rows = AtQuantum
-stage_stand stages.Large rows = AtLarge
-stage_stand stages.Block rows = AtBlock []
+abbrev pub stage_stand : Stage → List Row → ℕ → Stand
+stage_stand stages.Version rows cpus = AtVersion
+stage_stand stages.Machine rows cpus = AtMachine
+stage_stand stages.Row rows cpus = AtRow rows
+stage_stand stages.Cpus rows cpus = AtCpus
+stage_stand stages.Quantum rows cpus = AtQuantum cpus
+stage_stand stages.Large rows cpus = AtLarge cpus
+stage_stand stages.Sched rows cpus = AtSched cpus 0
 
 abbrev pub head_stand : Head → Stand
-head_stand head = stage_stand head.stage head.rows.items
+head_stand head = stage_stand head.stage head.rows.items head.cpus
 
 -- the lines of a machine
 abbrev pub machine_lines : Named → List Row → List Line
@@ -38,9 +38,9 @@ stage_lines stages.Version head = []
 stage_lines stages.Machine head = lines.Version ∷ []
 stage_lines stages.Row head = machine_lines machines.Rows head.rows.items
 stage_lines stages.Cpus head = machine_lines head.machine head.layout
-stage_lines stages.Quantum head = machine_lines head.machine head.layout ++ lines.Cpus 1 ∷ []
-stage_lines stages.Large head = (machine_lines head.machine head.layout ++ lines.Cpus 1 ∷ []) ++ lines.Quantum head.quantum ∷ []
-stage_lines stages.Block head = ((machine_lines head.machine head.layout ++ lines.Cpus 1 ∷ []) ++ lines.Quantum head.quantum ∷ []) ++ lines.Large head.large ∷ []
+stage_lines stages.Quantum head = machine_lines head.machine head.layout ++ lines.Cpus head.cpus ∷ []
+stage_lines stages.Large head = (machine_lines head.machine head.layout ++ lines.Cpus head.cpus ∷ []) ++ lines.Quantum head.quantum ∷ []
+stage_lines stages.Sched head = ((machine_lines head.machine head.layout ++ lines.Cpus head.cpus ∷ []) ++ lines.Quantum head.quantum ∷ []) ++ lines.Large head.large ∷ []
 
 abbrev pub lines_of_head : Head → List Line
 lines_of_head head = stage_lines head.stage head
@@ -57,6 +57,7 @@ pub record IsHead (head : Head) : Type 0 where
   pub rows : first_row_fault [] head.rows.items ≡ None
   pub layout : IsLayout head.layout
   pub machine : IsTableOf head.machine head.layout
+  pub cpus : (0 < head.cpus) × (head.cpus ≤ 16)
   pub quantum : (0 < head.quantum) × (head.quantum ≤ 32)
   pub large : head.large ≤ 64
 
@@ -75,7 +76,7 @@ pub record Steps (head : Head) (text : List ℕ) (after : Head) (rest : List ℕ
 
 -- The text begins with the lines of a whole head. The next line is line `number`.
 pub record IsHeadOf (text : List ℕ) (head : Head) (number : ℕ) (rest : List ℕ) : Type 0 where
-  pub whole : head.stage ≡ stages.Block
+  pub whole : head.stage ≡ stages.Sched
   pub fits : IsHead head
-  pub front : IsFront AtVersion text (lines_of_head head) (AtBlock []) rest
+  pub front : IsFront AtVersion text (lines_of_head head) (AtSched head.cpus 0) rest
   pub next : number ≡ length (lines_of_head head) + 1

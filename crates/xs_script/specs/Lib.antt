@@ -7,6 +7,7 @@ pub mod LineOrder
 pub mod Refusal
 pub mod Front
 pub mod Head
+pub mod Schedule
 pub mod Body
 pub mod Commands
 pub mod Outline

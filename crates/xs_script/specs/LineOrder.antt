@@ -1,29 +1,35 @@
 -- The order of the lines of a script: where a reader stands after some lines, and what the next line leads to, or the
 -- first kind that it is refused with. The grammar and its limits are this project's own.
-use Rattle.std.specs.Prelude.{◌≡◌, ℕ, Bool, true, false, ◌&&◌, ◌==◌, nat_le, List, [], ◌∷◌, ◌++◌, length, bytes_eq, Option, Some, None, Result, Ok, Err, if◌then◌else◌}
-use Rattle.std.specs.List.{list_any}
+use Rattle.std.specs.Prelude.{◌≡◌, ℕ, ◌+◌, Bool, true, false, ◌&&◌, nat_le, nat_lt, List, [], ◌∷◌, ◌++◌, length, bytes_eq, Option, Some, None, Result, Ok, Err, if◌then◌else◌}
+use Rattle.std.specs.List.{list_any, list_all}
 use Rattle.xs_base.specs.declared.component.Row.{Row}
 use Rattle.xs_base.specs.declared.layout_error.LayoutError.{LayoutError}
 use Rattle.xs_base.specs.Layout.{row_error, table_error}
 use Rattle.xs_model.specs.declared.script.Named.{Named}
 use Rattle.xs_model.specs.declared.script.Named.TheVariants as machines
+use Rattle.xs_model.specs.declared.script.BlockKind.{BlockKind}
+use Rattle.xs_model.specs.declared.script.BlockKind.TheVariants as blocks
+use Rattle.xs_model.specs.declared.script.Command.{Command}
+use Rattle.xs_model.specs.Script.{is_kernel_command}
 use Rattle.xs_script.specs.declared.line.Line.{Line}
 use Rattle.xs_script.specs.declared.line.Line.TheVariants as lines
 use Rattle.xs_script.specs.declared.refusal.Kind.{Kind}
-use Rattle.xs_script.specs.declared.refusal.Kind.TheVariants.{NotBuilt, BadLine, Limit, Layout, Repeated}
+use Rattle.xs_script.specs.declared.refusal.Kind.TheVariants.{BadLine, Limit, Layout, Repeated}
 use Rattle.xs_script.specs.declared.refusal.LimitName.TheVariants as limits
 
--- Where a reader stands: before the line that it is named for. `AtRow` has the rows so far, `AtBlock` the names of the
--- blocks so far, `InBlock` those and the name of the block that is open.
+-- Where a reader stands: before the line that it is named for. `AtRow` has the rows so far; `AtQuantum`, `AtLarge` and
+-- `AtSched` the number of processors, and `AtSched` how many entries the schedule has so far; `AtBlock` the names of the
+-- blocks so far; `InBlock` those with the name of the block that is open, and of which kind this is.
 pub data Stand : Type 0 where
   AtVersion : Stand
   AtMachine : Stand
   AtRow : List Row → Stand
   AtCpus : Stand
-  AtQuantum : Stand
-  AtLarge : Stand
+  AtQuantum : ℕ → Stand
+  AtLarge : ℕ → Stand
+  AtSched : ℕ → ℕ → Stand
   AtBlock : List (List ℕ) → Stand
-  InBlock : List (List ℕ) → Stand
+  InBlock : BlockKind → List (List ℕ) → Stand
 
 -- the text may end here: after a block
 abbrev pub may_end : Stand → Bool
@@ -31,11 +37,24 @@ may_end AtVersion = false
 may_end AtMachine = false
 may_end (AtRow rows) = false
 may_end AtCpus = false
-may_end AtQuantum = false
-may_end AtLarge = false
+may_end (AtQuantum cpus) = false
+may_end (AtLarge cpus) = false
+may_end (AtSched cpus count) = false
 may_end (AtBlock []) = false
 may_end (AtBlock (name ∷ names)) = true
-may_end (InBlock names) = false
+may_end (InBlock kind names) = false
+
+-- a line of the schedule may come
+abbrev pub takes_sched : Stand → Bool
+takes_sched AtVersion = false
+takes_sched AtMachine = false
+takes_sched (AtRow rows) = false
+takes_sched AtCpus = false
+takes_sched (AtQuantum cpus) = false
+takes_sched (AtLarge cpus) = false
+takes_sched (AtSched cpus count) = true
+takes_sched (AtBlock names) = false
+takes_sched (InBlock kind names) = false
 
 abbrev pub after_machine : Named → Stand
 after_machine machines.Amx = AtCpus
@@ -47,30 +66,42 @@ abbrev pub after_row : List Row → Row → Option LayoutError → Result Stand 
 after_row rows r None = Ok (AtRow (rows ++ r ∷ []))
 after_row rows r (Some error) = Err (Layout error)
 
--- One processor is built. More are in their limit up to 16.
 abbrev pub after_cpus : ℕ → Result Stand Kind
-after_cpus n =
-    if n == 1 then Ok AtQuantum
-    else if nat_le 2 n && nat_le n 16 then Err NotBuilt
-    else Err (Limit limits.Cpus)
+after_cpus n = if nat_le 1 n && nat_le n 16 then Ok (AtQuantum n) else Err (Limit limits.Cpus)
 
 -- `cpus` after the rows, by the first test that the whole table fails
 abbrev pub after_rows : ℕ → Option LayoutError → Result Stand Kind
 after_rows n None = after_cpus n
 after_rows n (Some error) = Err (Layout error)
 
-abbrev pub after_quantum : ℕ → Result Stand Kind
-after_quantum n = if nat_le 1 n && nat_le n 32 then Ok AtLarge else Err (Limit limits.Quantum)
+abbrev pub after_quantum : ℕ → ℕ → Result Stand Kind
+after_quantum cpus n = if nat_le 1 n && nat_le n 32 then Ok (AtLarge cpus) else Err (Limit limits.Quantum)
 
-abbrev pub after_large : ℕ → Result Stand Kind
-after_large n = if nat_le n 64 then Ok (AtBlock []) else Err (Limit limits.Large)
+abbrev pub after_large : ℕ → ℕ → Result Stand Kind
+after_large cpus n = if nat_le n 64 then Ok (AtSched cpus 0) else Err (Limit limits.Large)
+
+-- Each entry of a schedule is a processor, and there are at most 4,096 in all.
+abbrev pub fits_sched : ℕ → ℕ → List ℕ → Bool
+fits_sched cpus count entries = list_all (λ entry. nat_lt entry cpus) entries && nat_le (count + length entries) 4096
+
+abbrev pub after_sched : ℕ → ℕ → List ℕ → Result Stand Kind
+after_sched cpus count entries = if fits_sched cpus count entries then Ok (AtSched cpus (count + length entries)) else Err (Limit limits.Sched)
 
 -- the first line of a block, of which there are at most 64, each with another name
-abbrev pub after_task : List (List ℕ) → List ℕ → Result Stand Kind
-after_task names name =
+abbrev pub after_begin : BlockKind → List (List ℕ) → List ℕ → Result Stand Kind
+after_begin kind names name =
     if nat_le 64 (length names) then Err (Limit limits.Blocks)
     else if list_any (λ other. bytes_eq other name) names then Err Repeated
-    else Ok (InBlock (names ++ name ∷ []))
+    else Ok (InBlock kind (names ++ name ∷ []))
+
+-- A kernel thread has kernel sections and yields alone.
+abbrev pub may_have : BlockKind → Command → Bool
+may_have blocks.Task command = true
+may_have blocks.Child command = true
+may_have blocks.Kthread command = is_kernel_command command
+
+abbrev pub after_order : BlockKind → List (List ℕ) → Command → Result Stand Kind
+after_order kind names command = if may_have kind command then Ok (InBlock kind names) else Err BadLine
 
 -- What a line leads to. A line out of its order is a bad line.
 abbrev pub next : Stand → Line → Result Stand Kind
@@ -79,11 +110,13 @@ next AtMachine (lines.Machine named) = Ok (after_machine named)
 next (AtRow rows) (lines.Row r) = after_row rows r (row_error rows r)
 next (AtRow rows) (lines.Cpus n) = after_rows n (table_error rows)
 next AtCpus (lines.Cpus n) = after_cpus n
-next AtQuantum (lines.Quantum n) = after_quantum n
-next AtLarge (lines.Large n) = after_large n
-next (AtBlock names) (lines.Task name) = after_task names name
-next (InBlock names) (lines.Order command) = Ok (InBlock names)
-next (InBlock names) lines.End = Ok (AtBlock names)
+next (AtQuantum cpus) (lines.Quantum n) = after_quantum cpus n
+next (AtLarge cpus) (lines.Large n) = after_large cpus n
+next (AtSched cpus count) (lines.Sched entries) = after_sched cpus count entries
+next (AtSched cpus count) (lines.Begin kind name) = after_begin kind [] name
+next (AtBlock names) (lines.Begin kind name) = after_begin kind names name
+next (InBlock kind names) (lines.Order command) = after_order kind names command
+next (InBlock kind names) lines.End = Ok (AtBlock names)
 next stand line = Err BadLine
 
 -- The lines lead from one stand to another.

@@ -1,7 +1,8 @@
 -- What a reader finds in the blocks of a text before it keeps them.
-use Rattle.std.specs.Prelude.{◌≡◌, ℕ, ◌+◌, Bool, true, false, List, [], ◌∷◌, ◌++◌, length, Option, Some, None, Ok, MatchOption, ◌⊎◌}
+use Rattle.std.specs.Prelude.{◌≡◌, ℕ, ◌+◌, true, false, List, [], ◌∷◌, ◌++◌, length, Option, Some, None, Ok, MatchOption, ◌⊎◌}
 use Rattle.std.specs.List.{AllByRecursion}
 use Rattle.xs_base.specs.declared.component.Row.{Row}
+use Rattle.xs_model.specs.declared.script.BlockKind.{BlockKind}
 use Rattle.xs_model.specs.declared.script.Command.{Command}
 use Rattle.xs_script.specs.declared.line.Line.{Line}
 use Rattle.xs_script.specs.declared.line.Line.TheVariants as lines
@@ -16,10 +17,10 @@ use Rattle.xs_script.specs.Refusal.{CommandFails, IsKnown}
 use Rattle.xs_script.specs.Front.{IsFront, RefusesFrom}
 use Rattle.xs_script.specs.Commands.{PassesCommand}
 
--- where a reader stands with the names of the blocks
-abbrev pub block_stand : Bool → List (List ℕ) → Stand
-block_stand true names = InBlock names
-block_stand false names = AtBlock names
+-- where a reader stands with the names of the blocks, in a block of a kind or between two
+abbrev pub block_stand : Option BlockKind → List (List ℕ) → Stand
+block_stand (Some kind) names = InBlock kind names
+block_stand None names = AtBlock names
 
 abbrev pub outline_stand : Outline → Stand
 outline_stand outline = block_stand outline.begun outline.names

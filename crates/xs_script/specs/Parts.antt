@@ -1,9 +1,10 @@
 -- The parts of a line that a reader meets one by one, each with its text and with what fits it.
-use Rattle.std.specs.Prelude.{◌≡◌, ℕ, ◌<◌, ◌%◌, Bool, false, ◌&&◌, ◌||◌, ◌==◌, nat_le, List, length, ◌-◌, if◌then◌else◌}
+use Rattle.std.specs.Prelude.{◌≡◌, ℕ, ◌<◌, ◌%◌, Bool, ◌&&◌, ◌||◌, ◌==◌, nat_le, List, ◌∷◌, ◌++◌, length, ◌-◌, if◌then◌else◌}
 use Rattle.std.specs.List.{list_all, AllByRecursion}
 use Rattle.hex.specs.Hex.{encode_lower}
 use Rattle.xs_script.specs.declared.line.Line.{Line}
 use Rattle.xs_script.specs.declared.line.Line.TheVariants as lines
+use Rattle.xs_script.specs.ScriptLine.{IsLine, line_text}
 
 -- bytes of a byte's size, at least one
 abbrev pub IsValue : List ℕ → Type 0
@@ -26,14 +27,28 @@ pub record IsSpelledBy (bytes digits : List ℕ) : Type 0 where
   pub spelled : digits ≡ encode_lower bytes
   pub fits : AllByRecursion (λ byte. byte < 256) bytes
 
--- The line sets a number of processors that this version doesn't have.
-abbrev pub is_unbuilt_line : Line → Bool
-is_unbuilt_line lines.Version = false
-is_unbuilt_line (lines.Machine named) = false
-is_unbuilt_line (lines.Row r) = false
-is_unbuilt_line (lines.Cpus n) = nat_le 2 n && nat_le n 16
-is_unbuilt_line (lines.Quantum n) = false
-is_unbuilt_line (lines.Large n) = false
-is_unbuilt_line (lines.Task name) = false
-is_unbuilt_line (lines.Order command) = false
-is_unbuilt_line lines.End = false
+-- A line that is none of a schedule. Those of a schedule have a reader of their own.
+abbrev pub IsPlainLine : Line → Type 0
+IsPlainLine (lines.Sched entries) = ⊥
+IsPlainLine line = IsLine line
+
+-- a line of a block, its first and its last one too
+abbrev pub IsBlockLine : Line → Type 0
+IsBlockLine (lines.Begin kind name) = IsLine (lines.Begin kind name)
+IsBlockLine (lines.Order command) = IsLine (lines.Order command)
+IsBlockLine lines.End = IsLine lines.End
+IsBlockLine line = ⊥
+
+-- a line before the schedule
+abbrev pub IsHeadLine : Line → Type 0
+IsHeadLine lines.Version = IsLine lines.Version
+IsHeadLine (lines.Machine named) = IsLine (lines.Machine named)
+IsHeadLine (lines.Row r) = IsLine (lines.Row r)
+IsHeadLine (lines.Cpus n) = IsLine (lines.Cpus n)
+IsHeadLine (lines.Quantum n) = IsLine (lines.Quantum n)
+IsHeadLine (lines.Large n) = IsLine (lines.Large n)
+IsHeadLine line = ⊥
+
+-- no line but one of a schedule is the text's first
+abbrev pub NoPlainLine : List ℕ → Type 0
+NoPlainLine text = (line : Line) (rest : List ℕ) → IsPlainLine line → text ≡ line_text line ++ 10 ∷ rest → ⊥

@@ -1,8 +1,8 @@
 -- Why a text is no script. It is read in two passes, and the second runs only where the first finds nothing. Each pass
 -- stops at its first bad line; a line that is bad in several ways has the kind that comes first here. All of it is this
 -- project's own.
-use Rattle.std.specs.Prelude.{◌≡◌, ℕ, ◌+◌, Bool, true, false, ◌||◌, ◌==◌, List, [], ◌∷◌, ◌++◌, length, map, bytes_eq, codes, decimal, Option, Some, None, Err, if◌then◌else◌}
-use Rattle.std.specs.List.{list_any, range_with_len, flat_map, AllByRecursion}
+use Rattle.std.specs.Prelude.{◌≡◌, ℕ, ◌+◌, Bool, true, false, ◌==◌, List, [], ◌∷◌, ◌++◌, length, bytes_eq, codes, Option, Some, None, Err, if◌then◌else◌}
+use Rattle.std.specs.List.{list_any, flat_map, AllByRecursion}
 use Rattle.xs_base.specs.declared.component.Row.{Row}
 use Rattle.xs_base.specs.declared.component.Place.{Place}
 use Rattle.xs_base.specs.declared.layout_error.LayoutError.{LayoutError}
@@ -12,7 +12,7 @@ use Rattle.xs_model.specs.declared.script.Named.{Named}
 use Rattle.xs_model.specs.declared.script.Named.TheVariants as machines
 use Rattle.xs_model.specs.declared.script.Command.{Command}
 use Rattle.xs_model.specs.declared.script.Command.TheVariants as commands
-use Rattle.xs_model.specs.Script.{IsCommand, IsBuiltCommand, register_of, fits_register, is_built}
+use Rattle.xs_model.specs.Script.{IsCommand, IsBuiltCommand, fits_register, is_built}
 use Rattle.xs_script.specs.declared.line.Line.{Line}
 use Rattle.xs_script.specs.declared.line.Line.TheVariants as lines
 use Rattle.xs_script.specs.declared.refusal.Kind.{Kind}
@@ -21,7 +21,7 @@ use Rattle.xs_script.specs.declared.refusal.ScriptError.{ScriptError}
 use Rattle.xs_script.specs.declared.refusal.ScriptError.TheVariants as errors
 use Rattle.xs_script.specs.ScriptLine.{IsLine, line_text}
 use Rattle.xs_script.specs.Grammar.{lines_text}
-use Rattle.xs_script.specs.LineOrder.{Stand, AtVersion, AtMachine, AtRow, AtCpus, AtQuantum, AtLarge, AtBlock, InBlock, may_end, next, Leads}
+use Rattle.xs_script.specs.LineOrder.{Stand, AtVersion, AtMachine, AtRow, AtCpus, AtQuantum, AtLarge, AtSched, AtBlock, InBlock, may_end, next, Leads}
 
 -- ---- words of a line
 
@@ -40,17 +40,13 @@ first_word text = before 32 (first_line text)
 -- the first words of the forms that this version doesn't have
 unfoldable pub unbuilt_words : List (List ℕ)
 unbuilt_words =
-    codes "sched" ∷ codes "child" ∷ codes "kthread" ∷ codes "handler" ∷ codes "sigreturn" ∷ codes "tilerelease" ∷ codes "ksec"
-    ∷ codes "perm" ∷ codes "yield" ∷ codes "peek" ∷ codes "poke" ∷ codes "bpeek" ∷ codes "bpoke" ∷ codes "fork" ∷ codes "kill"
-    ∷ codes "stop" ∷ codes "wait" ∷ codes "getregs" ∷ codes "setregs" ∷ codes "cont" ∷ []
-
--- the numbers of processors that this version doesn't have
-unfoldable pub unbuilt_cpus : List (List ℕ)
-unbuilt_cpus = map (λ n. codes "cpus " ++ decimal n) (range_with_len 2 15)
+    codes "child" ∷ codes "handler" ∷ codes "sigreturn" ∷ codes "tilerelease" ∷ codes "perm" ∷ codes "peek" ∷ codes "poke"
+    ∷ codes "bpeek" ∷ codes "bpoke" ∷ codes "fork" ∷ codes "kill" ∷ codes "stop" ∷ codes "wait" ∷ codes "getregs"
+    ∷ codes "setregs" ∷ codes "cont" ∷ []
 
 -- The text's first line is of a form that this version doesn't have, however it goes on.
 abbrev pub is_unbuilt : List ℕ → Bool
-is_unbuilt text = list_any (λ word. bytes_eq word (first_word text)) unbuilt_words || list_any (λ line. bytes_eq line (first_line text)) unbuilt_cpus
+is_unbuilt text = list_any (λ word. bytes_eq word (first_word text)) unbuilt_words
 
 -- ---- the first pass: spelling, order, limits, rows, names of blocks
 
@@ -71,10 +67,11 @@ table_fault AtVersion text = None
 table_fault AtMachine text = None
 table_fault (AtRow rows) text = if bytes_eq (first_word text) (codes "row") then None else table_error rows
 table_fault AtCpus text = None
-table_fault AtQuantum text = None
-table_fault AtLarge text = None
+table_fault (AtQuantum cpus) text = None
+table_fault (AtLarge cpus) text = None
+table_fault (AtSched cpus count) text = None
 table_fault (AtBlock names) text = None
-table_fault (InBlock names) text = None
+table_fault (InBlock kind names) text = None
 
 -- The line that is refused and its kind, where a reader stands so before line `number`: a table as a whole is refused by
 -- the line that begins it, which is line 2, before the line that ends it is looked at.
@@ -118,12 +115,19 @@ rows_of_line (lines.Row r) = r ∷ []
 rows_of_line (lines.Cpus n) = []
 rows_of_line (lines.Quantum n) = []
 rows_of_line (lines.Large n) = []
-rows_of_line (lines.Task name) = []
+rows_of_line (lines.Sched entries) = []
+rows_of_line (lines.Begin kind name) = []
 rows_of_line (lines.Order command) = []
 rows_of_line lines.End = []
 
 abbrev pub table_of : List Line → List Row
 table_of ls = flat_map rows_of_line ls
+
+-- the register that a command names, where it names one
+abbrev pub register_of : Command → Option (List ℕ)
+register_of (commands.Set reg bytes) = Some reg
+register_of (commands.Get reg) = Some reg
+register_of other = None
 
 -- A command's register is one of the machine and of those that are built, and a value fits it.
 abbrev pub IsKnownCommand : List Row → Command → Type 0
@@ -131,8 +135,8 @@ IsKnownCommand rows command = IsCommand rows command × IsBuiltCommand command
 
 -- what a command is refused with
 pub data CommandFails (rows : List Row) : Command → Kind → Type 0 where
-  Unknown : (command : Command) → ((place : Place) → IsRegister rows (register_of command) place → ⊥) → CommandFails rows command UnknownName
-  Unbuilt : (command : Command) (place : Place) → IsRegister rows (register_of command) place → is_built place ≡ false → CommandFails rows command NotBuilt
+  Unknown : (command : Command) (reg : List ℕ) → register_of command ≡ Some reg → ((place : Place) → IsRegister rows reg place → ⊥) → CommandFails rows command UnknownName
+  Unbuilt : (command : Command) (reg : List ℕ) (place : Place) → register_of command ≡ Some reg → IsRegister rows reg place → is_built place ≡ false → CommandFails rows command NotBuilt
   Misfit : (reg bytes : List ℕ) (place : Place) → IsRegister rows reg place → is_built place ≡ true → fits_register place bytes ≡ false → CommandFails rows (commands.Set reg bytes) BadLine
 
 abbrev pub IsKnown : List Row → Line → Type 0
@@ -142,7 +146,8 @@ IsKnown rows (lines.Row r) = Unit {0}
 IsKnown rows (lines.Cpus n) = Unit {0}
 IsKnown rows (lines.Quantum n) = Unit {0}
 IsKnown rows (lines.Large n) = Unit {0}
-IsKnown rows (lines.Task name) = Unit {0}
+IsKnown rows (lines.Sched entries) = Unit {0}
+IsKnown rows (lines.Begin kind name) = Unit {0}
 IsKnown rows (lines.Order command) = IsKnownCommand rows command
 IsKnown rows lines.End = Unit {0}
 

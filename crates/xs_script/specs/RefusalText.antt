@@ -11,6 +11,7 @@ abbrev pub limit_word : LimitName → List ℕ
 limit_word limits.Cpus = codes "cpus"
 limit_word limits.Quantum = codes "quantum"
 limit_word limits.Large = codes "large"
+limit_word limits.Sched = codes "sched"
 limit_word limits.Blocks = codes "blocks"
 
 abbrev pub layout_word : LayoutError → List ℕ

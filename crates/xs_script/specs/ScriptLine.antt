@@ -1,13 +1,15 @@
 -- The one spelling of each line of a script. The script language is this project's own.
 use Rattle.std.specs.Prelude.{◌≡◌, ℕ, ◌^◌, ◌<◌, Bool, true, ◌&&◌, ◌||◌, ◌==◌, nat_lt, nat_le, List, [], ◌∷◌, ◌++◌, length, codes, decimal, min, if◌then◌else◌}
-use Rattle.std.specs.List.{list_all, AllByRecursion}
+use Rattle.std.specs.List.{list_all, flat_map, AllByRecursion}
 use Rattle.hex.specs.Hex.{encode_lower}
 use Rattle.xs_base.specs.declared.component.Row.{Row}
 use Rattle.xs_model.specs.declared.script.Named.{Named}
 use Rattle.xs_model.specs.declared.script.Named.TheVariants as machines
+use Rattle.xs_model.specs.declared.script.BlockKind.{BlockKind}
+use Rattle.xs_model.specs.declared.script.BlockKind.TheVariants as blocks
 use Rattle.xs_model.specs.declared.script.Command.{Command}
 use Rattle.xs_model.specs.declared.script.Command.TheVariants as commands
-use Rattle.xs_model.specs.Script.{is_name, is_letter_or_digit}
+use Rattle.xs_model.specs.Script.{is_name, is_letter_or_digit, is_built_kind}
 use Rattle.xs_script.specs.declared.line.Line.{Line}
 use Rattle.xs_script.specs.declared.line.Line.TheVariants as lines
 
@@ -20,10 +22,24 @@ machine_name machines.Rows = codes "rows"
 abbrev pub row_text : Row → List ℕ
 row_text r = decimal r.comp.0 ++ 32 ∷ (decimal r.size ++ 32 ∷ (decimal r.offset ++ 32 ∷ decimal r.flags))
 
--- Words are separated by one space. Bytes are digits 0 to 9 and a to f, two a byte, in the order of addresses.
+-- the entries of a schedule, each after one space
+abbrev pub entries_text : List ℕ → List ℕ
+entries_text entries = flat_map (λ entry. 32 ∷ decimal entry) entries
+
+-- the first word of a block of each kind, and the space after it
+abbrev pub block_word : BlockKind → List ℕ
+block_word blocks.Task = codes "task "
+block_word blocks.Child = codes "child "
+block_word blocks.Kthread = codes "kthread "
+
+-- Words are separated by one space. Bytes are digits 0 to 9 and a to f, two a byte, in the order of addresses. A command
+-- that this version doesn't have has no line.
 abbrev pub command_text : Command → List ℕ
 command_text (commands.Set reg bytes) = codes "set " ++ (reg ++ 32 ∷ encode_lower bytes)
 command_text (commands.Get reg) = codes "get " ++ reg
+command_text (commands.Ksec byte) = codes "ksec " ++ encode_lower (byte ∷ [])
+command_text commands.Yield = codes "yield"
+command_text other = []
 
 abbrev pub line_text : Line → List ℕ
 line_text lines.Version = codes "xstate 1"
@@ -32,11 +48,12 @@ line_text (lines.Row r) = codes "row " ++ row_text r
 line_text (lines.Cpus n) = codes "cpus " ++ decimal n
 line_text (lines.Quantum n) = codes "quantum " ++ decimal n
 line_text (lines.Large n) = codes "large " ++ decimal n
-line_text (lines.Task name) = codes "task " ++ name
+line_text (lines.Sched entries) = codes "sched" ++ entries_text entries
+line_text (lines.Begin kind name) = block_word kind ++ name
 line_text (lines.Order command) = command_text command
 line_text lines.End = codes "end"
 
--- ---- which values have a spelling
+-- ---- which values have a spelling in this version
 
 abbrev pub IsNumber : ℕ → Type 0
 IsNumber n = n < 2 ^ 32
@@ -52,6 +69,9 @@ is_register_word word = list_all is_register_byte word && nat_lt 0 (length word)
 abbrev pub IsCommandLine : Command → Type 0
 IsCommandLine (commands.Set reg bytes) = (is_register_word reg ≡ true) × (0 < length bytes) × AllByRecursion (λ byte. byte < 256) bytes
 IsCommandLine (commands.Get reg) = is_register_word reg ≡ true
+IsCommandLine (commands.Ksec byte) = byte < 256
+IsCommandLine commands.Yield = Unit {0}
+IsCommandLine other = ⊥
 
 abbrev pub IsLine : Line → Type 0
 IsLine lines.Version = Unit {0}
@@ -60,7 +80,8 @@ IsLine (lines.Row r) = IsNumber r.comp.0 × IsNumber r.size × IsNumber r.offset
 IsLine (lines.Cpus n) = IsNumber n
 IsLine (lines.Quantum n) = IsNumber n
 IsLine (lines.Large n) = IsNumber n
-IsLine (lines.Task name) = is_name name ≡ true
+IsLine (lines.Sched entries) = (0 < length entries) × AllByRecursion IsNumber entries
+IsLine (lines.Begin kind name) = (is_built_kind kind ≡ true) × (is_name name ≡ true)
 IsLine (lines.Order command) = IsCommandLine command
 IsLine lines.End = Unit {0}
 
@@ -77,6 +98,7 @@ kept_row r = record r { comp = record { 0 = min r.comp.0 255 } }
 abbrev pub kept_command : Command → Command
 kept_command (commands.Set reg bytes) = commands.Set reg (kept_bytes bytes)
 kept_command (commands.Get reg) = commands.Get reg
+kept_command other = other
 
 abbrev pub kept_line : Line → Line
 kept_line lines.Version = lines.Version
@@ -85,6 +107,7 @@ kept_line (lines.Row r) = lines.Row (kept_row r)
 kept_line (lines.Cpus n) = lines.Cpus n
 kept_line (lines.Quantum n) = lines.Quantum n
 kept_line (lines.Large n) = lines.Large n
-kept_line (lines.Task name) = lines.Task name
+kept_line (lines.Sched entries) = lines.Sched entries
+kept_line (lines.Begin kind name) = lines.Begin kind name
 kept_line (lines.Order command) = lines.Order (kept_command command)
 kept_line lines.End = lines.End

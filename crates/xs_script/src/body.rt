@@ -8,6 +8,7 @@ ghost use Rattle.xs_script.specs.LineOrder.{next, may_end};
 ghost use Rattle.xs_script.specs.Front.{ExplainsLine, ExplainsNext};
 ghost use Rattle.xs_script.specs.Body.{TakesLine, ReadsLine, body_stand, lines_of_body};
 
+use crate::commands::may_have;
 use crate::front::first_line;
 use crate::line::Line;
 use crate::refusal::{Kind, LimitName, ScriptError};
@@ -86,13 +87,13 @@ impl Body {
         ensures refused { IfErr result (ExplainsNext (next (body_stand self.old) line) number) }
     {
         match line {
-            Line::Task(name) => match self.begin(alloc, name) {
+            Line::Begin(kind, name) => match self.begin(alloc, kind, name) {
                 Ok(()) => Ok(()),
                 Err(kind) => Err(ScriptError::Refused { line: number, kind }),
             },
             Line::Order(command) => self.add_order(number, command),
             Line::End => self.close(number),
-            _ => Err(ScriptError::Refused {
+            _other => Err(ScriptError::Refused {
                 line: number,
                 kind: Kind::BadLine,
             }),
@@ -100,9 +101,9 @@ impl Body {
     }
 
     /// Begins a block.
-    fn begin(&mut self, alloc: Global, name: Name) -> Result<(), Kind>
-        ensures taken { OnOk result ((number : ℕ) → TakesLine number self.old (Line.Task name) self.new) }
-        ensures refused { IfErr result (λ kind. next (body_stand self.old) (Line.Task name) ≡ Err kind) }
+    fn begin(&mut self, alloc: Global, kind: BlockKind, name: Name) -> Result<(), Kind>
+        ensures taken { OnOk result ((number : ℕ) → TakesLine number self.old (Line.Begin kind name) self.new) }
+        ensures refused { IfErr result (λ why. next (body_stand self.old) (Line.Begin kind name) ≡ Err why) }
     {
         if self.begun.is_some() {
             return Err(Kind::BadLine);
@@ -114,7 +115,7 @@ impl Body {
             return Err(Kind::Repeated);
         }
         self.begun = Some(Block {
-            kind: BlockKind::Task,
+            kind,
             name,
             body: Items::new(alloc),
             handler: Items::new(alloc),
@@ -128,14 +129,16 @@ impl Body {
         ensures refused { IfErr result (ExplainsNext (next (body_stand self.old) (Line.Order command)) number) }
     {
         match self.begun.take() {
-            Some(mut block) => match block.body.push(Order { number, command }) {
-                Ok(()) => {
-                    self.begun = Some(block);
-                    Ok(())
+            Some(mut block) if may_have(block.kind, &command) => {
+                match block.body.push(Order { number, command }) {
+                    Ok(()) => {
+                        self.begun = Some(block);
+                        Ok(())
+                    }
+                    Err(_) => Err(ScriptError::Memory),
                 }
-                Err(_) => Err(ScriptError::Memory),
-            },
-            None => Err(ScriptError::Refused {
+            }
+            _ => Err(ScriptError::Refused {
                 line: number,
                 kind: Kind::BadLine,
             }),

@@ -1,7 +1,6 @@
-//! What this version has of the script language: which first words, numbers of processors and registers are built stands
-//! here alone.
+//! What this version has of the script language: which first words and registers are built stands here alone.
 
-ghost use Rattle.std.specs.Prelude.{◌≡◌, ◌&&◌, nat_le, bytes_eq};
+ghost use Rattle.std.specs.Prelude.{◌≡◌, bytes_eq};
 ghost use Rattle.std.specs.List.{list_any};
 ghost use Rattle.xs_model.specs.Script.{is_built};
 ghost use Rattle.xs_script.specs.Refusal.{unbuilt_words};
@@ -9,16 +8,12 @@ ghost use Rattle.xs_script.specs.Refusal.{unbuilt_words};
 use xs_base::Place;
 
 /// The first words of the forms that this version doesn't have.
-const UNBUILT_WORDS: [&[u8]; 20] = [
-    b"sched",
+const UNBUILT_WORDS: [&[u8]; 16] = [
     b"child",
-    b"kthread",
     b"handler",
     b"sigreturn",
     b"tilerelease",
-    b"ksec",
     b"perm",
-    b"yield",
     b"peek",
     b"poke",
     b"bpeek",
@@ -44,13 +39,6 @@ fn is_among(word: &[u8], words: &[&[u8]]) -> bool
     ensures { result ≡ list_any (λ other. bytes_eq other.now word.now) words.now }
 {
     words.iter().any(|other| *other == word)
-}
-
-/// Whether this version doesn't have so many processors, which a script may have.
-pub(crate) fn is_unbuilt_cpus(n: u32) -> bool
-    ensures { result ≡ (nat_le 2 n && nat_le n 16) }
-{
-    2 <= n && n <= 16
 }
 
 /// Whether the program has the register: one of x87, SSE with MXCSR, AVX and AVX-512.

@@ -1,9 +1,10 @@
-//! The registers of a script's commands.
+//! The commands of a script: their registers, and which of them a block may have.
 
 ghost use Rattle.std.specs.Prelude.{◌≡◌, ◌==◌, drop, MatchOption, IfOk, IfErr};
 ghost use Rattle.std.specs.List.{list_all};
 ghost use Rattle.xs_base.specs.File.{is_mxcsr};
-ghost use Rattle.xs_model.specs.Script.{fits_register};
+ghost use Rattle.xs_model.specs.Script.{fits_register, is_kernel_command};
+ghost use Rattle.xs_script.specs.LineOrder.{may_have};
 ghost use Rattle.xs_script.specs.Refusal.{CommandFails};
 ghost use Rattle.xs_script.specs.Commands.{IsBuiltRegister, RegisterFails, PassesCommand};
 
@@ -11,7 +12,7 @@ use crate::built::is_built;
 use crate::refusal::Kind;
 use xs_base::{Lane, Place};
 use xs_layout::Layout;
-use xs_model::Command;
+use xs_model::{BlockKind, Command};
 use xs_regs::place_of_bytes;
 
 /// What a command is refused with on the machine.
@@ -28,7 +29,24 @@ pub(crate) fn command_fault(layout: &Layout, command: &Command) -> Option<Kind>
             Ok(_) => None,
             Err(kind) => Some(kind),
         },
+        _ => None,
     }
+}
+
+/// Whether a block of this kind may have the command: a kernel thread has kernel sections and yields alone.
+pub(crate) fn may_have(kind: BlockKind, command: &Command) -> bool
+    ensures { result ≡ may_have kind command.now }
+{
+    match kind {
+        BlockKind::Task | BlockKind::Child => true,
+        BlockKind::Kthread => is_kernel_command(command),
+    }
+}
+
+fn is_kernel_command(command: &Command) -> bool
+    ensures { result ≡ is_kernel_command command.now }
+{
+    matches!(command, Command::Ksec { .. } | Command::Yield)
 }
 
 /// The place of a register that the program has.

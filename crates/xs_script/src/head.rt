@@ -1,6 +1,6 @@
 //! The lines of a script before its blocks.
 
-ghost use Rattle.std.specs.Prelude.{◌≡◌, ◌<◌, [], length, OnOk, IfOk, IfErr};
+ghost use Rattle.std.specs.Prelude.{◌≡◌, ◌<◌, ◌≤◌, [], length, OnOk, IfOk, IfErr};
 ghost use Rattle.xs_base.specs.Layout.{row_error};
 ghost use Rattle.xs_script.specs.LineOrder.{AtVersion, next, after_cpus, AtQuantum};
 ghost use Rattle.xs_script.specs.Refusal.{table_fault};
@@ -34,7 +34,7 @@ pub(crate) enum Stage {
     Cpus,
     Quantum,
     Large,
-    Block,
+    Sched,
 }
 
 /// What came so far of the lines before the blocks. A part that didn't come yet is one that a script may have.
@@ -44,6 +44,7 @@ pub(crate) struct Head {
     pub(crate) machine: Named,
     pub(crate) layout: Layout,
     pub(crate) rows: ArrayVec<Row, MOST_ROWS>,
+    pub(crate) cpus: u32,
     pub(crate) quantum: u32,
     pub(crate) large: u32,
 }
@@ -60,6 +61,7 @@ impl Head {
             machine: Named::Amx,
             layout: Layout::amx(),
             rows: ArrayVec::new(),
+            cpus: 1,
             quantum: 1,
             large: 0,
         }
@@ -72,7 +74,7 @@ impl Head {
         text: &'a [u8],
     ) -> Result<&'a [u8], ScriptError>
         requires head { IsHead self.old }
-        requires part { self.old.stage ≡ Stage.Block → ⊥ }
+        requires part { self.old.stage ≡ Stage.Sched → ⊥ }
         ensures taken { IfOk result (λ rest. Steps self.old text.now self.new rest.now) }
         ensures shorter { IfOk result (λ rest. length rest.now < length text.now) }
         ensures refused { IfErr result (ExplainsLine (head_stand self.old) number text.now) }
@@ -107,7 +109,7 @@ impl Head {
     /// Takes the next line, or answers what it is refused with.
     fn add(&mut self, line: Line) -> Result<(), Kind>
         requires head { IsHead self.old }
-        requires part { self.old.stage ≡ Stage.Block → ⊥ }
+        requires part { self.old.stage ≡ Stage.Sched → ⊥ }
         ensures taken { OnOk result (Takes self.old line self.new) }
         ensures refused { IfErr result (λ kind. next (head_stand self.old) line ≡ Err kind) }
     {
@@ -188,6 +190,7 @@ impl Head {
             Ok(()) => {
                 self.machine = Named::Rows;
                 self.layout = layout;
+                self.cpus = n;
                 self.stage = Stage::Quantum;
                 Ok(())
             }
@@ -203,6 +206,7 @@ impl Head {
         ensures refused { IfErr result (λ kind. next (head_stand self.old) (Line.Cpus n) ≡ Err kind) }
     {
         check_cpus(n)?;
+        self.cpus = n;
         self.stage = Stage::Quantum;
         Ok(())
     }
@@ -233,20 +237,19 @@ impl Head {
             return Err(Kind::Limit(LimitName::Large));
         }
         self.large = n;
-        self.stage = Stage::Block;
+        self.stage = Stage::Sched;
         Ok(())
     }
 }
 
 /// Whether there may be so many processors.
 fn check_cpus(n: u32) -> Result<(), Kind>
-    ensures taken { OnOk result (after_cpus n ≡ Ok AtQuantum) }
-    ensures one { OnOk result (n ≡ 1) }
+    ensures taken { OnOk result (after_cpus n ≡ Ok (AtQuantum n)) }
+    ensures few { OnOk result ((0 < n) × (n ≤ 16)) }
     ensures refused { IfErr result (λ kind. after_cpus n ≡ Err kind) }
 {
     match n {
-        1 => Ok(()),
-        2..=MOST_CPUS => Err(Kind::NotBuilt),
+        1..=MOST_CPUS => Ok(()),
         _ => Err(Kind::Limit(LimitName::Cpus)),
     }
 }

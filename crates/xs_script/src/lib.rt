@@ -13,6 +13,7 @@ mod line_reader;
 mod outline;
 mod reader;
 mod refusal;
+mod schedule;
 mod words;
 
 pub use reader::{every_text, not_both, one_refusal, one_script, read_script};

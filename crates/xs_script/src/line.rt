@@ -1,7 +1,7 @@
 //! The lines of a script.
 
 use xs_base::Row;
-use xs_model::{Command, Name, Named};
+use xs_model::{BlockKind, Command, Items, Name, Named};
 
 /// A line of a script, without its line feed.
 #[derive(Drop)]
@@ -18,8 +18,10 @@ pub enum Line {
     Quantum(u32),
     /// `large N`
     Large(u32),
-    /// `task NAME`
-    Task(Name),
+    /// `sched N N ..`. A schedule is read word by word, so that no value of this form is made.
+    Sched(Items<u32>),
+    /// `task NAME`, `child NAME` or `kthread NAME`
+    Begin(BlockKind, Name),
     /// A command.
     Order(Command),
     /// `end`

@@ -1,23 +1,23 @@
 //! The lines of a script, read.
 
-ghost use Rattle.std.specs.Prelude.{◌≡◌, ◌<◌, List, ℕ, ◌∷◌, ◌++◌, length, codes, decimal, bytes_eq, MatchOption, IfSome};
-ghost use Rattle.std.specs.List.{list_any};
+ghost use Rattle.std.specs.Prelude.{◌≡◌, ◌<◌, true, List, ℕ, ◌∷◌, ◌++◌, length, codes, decimal, bytes_eq, MatchOption, IfSome};
 ghost use Rattle.xs_script.specs.declared.line.Line.{Line};
-ghost use Rattle.xs_script.specs.ScriptLine.{line_text, IsLine, IsNumber, kept_line};
-ghost use Rattle.xs_script.specs.Reads.{Reads, ReadsAs};
-ghost use Rattle.xs_script.specs.Parts.{is_unbuilt_line};
-ghost use Rattle.xs_script.specs.Refusal.{NoLine, is_unbuilt, first_word, unbuilt_cpus};
+ghost use Rattle.xs_model.specs.Script.{is_built_kind};
+ghost use Rattle.xs_script.specs.ScriptLine.{block_word, line_text, IsNumber, kept_line};
+ghost use Rattle.xs_script.specs.Reads.{ReadsAs};
+ghost use Rattle.xs_script.specs.Parts.{IsPlainLine, IsBlockLine, IsHeadLine, NoPlainLine};
+ghost use Rattle.xs_script.specs.Refusal.{is_unbuilt, first_word};
 
-use crate::built::{is_unbuilt_cpus, is_unbuilt_word};
+use crate::built::is_unbuilt_word;
 use crate::line::Line;
-use crate::words::{before, cut_at, read_bytes, read_name, read_number, read_register};
+use crate::words::{before, cut_at, read_byte, read_bytes, read_name, read_number, read_register};
 use xs_base::{Comp, Row, after};
-use xs_model::{Command, Named};
+use xs_model::{BlockKind, Command, Named};
 
-/// The first line of the text, if it is spelled as a line, and the text after its line feed. Of a value of more than 64
-/// bytes none is kept, and of a row's number above 255 it is 255.
+/// The first line of the text, if it is spelled as a line that is none of a schedule, and the text after its line feed. Of a
+/// value of more than 64 bytes none is kept, and of a row's number above 255 it is 255.
 pub fn next_line(text: &[u8]) -> Option<(Line, &[u8])>
-    ensures line { MatchOption result (NoLine text.now) (λ x. (line : Line) × IsLine line × (text.now ≡ line_text line ++ 10 ∷ x.1.now) × (x.0 ≡ kept_line line)) }
+    ensures line { MatchOption result (NoPlainLine text.now) (λ x. (line : Line) × IsPlainLine line × (text.now ≡ line_text line ++ 10 ∷ x.1.now) × (x.0 ≡ kept_line line)) }
     ensures shorter { IfSome result (λ x. length x.1.now < length text.now) }
 {
     let (line, rest) = cut_at(b'\n', text)?;
@@ -31,17 +31,7 @@ pub fn is_unbuilt(text: &[u8]) -> bool
 {
     let line = before(b'\n', text);
     let word = before(b' ', line);
-    is_unbuilt_word(word) || is_unbuilt_count(line)
-}
-
-/// The same of a text whose first line was read.
-pub fn is_unbuilt_line(line: &Line) -> bool
-    ensures { result ≡ is_unbuilt_line line.now }
-{
-    match line {
-        Line::Cpus(n) => is_unbuilt_cpus(*n),
-        _ => false,
-    }
+    is_unbuilt_word(word)
 }
 
 /// Whether the text's first line begins with the word `row`.
@@ -52,27 +42,19 @@ pub fn begins_row(text: &[u8]) -> bool
     word == b"row".as_slice()
 }
 
-/// Whether the line sets a number of processors that this version doesn't have.
-fn is_unbuilt_count(line: &[u8]) -> bool
-    ensures { result ≡ list_any (λ other. bytes_eq other line.now) unbuilt_cpus }
+/// A line without its line feed, that is none of a schedule.
+fn read_line(line: &[u8]) -> Option<Line>
+    ensures { ReadsAs line_text IsPlainLine kept_line result line.now }
 {
-    match read_count(line) {
-        Some(n) => is_unbuilt_cpus(n),
-        None => false,
+    match read_block_line(line) {
+        Some(line) => Some(line),
+        None => read_head_line(line),
     }
 }
 
-/// The number of processors that the line sets.
-fn read_count(line: &[u8]) -> Option<u32>
-    ensures { Reads (λ n. codes "cpus " ++ decimal n) IsNumber result line.now }
-{
-    let digits = after(b"cpus ", line)?;
-    read_number(digits)
-}
-
-/// A line without its line feed. Its first word says of which kind it can be.
-fn read_line(line: &[u8]) -> Option<Line>
-    ensures { ReadsAs line_text IsLine kept_line result line.now }
+/// A line of a block. Its first word says of which kind it can be.
+fn read_block_line(line: &[u8]) -> Option<Line>
+    ensures { ReadsAs line_text IsBlockLine kept_line result line.now }
 {
     if let Some(reg) = after(b"get ", line) {
         return read_get(reg);
@@ -80,12 +62,28 @@ fn read_line(line: &[u8]) -> Option<Line>
     if let Some(words) = after(b"set ", line) {
         return read_set(words);
     }
+    if line == b"yield".as_slice() {
+        return Some(Line::Order(Command::Yield));
+    }
+    if let Some(digits) = after(b"ksec ", line) {
+        return read_ksec(digits);
+    }
     if line == b"end".as_slice() {
         return Some(Line::End);
     }
     if let Some(name) = after(b"task ", line) {
-        return read_task(name);
+        return read_begin(BlockKind::Task, name);
     }
+    if let Some(name) = after(b"kthread ", line) {
+        return read_begin(BlockKind::Kthread, name);
+    }
+    None
+}
+
+/// A line before the schedule. Its first word says of which kind it can be.
+fn read_head_line(line: &[u8]) -> Option<Line>
+    ensures { ReadsAs line_text IsHeadLine kept_line result line.now }
+{
     if let Some(words) = after(b"row ", line) {
         return read_row(words);
     }
@@ -112,7 +110,7 @@ fn read_line(line: &[u8]) -> Option<Line>
 
 /// The line `get REGISTER`, by its register.
 fn read_get(reg: &[u8]) -> Option<Line>
-    ensures { ReadsAs line_text IsLine kept_line result (codes "get " ++ reg.now) }
+    ensures { ReadsAs line_text IsBlockLine kept_line result (codes "get " ++ reg.now) }
 {
     let reg = read_register(reg)?;
     Some(Line::Order(Command::Get { reg }))
@@ -120,7 +118,7 @@ fn read_get(reg: &[u8]) -> Option<Line>
 
 /// The line `set REGISTER BYTES`, by the words after its first.
 fn read_set(words: &[u8]) -> Option<Line>
-    ensures { ReadsAs line_text IsLine kept_line result (codes "set " ++ words.now) }
+    ensures { ReadsAs line_text IsBlockLine kept_line result (codes "set " ++ words.now) }
 {
     let (reg, digits) = cut_at(b' ', words)?;
     let reg = read_register(reg)?;
@@ -128,17 +126,26 @@ fn read_set(words: &[u8]) -> Option<Line>
     Some(Line::Order(Command::Set { reg, bytes }))
 }
 
-/// The first line of a block, by its name.
-fn read_task(name: &[u8]) -> Option<Line>
-    ensures { ReadsAs line_text IsLine kept_line result (codes "task " ++ name.now) }
+/// The line `ksec BYTE`, by its byte.
+fn read_ksec(digits: &[u8]) -> Option<Line>
+    ensures { ReadsAs line_text IsBlockLine kept_line result (codes "ksec " ++ digits.now) }
+{
+    let byte = read_byte(digits)?;
+    Some(Line::Order(Command::Ksec { byte }))
+}
+
+/// The first line of a block of a kind that this version has, by its name.
+fn read_begin(kind: BlockKind, name: &[u8]) -> Option<Line>
+    requires { is_built_kind kind ≡ true }
+    ensures { ReadsAs line_text IsBlockLine kept_line result (block_word kind ++ name.now) }
 {
     let name = read_name(name)?;
-    Some(Line::Task(name))
+    Some(Line::Begin(kind, name))
 }
 
 /// The line of a machine, by its name.
 fn read_machine(name: &[u8]) -> Option<Line>
-    ensures { ReadsAs line_text IsLine kept_line result (codes "machine " ++ name.now) }
+    ensures { ReadsAs line_text IsHeadLine kept_line result (codes "machine " ++ name.now) }
 {
     if name == b"amx".as_slice() {
         return Some(Line::Machine(Named::Amx));
@@ -154,7 +161,7 @@ fn read_machine(name: &[u8]) -> Option<Line>
 
 /// The line of a row, by its four numbers.
 fn read_row(words: &[u8]) -> Option<Line>
-    ensures { ReadsAs line_text IsLine kept_line result (codes "row " ++ words.now) }
+    ensures { ReadsAs line_text IsHeadLine kept_line result (codes "row " ++ words.now) }
 {
     let (number, words) = read_first_number(words)?;
     let (size, words) = read_first_number(words)?;

@@ -1,29 +1,29 @@
 //! The blocks of a text, looked through before memory is taken for them.
 
-ghost use Rattle.std.specs.Prelude.{ℕ, ◌≡◌, ◌+◌, ◌^◌, ◌<◌, true, false, [], length, OnOk, IfOk, IfErr};
+ghost use Rattle.std.specs.Prelude.{ℕ, ◌≡◌, ◌+◌, ◌^◌, ◌<◌, true, None, [], length, OnOk, IfOk, IfErr};
 ghost use Rattle.std.specs.List.{list_any};
 ghost use Rattle.std.specs.Str.{bytes_eq};
 ghost use Rattle.xs_script.specs.LineOrder.{next, may_end};
 ghost use Rattle.xs_script.specs.Front.{ExplainsLine, ExplainsNext};
 ghost use Rattle.xs_script.specs.Outline.{outline_stand, Notes, Looks, LooksOn, AreKnownBlocks, ExplainsBlocks, ExplainsEnd};
 
-use crate::commands::command_fault;
+use crate::commands::{command_fault, may_have};
 use crate::front::first_line;
 use crate::line::Line;
 use crate::refusal::{Kind, LimitName, ScriptError};
 use std::alloc::Global;
 use xs_layout::Layout;
-use xs_model::{Command, Items, Name};
+use xs_model::{BlockKind, Command, Items, Name};
 
 /// The most blocks of a script.
 const MOST_BLOCKS: usize = 64;
 
-/// What is kept of the lines so far: the names of the blocks, whether the last of them has begun and not ended, and the line of the
-/// first command that fails on the machine with what it is refused with.
+/// What is kept of the lines so far: the names of the blocks, the kind of the last of them where it has begun and not ended, and the
+/// line of the first command that fails on the machine with what it is refused with.
 #[derive(Drop)]
 pub(crate) struct Outline {
     pub(crate) names: Items<Name>,
-    pub(crate) begun: bool,
+    pub(crate) begun: Option<BlockKind>,
     pub(crate) fault: Option<(u32, Kind)>,
 }
 
@@ -56,12 +56,12 @@ impl Outline {
     /// No line came.
     fn new(alloc: Global) -> Outline
         ensures names { result.names ≡ [] }
-        ensures begun { result.begun ≡ false }
+        ensures begun { result.begun ≡ None }
         ensures fault { result.fault ≡ None }
     {
         Outline {
             names: Items::new(alloc),
-            begun: false,
+            begun: None,
             fault: None,
         }
     }
@@ -94,14 +94,30 @@ impl Outline {
         ensures taken { OnOk result (Looks layout.now number self.old line self.new) }
         ensures refused { IfErr result (ExplainsNext (next (outline_stand self.old) line) number) }
     {
-        match (self.begun, line) {
-            (false, Line::Task(name)) => self.begin(number, name),
-            (true, Line::Order(command)) => {
-                self.note(layout, number, &command);
-                Ok(())
-            }
-            (true, Line::End) => {
-                self.begun = false;
+        match line {
+            Line::Begin(kind, name) => self.begin(number, kind, name),
+            Line::Order(command) => self.add_order(layout, number, &command),
+            Line::End => self.close(number),
+            _other => Err(ScriptError::Refused {
+                line: number,
+                kind: Kind::BadLine,
+            }),
+        }
+    }
+
+    /// Takes a command in the block that has begun, by line `number`.
+    fn add_order(
+        &mut self,
+        layout: &Layout,
+        number: u32,
+        command: &Command,
+    ) -> Result<(), ScriptError>
+        ensures taken { OnOk result (Looks layout.now number self.old (Line.Order command.now) self.new) }
+        ensures refused { IfErr result (ExplainsNext (next (outline_stand self.old) (Line.Order command.now)) number) }
+    {
+        match self.begun {
+            Some(kind) if may_have(kind, command) => {
+                self.note(layout, number, command);
                 Ok(())
             }
             _ => Err(ScriptError::Refused {
@@ -111,13 +127,36 @@ impl Outline {
         }
     }
 
-    /// Begins a block, by line `number`.
-    fn begin(&mut self, number: u32, name: Name) -> Result<(), ScriptError>
-        requires { self.old.begun ≡ false }
-        ensures taken { OnOk result (next (outline_stand self.old) (Line.Task name) ≡ Ok (outline_stand self.new)) }
+    /// Ends the block that has begun, by line `number`.
+    fn close(&mut self, number: u32) -> Result<(), ScriptError>
+        ensures taken { OnOk result (next (outline_stand self.old) Line.End ≡ Ok (outline_stand self.new)) }
         ensures fault { self.new.fault ≡ self.old.fault }
-        ensures refused { IfErr result (ExplainsNext (next (outline_stand self.old) (Line.Task name)) number) }
+        ensures refused { IfErr result (ExplainsNext (next (outline_stand self.old) Line.End) number) }
     {
+        match self.begun {
+            Some(_) => {
+                self.begun = None;
+                Ok(())
+            }
+            None => Err(ScriptError::Refused {
+                line: number,
+                kind: Kind::BadLine,
+            }),
+        }
+    }
+
+    /// Begins a block, by line `number`.
+    fn begin(&mut self, number: u32, kind: BlockKind, name: Name) -> Result<(), ScriptError>
+        ensures taken { OnOk result (next (outline_stand self.old) (Line.Begin kind name) ≡ Ok (outline_stand self.new)) }
+        ensures fault { self.new.fault ≡ self.old.fault }
+        ensures refused { IfErr result (ExplainsNext (next (outline_stand self.old) (Line.Begin kind name)) number) }
+    {
+        if self.begun.is_some() {
+            return Err(ScriptError::Refused {
+                line: number,
+                kind: Kind::BadLine,
+            });
+        }
         if self.names.len() >= MOST_BLOCKS {
             return Err(ScriptError::Refused {
                 line: number,
@@ -132,7 +171,7 @@ impl Outline {
         }
         match self.names.push(name) {
             Ok(()) => {
-                self.begun = true;
+                self.begun = Some(kind);
                 Ok(())
             }
             Err(_) => Err(ScriptError::Memory),
@@ -157,7 +196,7 @@ impl Outline {
         ensures whole { OnOk result ((self.fault ≡ None) × (may_end (outline_stand self) ≡ true)) }
         ensures refused { IfErr result (ExplainsEnd self number) }
     {
-        if self.begun || self.names.is_empty() {
+        if self.begun.is_some() || self.names.is_empty() {
             return Err(ScriptError::Refused {
                 line: number,
                 kind: Kind::BadLine,

@@ -14,17 +14,22 @@ use crate::body::Body;
 use crate::head::{Head, Stage};
 use crate::outline::look_through;
 use crate::refusal::ScriptError;
+use crate::schedule::read_schedule;
 use std::alloc::Global;
 use xs_model::{Block, Items, Script};
 
 /// The script that the text spells, which has at most 1,048,576 bytes, or its first refusal. It takes memory for the
-/// blocks and their orders alone, and for the orders only where nothing is wrong with the text.
+/// schedule, the blocks and their orders alone, and for the orders only where nothing is wrong with the text.
 pub fn read_script(alloc: Global, text: &[u8]) -> Result<Script, ScriptError>
     requires { length text.now ≤ 1048576 }
     ensures spelled { IfOk result (Spells text.now) }
     ensures refused { IfErr result (Explains text.now) }
 {
     let (head, number, rest) = match read_head(text) {
+        Ok(read) => read,
+        Err(e) => return Err(e),
+    };
+    let (sched, number, rest) = match read_schedule(alloc, head.cpus, number, rest) {
         Ok(read) => read,
         Err(e) => return Err(e),
     };
@@ -39,10 +44,10 @@ pub fn read_script(alloc: Global, text: &[u8]) -> Result<Script, ScriptError>
     Ok(Script {
         machine: head.machine,
         layout: head.layout,
-        cpus: 1,
+        cpus: head.cpus,
         quantum: head.quantum,
         large: head.large,
-        sched: Items::new(alloc),
+        sched,
         blocks,
     })
 }
@@ -67,7 +72,7 @@ pub fn every_text()
     ensures { (text : List ℕ) → length text ≤ 1048576 → ((script : Script) × Spells text script) ⊎ ((n : ℕ) × (k : Kind) × Refuses text n k) }
 {}
 
-/// The lines before the blocks, the number of the line after them, and the text from there on.
+/// The lines before the schedule, the number of the line after them, and the text from there on.
 fn read_head(text: &[u8]) -> Result<(Head, u32, &[u8]), ScriptError>
     requires { length text.now ≤ 1048576 }
     ensures head { IfOk result (λ x. IsHeadOf text.now x.0 x.1 x.2.now) }
@@ -77,7 +82,7 @@ fn read_head(text: &[u8]) -> Result<(Head, u32, &[u8]), ScriptError>
     let mut head = Head::new();
     let mut number = 1;
     let mut left = text;
-    'lines: while head.stage != Stage::Block {
+    'lines: while head.stage != Stage::Sched {
         match head.read_line(number, left) {
             Ok(rest) => left = rest,
             Err(e) => return Err(e),

@@ -17,6 +17,8 @@ pub enum LimitName {
     Quantum,
     /// Large save areas: 0 to 64.
     Large,
+    /// Entries of the schedule: processors of the script, and 4,096 in all.
+    Sched,
     /// Blocks: 1 to 64.
     Blocks,
 }
@@ -98,6 +100,7 @@ fn limit_word(name: LimitName) -> &'static [u8]
         LimitName::Cpus => b"cpus",
         LimitName::Quantum => b"quantum",
         LimitName::Large => b"large",
+        LimitName::Sched => b"sched",
         LimitName::Blocks => b"blocks",
     }
 }

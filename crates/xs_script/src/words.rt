@@ -1,6 +1,6 @@
 //! The words of a line, read: cuts, numbers, names, words of registers and hex.
 
-ghost use Rattle.std.specs.Prelude.{◌≡◌, ℕ, ◌^◌, ◌<◌, ◌≤◌, true, List, ◌∷◌, ◌++◌, length, decimal, MatchOption};
+ghost use Rattle.std.specs.Prelude.{◌≡◌, ℕ, ◌^◌, ◌<◌, ◌≤◌, true, List, [], ◌∷◌, ◌++◌, length, decimal, MatchOption};
 ghost use Rattle.std.specs.List.{list_all};
 ghost use Rattle.std.specs.Str.{bytes_eq};
 ghost use Rattle.hex.specs.Hex.{encode_lower};
@@ -144,6 +144,17 @@ pub fn read_bytes(text: &[u8]) -> Option<Lane>
         Some(decode(text))
     } else {
         Some(Lane::from_slice(b""))
+    }
+}
+
+/// The byte that the text spells in lower-case hex.
+pub fn read_byte(text: &[u8]) -> Option<u8>
+    ensures { Reads (λ byte. encode_lower (byte ∷ [])) (λ byte. byte < 256) result text.now }
+{
+    if text.len() == 2 && is_hex_text(text) {
+        Some(16 * digit_value(text[0]) + digit_value(text[1]))
+    } else {
+        None
     }
 }
 

@@ -1,29 +1,10 @@
-use Rattle.std.proofs.Common.{◌∙◌, codes, ap, refl, List, ℕ, ◌++◌}
-use Rattle.xs_script.specs.declared.line.Line.TheVariants as lines
-use Rattle.xs_script.proofs.Readings.{word_is}
-use Rattle.xs_script.proofs.FirstWords.{no_cpus, no_quantum, no_large}
+use Rattle.xs_script.proofs.Readings.{block_is_plain, reads_either}
 use Rattle.xs_script.proofs.line_reader.read_line.Goals as goal
 
-pub returns-then-eq : goal.returns-then-eq
-returns-then-eq c = (lines.End, tt, word_is c.args.line.now c.as_slice.result.now (codes "end") c.eq.result c.eq.ensures c.as_slice.ensures c.if-eq.true, refl)
+pub returns-in-Some : goal.returns-in-Some
+returns-in-Some c =
+    let (line, fits, spelled, kept) = c.in-Some.ensures in
+    (line, block_is_plain line fits, spelled, kept)
 
-pub returns-in_err-n : goal.returns-in_err-n
-returns-in_err-n c = rw (c.from_residual.ensures, c.in-Some-after-5.ensures) (no_cpus c.in-Some-after-5.digits.now c.in_err-n.ensures)
-
-pub returns-in_err-n-2 : goal.returns-in_err-n-2
-returns-in_err-n-2 c = rw (c.from_residual-in_err-n-2.ensures, c.in-Some-after-6.ensures) (no_quantum c.in-Some-after-6.digits.now c.in_err-n-2.ensures)
-
-pub returns-in_err-n-3 : goal.returns-in_err-n-3
-returns-in_err-n-3 c = rw (c.from_residual-in_err-n-3.ensures, c.in-Some-after-7.ensures) (no_large c.in-Some-after-7.digits.now c.in_err-n-3.ensures)
-
-pub returns-then-eq-2 : goal.returns-then-eq-2
-returns-then-eq-2 c = (lines.Version, tt, word_is c.args.line.now c.as_slice-2.result.now (codes "xstate 1") c.eq-2.result c.eq-2.ensures c.as_slice-2.ensures c.if-eq-2.true, refl)
-
-pub returns-in-Some-after-5 : goal.returns-in-Some-after-5
-returns-in-Some-after-5 c = (lines.Cpus c.in_ok-n.n, c.in_ok-n.ensures.0, c.in-Some-after-5.ensures ∙ ap (λ (t : List ℕ). codes "cpus " ++ t) c.in_ok-n.ensures.1, refl)
-
-pub returns-in-Some-after-6 : goal.returns-in-Some-after-6
-returns-in-Some-after-6 c = (lines.Quantum c.in_ok-n-2.n, c.in_ok-n-2.ensures.0, c.in-Some-after-6.ensures ∙ ap (λ (t : List ℕ). codes "quantum " ++ t) c.in_ok-n-2.ensures.1, refl)
-
-pub returns-in-Some-after-7 : goal.returns-in-Some-after-7
-returns-in-Some-after-7 c = (lines.Large c.in_ok-n-3.n, c.in_ok-n-3.ensures.0, c.in-Some-after-7.ensures ∙ ap (λ (t : List ℕ). codes "large " ++ t) c.in_ok-n-3.ensures.1, refl)
+pub returns-in-None : goal.returns-in-None
+returns-in-None c = reads_either c.args.line.now c.read_head_line.result c.in-None.ensures c.read_head_line.ensures

@@ -11,4 +11,4 @@ returns-in-Ok-clause-taken c =
     let block : Block = record { kind = old.kind; name = old.name; body = c.push.new.self; handler = old.handler } in
     let after : Body = record { blocks = c.args.self.now.blocks; begun = Some block } in
     let order : Order = record { number = c.args.number; command = c.args.command; in_range = c.push-arg-in-Some-1.given.0 } in
-    order_taken c.args.number c.args.self.now after old block order (sym c.take.ensures.value ∙ c.in-Some.is) refl refl refl refl refl refl c.in-Ok.ensures.ok
+    order_taken c.args.number c.args.self.now after old block order (sym c.take.ensures.value ∙ c.in-Some.is) refl refl refl (sym c.may_have.ensures ∙ c.if-may_have.true) refl refl refl c.in-Ok.ensures.ok

@@ -1,12 +1,12 @@
 use Rattle.xs_script.specs.Refusal.{Here}
 use Rattle.xs_script.specs.Body.{body_stand}
-use Rattle.xs_script.proofs.BodyLines.{no_table, next_explains}
+use Rattle.xs_script.proofs.BodyLines.{no_table, no_sched_here, next_explains}
 use Rattle.xs_script.proofs.body.Body.read_line.Goals as goal
 
 pub returns-in-Err-clause-refused : goal.returns-in-Err-clause-refused
 returns-in-Err-clause-refused c =
     let body = c.args.self.now in
-    Here c.in-Err.kind (no_table body.blocks body.begun c.args.text.now) (c.in-Err.ensures.refused (body_stand body) (λ e. absurd (c.requires.some e)))
+    Here c.in-Err.kind (no_table body.blocks body.begun c.args.text.now) (c.in-Err.ensures.refused (body_stand body) (no_sched_here body.blocks body.begun) (λ e. absurd (c.requires.some e)))
 
 pub returns-in-Err-add-clause-refused : goal.returns-in-Err-add-clause-refused
 returns-in-Err-add-clause-refused c =

@@ -23,5 +23,5 @@ returns-in-None-clause-taken c =
     rw (c.requires.stage, c.push.ensures.items) record {
       leads = row_leads rows c.args.row none;
       came = ap (λ (ls : List Line). lines.Version ∷ lines.Machine Rows ∷ ls) (map-append lines.Row rows (c.args.row ∷ []));
-      fits = record { early = tt; rows = rows_push rows c.args.row c.requires.head.rows none; layout = c.requires.head.layout; machine = c.requires.head.machine; quantum = c.requires.head.quantum; large = c.requires.head.large };
+      fits = record { early = tt; rows = rows_push rows c.args.row c.requires.head.rows none; layout = c.requires.head.layout; machine = c.requires.head.machine; cpus = c.requires.head.cpus; quantum = c.requires.head.quantum; large = c.requires.head.large };
     }

@@ -16,8 +16,8 @@ returns-in-Ok-check_cpus-clause-taken c =
     let fits = rw c.as_slice.ensures.value at c.in-Ok.ensures.accepted in
     rw (c.requires.stage, is) record {
       leads = rows_over rows c.args.n (layout_parts rows fits).1 ∙ c.in-Ok-check_cpus.ensures.taken;
-      came = rw (c.in-Ok-check_cpus.ensures.one) refl;
-      fits = record { early = tt; rows = c.requires.head.rows; layout = fits; machine = fits; quantum = c.requires.head.quantum; large = c.requires.head.large };
+      came = refl;
+      fits = record { early = tt; rows = c.requires.head.rows; layout = fits; machine = fits; cpus = c.in-Ok-check_cpus.ensures.few; quantum = c.requires.head.quantum; large = c.requires.head.large };
     }
 
 pub returns-in-Err-check_cpus-clause-refused : goal.returns-in-Err-check_cpus-clause-refused

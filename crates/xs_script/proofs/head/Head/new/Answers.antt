@@ -9,6 +9,7 @@ returns-clause-head c = rw (c.amx.ensures, c.new.ensures) record {
   rows = no_rows;
   layout = amx_is_layout;
   machine = refl;
+  cpus = (omega arith, omega arith);
   quantum = (omega arith, omega arith);
   large = omega arith;
 }

@@ -1,12 +1,12 @@
 use Rattle.xs_script.specs.Refusal.{Here}
 use Rattle.xs_script.specs.Outline.{outline_stand}
-use Rattle.xs_script.proofs.Outlines.{no_table, next_explains}
+use Rattle.xs_script.proofs.Outlines.{no_table, no_sched_here, next_explains}
 use Rattle.xs_script.proofs.outline.Outline.read_line.Goals as goal
 
 pub returns-in-Err-clause-refused : goal.returns-in-Err-clause-refused
 returns-in-Err-clause-refused c =
     let outline = c.args.self.now in
-    Here c.in-Err.kind (no_table outline.begun outline.names c.args.text.now) (c.in-Err.ensures.refused (outline_stand outline) (λ e. absurd (c.requires.some e)))
+    Here c.in-Err.kind (no_table outline.begun outline.names c.args.text.now) (c.in-Err.ensures.refused (outline_stand outline) (no_sched_here outline.begun outline.names) (λ e. absurd (c.requires.some e)))
 
 pub returns-in-Err-add-clause-refused : goal.returns-in-Err-add-clause-refused
 returns-in-Err-add-clause-refused c =
