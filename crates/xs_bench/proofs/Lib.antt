@@ -1,3 +1,4 @@
 pub mod BankTurns
 pub mod Changes
 pub mod Numbers
+pub mod Pushed

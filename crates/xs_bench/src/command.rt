@@ -71,7 +71,7 @@ pub enum LayerCall {
 pub enum LineCall {
     /// `xs_text::write_event`.
     Write,
-    /// A plain copy of as many bytes.
+    /// A plain copy of the line.
     Copy,
 }
 

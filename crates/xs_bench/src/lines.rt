@@ -1,27 +1,34 @@
-//! The line of an event, written many times, and beside it a plain copy of as many bytes.
+//! The lines of events, written many times, and beside it plain copies of the same lines.
 
-ghost use Rattle.std.specs.Prelude.{◌≡◌, length, IfOk};
-ghost use Rattle.xs_text.specs.Text.{task_of};
+ghost use Rattle.std.specs.Prelude.{◌≡◌, ◌<◌, length, IfOk};
+ghost use Rattle.xs_text.specs.Text.{task_of, AreTasksKnown};
 
 use crate::command::LineCall;
-use crate::repeats::{hidden, next_sum};
+use crate::repeats::next_sum;
 use std::alloc::{AllocError, Global};
 use xs_base::Lane;
 use xs_layout::Layout;
 use xs_model::{Block, BlockKind, Event, Items, Name, Named, Reply, Script};
 use xs_text::{Line, write_event};
 
-/// The bytes of a line of `event` without its line feed.
-const LINE: usize = 51;
+/// How many events there are, and as many lines.
+const EVENTS: u32 = 16;
 
-/// The byte of a line that goes into the sum: a digit of the number that the turn changes.
-const LOOKED_AT: usize = 20;
+/// The byte of a line that goes into the sum: a digit of what the register has.
+const LOOKED_AT: usize = 24;
 
-/// Makes a call so many times, and answers the sum.
+/// Makes a call so many times, in rounds of sixteen, and answers the sum. The events, or their lines, are there before
+/// the first round.
 pub fn repeat_line_call(alloc: Global, call: LineCall, turns: u64) -> Result<u64, AllocError> {
+    let script = one_task(alloc)?;
+    let events = events(alloc, &script)?;
+    let rounds = turns / u64::from(EVENTS);
     match call {
-        LineCall::Write => Ok(write_events(&one_task(alloc)?, turns)),
-        LineCall::Copy => Ok(copy_lines(turns)),
+        LineCall::Write => Ok(write_events(&script, events.as_slice(), rounds)),
+        LineCall::Copy => {
+            let lines = lines(alloc, &script, events.as_slice())?;
+            Ok(copy_lines(lines.as_slice(), rounds))
+        }
     }
 }
 
@@ -47,40 +54,69 @@ fn one_task(alloc: Global) -> Result<Script, AllocError>
     })
 }
 
-/// The event of a turn: `get` of a register of 16 bytes reads the turn's number.
-fn event(turn: u64) -> Event
+/// Sixteen events that differ: `get` of a register of 16 bytes, each in another line and with other bytes.
+fn events(alloc: Global, script: &Script) -> Result<Vec<Event>, AllocError>
+    requires { 0 < length script.now.blocks }
+    ensures { IfOk result (λ events. AreTasksKnown script.now events.items) }
+{
+    let mut events = Vec::new(alloc);
+    for n in 0..EVENTS {
+        events.push(event(n))?;
+    }
+    Ok(events)
+}
+
+/// An event of the first task, by its number.
+fn event(n: u32) -> Event
+    requires { n < 16 }
     ensures { task_of result ≡ 0 }
 {
+    let bytes = u128::from(n + 1) * 0x0102_0408_1020_4080_0f0e_0d0c_0b0a_0908;
     Event::Local {
         task: 0,
-        line: 100_000,
-        reply: Reply::Bytes(Lane::from_slice(&u128::from(turn).to_le_bytes())),
+        line: 100_000 + n * 12_345,
+        reply: Reply::Bytes(Lane::from_slice(&bytes.to_le_bytes())),
     }
 }
 
-/// Writes the line of each turn's event.
-fn write_events(script: &Script, turns: u64) -> u64
-    requires { length script.now.blocks ≡ 1 }
+/// The line of each event.
+fn lines(alloc: Global, script: &Script, events: &[Event]) -> Result<Vec<Line>, AllocError>
+    requires { AreTasksKnown script.now events.now }
+{
+    let mut lines = Vec::new(alloc);
+    for event in events {
+        let mut line = Line::new();
+        write_event(script, event, &mut line);
+        lines.push(line)?;
+    }
+    Ok(lines)
+}
+
+/// Writes the line of each event, in so many rounds.
+fn write_events(script: &Script, events: &[Event], rounds: u64) -> u64
+    requires { AreTasksKnown script.now events.now }
 {
     let mut line = Line::new();
     let mut sum = 0;
-    'turns: for turn in 0..turns {
-        write_event(script, &event(turn), &mut line);
-        sum = next_sum(sum, line.as_slice(), LOOKED_AT);
+    for _ in 0..rounds {
+        for event in events {
+            write_event(script, event, &mut line);
+            sum = next_sum(sum, line.as_slice(), LOOKED_AT);
+        }
     }
     sum
 }
 
-/// Copies a line of which each turn changes a byte.
-fn copy_lines(turns: u64) -> u64 {
-    let mut from = [b'0'; LINE + 1];
-    let mut to = [0; LINE + 1];
+/// Copies each line, in so many rounds.
+fn copy_lines(lines: &[Line], rounds: u64) -> u64 {
+    let mut to = [0; 192];
     let mut sum = 0;
-    'turns: for turn in 0..turns {
-        let len = hidden(LINE, turn);
-        from[LOOKED_AT] = (turn % 256) as u8;
-        to[..len].copy_from_slice(&from[..len]);
-        sum = next_sum(sum, &to, LOOKED_AT);
+    for _ in 0..rounds {
+        for line in lines {
+            let bytes = line.as_slice();
+            to[..bytes.len()].copy_from_slice(bytes);
+            sum = next_sum(sum, &to, LOOKED_AT);
+        }
     }
     sum
 }

@@ -3,4 +3,5 @@ pub mod SpacedWords
 pub mod EventWords
 pub mod OneSpelling
 pub mod LegalEvents
-pub mod Digits
+pub mod LastDigits
+pub mod HexDigits

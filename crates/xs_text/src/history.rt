@@ -7,13 +7,13 @@ ghost use Rattle.xs_model.specs.Script.{IsValid};
 ghost use Rattle.xs_model.specs.History.{IsLegal};
 ghost use Rattle.xs_text.specs.Text.{AreEvents, history_text};
 
-use xs_model::files_stay_valid;
+use xs_model::machine_known;
 
-/// Each event of a legal history has a spelling. A call does nothing.
+/// Each event of a legal history of a valid script has a spelling. A call does nothing.
 pub fn a_legal_history_has_a_text()
     ensures { (script : Script) (history : List Event) → IsValid script → IsLegal script history → AreEvents script history }
 {
-    files_stay_valid();
+    machine_known();
 }
 
 /// The text of a legal history is that of no other one: where each event of another history has a spelling, both have

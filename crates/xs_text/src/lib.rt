@@ -2,8 +2,11 @@
 //! Its contract is the definition of the text in `specs/Text`.
 #![tactic(auto)]
 
+mod digits;
 mod event_line;
 mod history;
+mod line;
 
-pub use event_line::{Line, write_event};
+pub use event_line::write_event;
 pub use history::{a_legal_history_has_a_text, one_history};
+pub use line::Line;

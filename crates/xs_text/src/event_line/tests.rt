@@ -4,8 +4,10 @@ ghost use Rattle.std.specs.Prelude.{◌≡◌, ◌<◌, ◌≤◌, length, IfOk}
 ghost use Rattle.xs_text.specs.Text.{task_of};
 
 use super::*;
+use arrayvec::ArrayVec;
 use std::alloc::{AllocError, Global};
 use std::test::Fail;
+use xs_base::Lane;
 use xs_layout::Layout;
 use xs_model::{Block, BlockKind, Items, Name, Named};
 
@@ -76,7 +78,7 @@ fn start(task: u32, cpu: u32, how: How, signal: Option<Signo>) -> Event
 fn add(text: &mut ArrayVec<u8, 512>, script: &Script, event: Event)
     requires { task_of event < length script.now.blocks }
 {
-    let mut line = ArrayVec::new();
+    let mut line = Line::new();
     write_event(script, &event, &mut line);
     let _ = text.try_extend_from_slice(line.as_slice());
 }

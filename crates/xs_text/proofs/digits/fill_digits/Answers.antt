@@ -3,7 +3,7 @@ use Rattle.std.proofs.Common.{ℕ, ◌∙◌, arith, slice_index, ap}
 use Rattle.std.proofs.lemmas.Nat.{and_mask}
 use Rattle.hex.specs.Hex.{lower_digits}
 use Rattle.hex.proofs.Pairs.{encode_step, encode_done}
-use Rattle.xs_text.proofs.event_line.fill_digits.Goals as goal
+use Rattle.xs_text.proofs.digits.fill_digits.Goals as goal
 
 pub loop-i-preserved : goal.loop-i-preserved
 loop-i-preserved c =

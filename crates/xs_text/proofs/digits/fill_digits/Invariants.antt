@@ -1,7 +1,7 @@
 -- The digits of the bytes so far stand in front, and those of the rest are all that lacks.
 use Rattle.std.proofs.Common.{◌≡◌, ◌*◌, ◌++◌, take, drop}
 use Rattle.hex.specs.Hex.{encode_lower}
-use Rattle.xs_text.proofs.event_line.fill_digits.Given as goal
+use Rattle.xs_text.proofs.digits.fill_digits.Given as goal
 
 abbrev pub invariant-loop-i : goal.invariant-loop-i
 invariant-loop-i l = take (2 * l.i) l.digits ++ encode_lower (drop l.i l.bytes) ≡ encode_lower l.bytes
