@@ -1,0 +1,126 @@
+-- Which answer a processor gets that asks for a turn.
+use Rattle.std.proofs.Common.{◌≡◌, ℕ, ◌<◌, Bool, true, false, ◌&&◌, List, [], ◌∷◌, length, refl, sym, ap, ◌∙◌, subst, arith, inl, inr, eq-eqb, ne_eqb, get_or}
+use Rattle.std.proofs.lemmas.Bool.{cases_Bool, eqb-true}
+use Rattle.std.proofs.lemmas.List.{get_or_default}
+use Rattle.std.proofs.lemmas.Option.{slice_get_read, same_Some}
+use Rattle.std.specs.Prelude.{Option, Some, None}
+use Rattle.xs_base.specs.declared.words.How.{How}
+use Rattle.xs_base.specs.declared.words.How.TheVariants.{Skip}
+use Rattle.xs_model.specs.declared.script.Block.{Block}
+use Rattle.xs_model.specs.declared.script.BlockKind.{BlockKind}
+use Rattle.xs_model.specs.declared.stage.Stage.TheVariants.{Ready}
+use Rattle.xs_model.specs.Due.{how_of}
+use Rattle.xs_model.specs.Held.{held}
+use Rattle.xs_model.specs.Laws.{TwoNumbers, FirstReady}
+use Rattle.xs_model.specs.Note.{is_at, mark}
+use Rattle.xs_model.specs.Script.{is_user, is_user_block, is_user_kind}
+use Rattle.xs_model.specs.State.{lives, none_lives}
+use Rattle.xs_task.specs.declared.task.Task.{Task}
+use Rattle.xs_board.specs.Board.{Board, IsBoard, IsKeptBeside, IsTaskOf, HasHome, past_of, machine_in, stage_in, turn_on, living}
+use Rattle.xs_board.specs.Home.{is_resting}
+use Rattle.xs_board.specs.Taken.{is_user_how}
+use Rattle.xs_board.proofs.Changed.{inside, none_counted, tally_some}
+use Rattle.xs_board.proofs.Taking.{MayTake, the_block}
+
+-- no block is ready
+pub nil_of_len : {A : Type 0} (xs : List A) → length xs ≡ 0 → xs ≡ []
+nil_of_len [] none = refl
+nil_of_len (x ∷ xs) none = absurd (omega arith)
+
+-- none lives where none is counted, and one lives where some are
+pub nobody_lives : (board : Board) (list : List ℕ) (capacity count : ℕ) → IsKeptBeside board list capacity count → count ≡ 0 → none_lives (machine_in board) ≡ true
+nobody_lives board list capacity count kept none = none_counted (machine_in board).blocks 0 ∙ eq-eqb (living board) 0 (sym kept.alive ∙ none)
+
+-- one lives where some are counted
+pub somebody_lives : (board : Board) (list : List ℕ) (capacity count : ℕ) → IsKeptBeside board list capacity count → (count ≡ 0 → ⊥) → none_lives (machine_in board) ≡ false
+somebody_lives board list capacity count kept some = none_counted (machine_in board).blocks 0 ∙ ne_eqb (living board) 0 (λ (e : living board ≡ 0). some (kept.alive ∙ e))
+
+-- the first of the list is ready
+pub first_ready : FirstReady → (board : Board) (list : List ℕ) (capacity count t : ℕ) (rest : List ℕ) → IsBoard board → IsKeptBeside board list capacity count → list ≡ t ∷ rest → stage_in board t ≡ Ready
+first_ready law board list capacity count t rest is kept front = law board.script (past_of board) t rest is.legal (sym kept.queue ∙ front)
+
+-- it is one of the script's blocks
+pub ready_known : (board : Board) (t : ℕ) → IsBoard board → stage_in board t ≡ Ready → t < length board.script.blocks
+ready_known board t is ready =
+    let b = the_block board t ready in
+    let here = inside (machine_in board).blocks t b.0 b.1 in
+    let same = is.blocks in
+    omega arith
+
+-- it lives
+pub ready_lives : (board : Board) (t : ℕ) → stage_in board t ≡ Ready → none_lives (machine_in board) ≡ false
+ready_lives board t ready =
+    let b = the_block board t ready in
+    let some = tally_some (λ v stage. lives stage) 0 t t (machine_in board).blocks b.0 b.1 (omega arith) (ap lives b.2) in
+    none_counted (machine_in board).blocks 0 ∙ ne_eqb (living board) 0 (λ (e : living board ≡ 0). omega arith)
+
+-- its task is home
+pub ready_home : (board : Board) (t : ℕ) → IsBoard board → stage_in board t ≡ Ready → HasHome board t
+ready_home board t is ready = is.home t (ap is_resting ready)
+
+-- the kind of its block
+pub user_kind : (board : Board) (t : ℕ) (block : Block) → t < length board.script.blocks → block ≡ get_or board.script.blocks t block → is_user board.script t ≡ is_user_kind block.kind
+user_kind board t block known is = ap is_user_block (slice_get_read board.script.blocks (length board.script.blocks) t block refl known is)
+
+-- the two numbers tell whether the registers are held
+pub how_known : TwoNumbers → (board : Board) (t cpu : ℕ) (kind : BlockKind) (task : Task) (known : Option ℕ) (how : How) → IsBoard board → IsTaskOf board t task → is_user board.script t ≡ is_user_kind kind → known ≡ mark board.script (past_of board) cpu → how ≡ how_of (is_user_kind kind) (is_at known t && is_at task.last cpu) → how ≡ how_of (is_user board.script t) (held board.script (past_of board) cpu t)
+how_known law board t cpu kind task known how is own kind_is known_is how_is = elim (cases_Bool (is_user board.script t)) [
+  | inl user ↦
+      how_is
+      ∙ ap (λ (k : Bool). how_of k (is_at known t && is_at task.last cpu)) (sym kind_is)
+      ∙ ap (λ (m : Option ℕ). how_of (is_user board.script t) (is_at m t && is_at task.last cpu)) known_is
+      ∙ ap (λ (l : Option ℕ). how_of (is_user board.script t) (is_at (mark board.script (past_of board) cpu) t && is_at l cpu)) (own.last user)
+      ∙ ap (how_of (is_user board.script t)) (sym (law board.script (past_of board) cpu t is.valid is.legal user))
+  | inr thread ↦
+      how_is
+      ∙ ap (λ (k : Bool). how_of k (is_at known t && is_at task.last cpu)) (sym kind_is ∙ thread)
+      ∙ sym (ap (λ (k : Bool). how_of k (held board.script (past_of board) cpu t)) thread)
+]
+
+-- a user task comes by a load or a skip, a kernel thread by neither
+pub user_how : (user is_held : Bool) → is_user_how (how_of user is_held) ≡ user
+user_how true true = refl
+user_how true false = refl
+user_how false true = refl
+user_how false false = refl
+
+-- a restore is left out only where both numbers say so
+pub skip_held : (user is_held : Bool) → how_of user is_held ≡ Skip → is_held ≡ true
+skip_held true true skip = refl
+skip_held true false skip = absurd (cc skip)
+skip_held false is_held skip = absurd (cc skip)
+
+-- the number that is known
+pub is_at_some : (known : Option ℕ) (x : ℕ) → is_at known x ≡ true → known ≡ Some x
+is_at_some None x at = absurd (cc at)
+is_at_some (Some y) x at = ap Some (eqb-true y x at)
+
+-- the task that was home
+pub home_task : (board : Board) (t : ℕ) (task : Task) → IsBoard board → stage_in board t ≡ Ready → (slot : Option Task) → slot ≡ Some task → slot ≡ get_or board.home t slot → IsTaskOf board t task
+home_task board t task is ready slot some there =
+    let home = ready_home board t is ready in
+    let known = ready_known board t is ready in
+    let count = is.count in
+    let same : Some task ≡ Some home.0 = sym some ∙ there ∙ get_or_default board.home t slot None (omega arith) ∙ home.1 in
+    subst (IsTaskOf board t) (same_Some home.0 task (sym same)) home.2
+
+-- The first of the list may start, with its task.
+pub may_take : FirstReady → TwoNumbers → (board : Board) (list : List ℕ) (capacity count t : ℕ) (rest : List ℕ) (cpu : ℕ) (block : Block) (slot : Option Task) (task : Task) (known : Option ℕ) (how : How)
+    → IsBoard board → IsKeptBeside board list capacity count → list ≡ t ∷ rest
+    → slot ≡ Some task → slot ≡ get_or board.home t slot → block ≡ get_or board.script.blocks t block
+    → cpu < board.script.cpus → turn_on board cpu ≡ None → known ≡ mark board.script (past_of board) cpu
+    → how ≡ how_of (is_user_kind block.kind) (is_at known t && is_at task.last cpu)
+    → MayTake board t cpu rest how × IsTaskOf board t task
+may_take law numbers board list capacity count t rest cpu block slot task known how is kept front some there block_is processor free known_is how_is =
+    let ready = first_ready law board list capacity count t rest is kept front in
+    let own = home_task board t task is ready slot some there in (
+      record {
+        is_board = is;
+        first = sym kept.queue ∙ front;
+        ready = ready;
+        processor = processor;
+        free = free;
+        how_is = how_known numbers board t cpu block.kind task known how is own (user_kind board t block (ready_known board t is ready) block_is) known_is how_is;
+      },
+      own,
+    )

@@ -1,0 +1,39 @@
+-- The board before its first event.
+use Rattle.std.proofs.Common.{◌≤◌, List, length, ap, sym, subst, ◌∙◌, arith}
+use Rattle.std.specs.Prelude.{vec_capacity}
+use Rattle.std.specs.VecDeque.{deque_capacity}
+use Rattle.xs_model.specs.declared.event.Event.{Event}
+use Rattle.xs_model.specs.declared.script.Block.{Block}
+use Rattle.xs_model.specs.Bound.{most_events}
+use Rattle.xs_pool.specs.Pool.{Pool}
+use Rattle.xs_board.specs.Board.{IsBoard, IsKeptBeside}
+use Rattle.xs_board.specs.Opening.{users_in, numbers_from, AreFirst}
+use Rattle.xs_board.proofs.Beginning.{board_open, beside_open}
+use Rattle.xs_board.proofs.board.Board.open.Goals as goal
+
+pub invariant_of-result : goal.invariant_of-result
+invariant_of-result c =
+    let script = c.args.script in
+    let tasks = c.in_ok-tasks.tasks.items in
+    let pool = c.first_tasks.new.pool in
+    let room = vec_capacity c.in_ok-events.events in
+    let queue = c.in_ok-ready.ready in
+    let blocks = c.as_slice-blocks.ensures in
+    let opened = c.in_ok-pool.ensures.opened in
+    let count = length c.as_slice-blocks.result.now in
+    let most : most_events script ≤ room = omega (arith, c.in-Some.ensures, c.in_ok-events.ensures.capacity) in (
+      subst (λ (history : List Event). IsBoard (record { script = script; history = history; home = tasks; pool = pool; room = room })) (sym c.in_ok-events.ensures.items)
+          (board_open script tasks pool room c.requires.valid c.requires.built
+          (c.in_ok-tasks.ensures.count ∙ ap length blocks)
+          (subst (λ (all : List Block). AreFirst script.layout all (length all) tasks) blocks c.in_ok-tasks.ensures.first)
+          (c.in_ok-tasks.ensures.rows ∙ ap (λ (p : Pool). p.rows) opened)
+          (c.in_ok-tasks.ensures.out ∙ ap users_in blocks)
+          (c.in_ok-tasks.ensures.large ∙ ap (λ (p : Pool). p.large.out) opened)
+          (c.in_ok-tasks.ensures.given ∙ ap users_in blocks)
+          most),
+      subst (λ (history : List Event). IsKeptBeside (record { script = script; history = history; home = tasks; pool = pool; room = room }) queue.items (deque_capacity queue) count) (sym c.in_ok-events.ensures.items)
+          (beside_open script tasks pool room c.requires.built queue.items (deque_capacity queue) count
+          (c.in_ok-ready.ensures.numbers ∙ ap (λ (all : List Block). numbers_from 0 (length all)) blocks)
+          (subst (λ (all : List Block). length all ≤ deque_capacity queue) blocks c.in_ok-ready.ensures.room)
+          (ap length blocks)),
+    )

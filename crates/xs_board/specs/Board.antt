@@ -1,0 +1,141 @@
+-- The board: what callers see of it, and what holds of it between calls. Everything that its history tells is told by the private
+-- machine: the stages of the blocks, their private tasks and the ready list.
+use Rattle.std.specs.Prelude.{◌≡◌, ℕ, ◌+◌, ◌≤◌, Bool, true, false, ◌&&◌, List, [], ◌∷◌, length, reverse, slice_get, slice_index_or, Option, Some, None}
+use Rattle.xs_base.specs.Task.{PrivateTask, root_task, parked}
+use Rattle.xs_model.specs.declared.event.Event.{Event}
+use Rattle.xs_model.specs.declared.script.Script.{Script}
+use Rattle.xs_model.specs.declared.stage.Stage.{Stage}
+use Rattle.xs_model.specs.declared.stage.Stage.TheVariants.{Unborn, Ready, Turn, Stopped, Waiting, Ended}
+use Rattle.xs_model.specs.Bound.{most_events}
+use Rattle.xs_model.specs.History.{IsLegal, machine_of}
+use Rattle.xs_model.specs.Note.{last}
+use Rattle.xs_model.specs.Ready.{ready_list}
+use Rattle.xs_model.specs.Replay.{runner}
+use Rattle.xs_model.specs.Script.{IsValid, IsBuilt, is_user}
+use Rattle.xs_model.specs.State.{BlockState, Machine, stage_at, lives, is_ready}
+use Rattle.xs_pool.specs.Pool.{Pool}
+use Rattle.xs_task.specs.declared.task.Task.{Task}
+use Rattle.xs_board.specs.declared.turn.Entry.{Entry}
+use Rattle.xs_board.specs.Home.{IsHome, is_resting}
+use Rattle.xs_board.specs.Spent.{AreFew}
+use Rattle.xs_board.specs.Turn.{task_after}
+
+-- A board: its script, the events so far, the task of each block that is home, the pool of areas, and how many events it has
+-- room for in all.
+pub record Board : Type 0 where
+  pub script : Script
+  pub history : List Event
+  pub home : List (Option Task)
+  pub pool : Pool
+  pub room : ℕ
+
+-- ---- what the history tells
+
+-- the history, the latest event first
+abbrev pub past_of : Board → List Event
+past_of board = reverse board.history
+
+-- the private machine after the history
+abbrev pub machine_in : Board → Machine
+machine_in board = machine_of board.script board.history
+
+abbrev pub ready_of : Board → List ℕ
+ready_of board = ready_list board.script (past_of board)
+
+abbrev pub stage_in : Board → ℕ → Stage
+stage_in board t = stage_at (machine_in board).blocks t
+
+abbrev pub task_of_state : Option BlockState → PrivateTask
+task_of_state None = root_task []
+task_of_state (Some block) = block.task
+
+-- the private task of a block
+abbrev pub private_in : Board → ℕ → PrivateTask
+private_in board t = task_of_state (slice_get (machine_in board).blocks t)
+
+-- the private task of a block after a turn in which these lines ran
+abbrev pub private_after : Board → ℕ → List Entry → PrivateTask
+private_after board t entries = parked (task_after board.script t (private_in board t) entries)
+
+-- the block that is in a turn on the processor
+abbrev pub turn_on : Board → ℕ → Option ℕ
+turn_on board cpu = runner cpu 0 (machine_in board).blocks
+
+-- Every other block is in the state in which it was.
+abbrev pub KeepsOthers : ℕ → Board → Board → Type 0
+KeepsOthers t old new = (u : ℕ) → (u ≡ t → ⊥) → slice_get (machine_in new).blocks u ≡ slice_get (machine_in old).blocks u
+
+-- Every other processor has the turn that it had, or none.
+abbrev pub KeepsTurns : ℕ → Board → Board → Type 0
+KeepsTurns cpu old new = (c : ℕ) → (c ≡ cpu → ⊥) → turn_on new c ≡ turn_on old c
+
+-- ---- what holds between calls
+
+-- The task stands for the block's private task, and a user task has the last processor that the history gives it.
+pub record IsTaskOf (board : Board) (t : ℕ) (task : Task) : Type 0 where
+  pub name : task.name ≡ t
+  pub stands : IsHome (is_user board.script t) board.script.layout task (private_in board t)
+  pub last : is_user board.script t ≡ true → task.last ≡ last board.script (past_of board) t
+
+-- The block's task is home.
+abbrev pub HasHome : Board → ℕ → Type 0
+HasHome board t = (task : Task) × (slice_index_or board.home t None ≡ Some task) × IsTaskOf board t task
+
+abbrev pub one : Bool → ℕ
+one true = 1
+one false = 0
+
+-- how many blocks, from number i on, are such
+abbrev pub tally : (ℕ → Stage → Bool) → ℕ → List BlockState → ℕ
+tally such i [] = 0
+tally such i (block ∷ blocks) = one (such i block.stage) + tally such (i + 1) blocks
+
+abbrev pub living : Board → ℕ
+living board = tally (λ t stage. lives stage) 0 (machine_in board).blocks
+
+abbrev pub living_users : Board → ℕ
+living_users board = tally (λ t stage. is_user board.script t && lives stage) 0 (machine_in board).blocks
+
+-- What no line of this version's forms makes: a block that is unborn, stops or waits, a pending signal, a running handler, a
+-- Large area.
+abbrev pub is_plain : Stage → Bool
+is_plain Unborn = false
+is_plain Ready = true
+is_plain (Turn cpu ran) = true
+is_plain Stopped = false
+is_plain (Waiting child) = false
+is_plain Ended = true
+
+pub record IsPlainBlock (block : BlockState) : Type 0 where
+  pub stage : is_plain block.stage ≡ true
+  pub pending : block.pending ≡ []
+  pub outside : block.task.handling ≡ false
+  pub small : block.task.large ≡ false
+
+-- Of the pool each living user task has a Small area, and nobody has a Large one.
+pub record IsPoolOf (board : Board) : Type 0 where
+  pub rows : board.pool.rows ≡ board.script.layout
+  pub small : board.pool.small.out ≡ living_users board
+  pub large : board.pool.large.out ≡ 0
+  pub given : board.pool.given ≤ length board.script.blocks
+
+-- A board between calls.
+pub record IsBoard (board : Board) : Type 0 where
+  pub valid : IsValid board.script
+  pub built : IsBuilt board.script
+  pub legal : IsLegal board.script board.history
+  pub closed : (machine_in board).committing ≡ None
+  pub blocks : length (machine_in board).blocks ≡ length board.script.blocks
+  pub count : length board.home ≡ length board.script.blocks
+  pub home : (t : ℕ) → is_resting (stage_in board t) ≡ true → HasHome board t
+  pub plain : (t : ℕ) (block : BlockState) → slice_get (machine_in board).blocks t ≡ Some block → IsPlainBlock block
+  pub events : AreFew board.script (length board.history) (machine_in board).blocks
+  pub pool : IsPoolOf board
+  pub room : most_events board.script ≤ board.room
+
+-- What the code keeps beside: a queue that is the ready list, with room for every block, and how many blocks live.
+pub record IsKeptBeside (board : Board) (list : List ℕ) (capacity count : ℕ) : Type 0 where
+  pub queue : list ≡ ready_of board
+  pub ready : length list ≡ tally (λ t stage. is_ready stage) 0 (machine_in board).blocks
+  pub fits : length board.script.blocks ≤ capacity
+  pub alive : count ≡ living board

@@ -1,0 +1,45 @@
+-- What a processor gets that asks for a turn.
+use Rattle.std.specs.Prelude.{◌≡◌, ℕ, Bool, true, false, List, ◌∷◌, None}
+use Rattle.xs_base.specs.declared.words.How.{How}
+use Rattle.xs_base.specs.declared.words.How.TheVariants.{Load, Skip, Kern}
+use Rattle.xs_model.specs.Due.{how_of}
+use Rattle.xs_model.specs.Held.{held}
+use Rattle.xs_model.specs.Script.{is_user}
+use Rattle.xs_board.specs.declared.turn.Turn.{Turn}
+use Rattle.xs_board.specs.declared.turn.Taken.{Taken}
+use Rattle.xs_board.specs.declared.turn.Taken.TheVariants as answers
+use Rattle.xs_board.specs.Board.{Board, past_of, ready_of, IsTaskOf}
+
+abbrev pub IfTurn : Taken → (Turn → Type 0) → Type 0
+IfTurn (answers.Turn turn) Holds = Holds turn
+IfTurn answers.Nothing Holds = Unit {0}
+IfTurn answers.Done Holds = Unit {0}
+
+abbrev pub OnNothing : Taken → Type 0 → Type 0
+OnNothing (answers.Turn turn) Holds = Unit {0}
+OnNothing answers.Nothing Holds = Holds
+OnNothing answers.Done Holds = Unit {0}
+
+abbrev pub OnDone : Taken → Type 0 → Type 0
+OnDone (answers.Turn turn) Holds = Unit {0}
+OnDone answers.Nothing Holds = Unit {0}
+OnDone answers.Done Holds = Holds
+
+-- The number is the first of the list.
+abbrev pub IsFirst : ℕ → List ℕ → Type 0
+IsFirst t list = (rest : List ℕ) × (list ≡ t ∷ rest)
+
+abbrev pub is_user_how : How → Bool
+is_user_how Load = true
+is_user_how Skip = true
+is_user_how Kern = false
+
+-- The turn is that of the first ready block, on this processor and without a signal. Its task stands for the private task that
+-- the history gave it, and comes with the last processor that the history gave it.
+pub record IsTurnOf (old : Board) (cpu : ℕ) (turn : Turn) : Type 0 where
+  pub first : IsFirst turn.task.name (ready_of old)
+  pub task : IsTaskOf old turn.task.name turn.task
+  pub cpu_is : turn.cpu ≡ cpu
+  pub how : turn.how ≡ how_of (is_user old.script turn.task.name) (held old.script (past_of old) cpu turn.task.name)
+  pub user : is_user_how turn.how ≡ is_user old.script turn.task.name
+  pub signal : turn.signal ≡ None

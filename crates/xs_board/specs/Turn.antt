@@ -1,0 +1,91 @@
+-- A turn as a worker brings it back: the lines that ran and how it came to its end. The rules are those of the private machine.
+use Rattle.std.specs.Prelude.{◌≡◌, ℕ, ◌+◌, Bool, true, false, List, [], ◌∷◌, ◌++◌, map, slice_get, Option, Some, None, if◌then◌else◌}
+use Rattle.xs_base.specs.Task.{PrivateTask}
+use Rattle.xs_model.specs.declared.event.Event.{Event}
+use Rattle.xs_model.specs.declared.event.Event.TheVariants.{Local}
+use Rattle.xs_model.specs.declared.event.Event.TheVariants as events
+use Rattle.xs_model.specs.declared.script.Block.{Block}
+use Rattle.xs_model.specs.declared.script.Command.{Command}
+use Rattle.xs_model.specs.declared.script.Order.{Order}
+use Rattle.xs_model.specs.declared.script.Script.{Script}
+use Rattle.xs_model.specs.declared.stage.Stage.{Stage}
+use Rattle.xs_model.specs.declared.stage.Stage.TheVariants.{Ready, Ended}
+use Rattle.xs_model.specs.Script.{is_outer, is_yield}
+use Rattle.xs_model.specs.Line.{line_at, local_reply, local_after, traps, refusal}
+use Rattle.xs_model.specs.Machine.{goes_on}
+use Rattle.xs_board.specs.declared.turn.Entry.{Entry}
+use Rattle.xs_board.specs.declared.turn.Close.{Close}
+use Rattle.xs_board.specs.declared.turn.Close.TheVariants.{Quantum, Yield, End}
+
+-- ---- the events of a turn after its Start
+
+abbrev pub entry_event : ℕ → Entry → Event
+entry_event t entry = Local t entry.line entry.reply
+
+abbrev pub close_events : ℕ → Close → List Event
+close_events t Quantum = []
+close_events t Yield = []
+close_events t End = events.End t ∷ []
+
+abbrev pub turn_events : ℕ → List Entry → Close → List Event
+turn_events t entries close = map (entry_event t) entries ++ close_events t close
+
+-- the stage in which a turn leaves its block
+abbrev pub stage_closed : Close → Stage
+stage_closed Quantum = Ready
+stage_closed Yield = Ready
+stage_closed End = Ended
+
+-- ---- the lines of a turn
+
+abbrev pub line_in : Option Block → PrivateTask → Option Order
+line_in None task = None
+line_in (Some lines) task = line_at lines task
+
+-- the line at the task's place
+abbrev pub line_of : Script → ℕ → PrivateTask → Option Order
+line_of script t task = line_in (slice_get script.blocks t) task
+
+-- how a Local event that ends its turn closes it
+abbrev pub closed_by : Command → Close
+closed_by command = if is_yield command then Yield else Quantum
+
+-- The entry is that of the line at the task's place, which runs in its own task: it isn't outer, doesn't trap, and is no refused
+-- return from a handler.
+pub record IsEntry (script : Script) (t : ℕ) (task : PrivateTask) (entry : Entry) (order : Order) : Type 0 where
+  pub at : line_of script t task ≡ Some order
+  pub inner : is_outer order.command ≡ false
+  pub free : traps task order.command ≡ false
+  pub whole : refusal task order.command ≡ None
+  pub line : entry.line ≡ order.number
+  pub reply : entry.reply ≡ local_reply task order.command
+
+-- Only End closes a turn in which more Local events could come: no line is at the task's place, and no handler runs.
+abbrev pub IsOpenClose : Script → ℕ → PrivateTask → Close → Type 0
+IsOpenClose script t task Quantum = ⊥
+IsOpenClose script t task Yield = ⊥
+IsOpenClose script t task End = (line_of script t task ≡ None) × (task.handling ≡ false)
+
+-- What follows an entry: these lines where the turn goes on, and else nothing.
+abbrev pub AreAfter : Bool → Command → List Entry → Close → Type 0 → Type 0
+AreAfter true command entries close Lines = Lines
+AreAfter false command entries close Lines = (entries ≡ []) × (close ≡ closed_by command)
+
+-- The entries and the close are those of the script's lines from the task's place on, in a turn that made `ran` Local events.
+abbrev pub AreLines : Script → ℕ → PrivateTask → ℕ → List Entry → Close → Type 0
+AreLines script t task ran [] close = IsOpenClose script t task close
+AreLines script t task ran (entry ∷ entries) close = (order : Order) × IsEntry script t task entry order × AreAfter (goes_on script order.command ran) order.command entries close (AreLines script t (local_after task order.command) (ran + 1) entries close)
+
+abbrev pub after_line : PrivateTask → Option Order → PrivateTask
+after_line task None = task
+after_line task (Some order) = local_after task order.command
+
+-- the private task after so many lines as there are entries
+abbrev pub task_after : Script → ℕ → PrivateTask → List Entry → PrivateTask
+task_after script t task [] = task
+task_after script t task (entry ∷ entries) = task_after script t (after_line task (line_of script t task)) entries
+
+-- From the first task of a turn these entries led to this task: what the script's lines are from here on follows them.
+pub record HaveRun (script : Script) (t : ℕ) (first : PrivateTask) (entries : List Entry) (task : PrivateTask) (ran : ℕ) : Type 0 where
+  pub task_is : task_after script t first entries ≡ task
+  pub follow : (more : List Entry) (close : Close) → AreLines script t task ran more close → AreLines script t first 0 (entries ++ more) close

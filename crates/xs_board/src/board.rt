@@ -1,0 +1,208 @@
+//! The board.
+
+ghost use Rattle.std.specs.Prelude.{◌≡◌, ◌<◌, ◌++◌, [], ◌∷◌, true, false, length, IfOk, Some, None};
+ghost use Rattle.xs_base.specs.declared.words.How.TheVariants as hows;
+ghost use Rattle.xs_model.specs.declared.event.Event.TheVariants as events;
+ghost use Rattle.xs_model.specs.declared.stage.Stage.TheVariants as stages;
+ghost use Rattle.xs_model.specs.History.{IsLegal};
+ghost use Rattle.xs_model.specs.Note as notes;
+ghost use Rattle.xs_model.specs.Replay.{entry};
+ghost use Rattle.xs_model.specs.Script.{IsValid, IsBuilt, is_user};
+ghost use Rattle.xs_model.specs.State.{none_lives};
+ghost use Rattle.xs_board.specs.Board.{past_of, machine_in, ready_of, stage_in, private_in, private_after, turn_on, KeepsOthers, KeepsTurns};
+ghost use Rattle.xs_board.specs.Home.{IsHome};
+ghost use Rattle.xs_board.specs.Taken.{IfTurn, OnNothing, OnDone, IsTurnOf};
+ghost use Rattle.xs_board.specs.Turn.{turn_events, AreLines, stage_closed};
+
+use crate::opening::{first_tasks, numbers, users};
+use crate::putting::put_back;
+use crate::room::most_events;
+use crate::telling::{tell, tell_turn};
+use crate::turn::{Close, Entries, Taken, Turn, start_how};
+use std::alloc::{AllocError, Global};
+use std::collections::VecDeque;
+use std::marker::Model;
+use xs_model::{Event, History, Script, lines_found, ready_once, turns_known, two_numbers};
+use xs_pool::AreaPool;
+use xs_task::Task;
+
+/// The board. All memory of a run is taken when it is opened.
+#[derive(Drop)]
+pub struct Board {
+    script: Script,
+    events: Vec<Event>,
+    /// The task of each block while it is home.
+    tasks: Vec<Option<Task>>,
+    /// The blocks that are ready, the first to start at the front.
+    ready: VecDeque<u32>,
+    /// How many blocks live.
+    living: u32,
+    pool: AreaPool,
+}
+
+impl Model for Board {
+    ghost use Rattle.std.specs.Prelude.{vec_capacity};
+    ghost use Rattle.std.specs.VecDeque.{deque_capacity};
+    ghost use Rattle.xs_board.specs.Board as boards;
+    ghost use Rattle.xs_board.specs.Board.{IsBoard, IsKeptBeside};
+
+    ghost Value = { boards.Board };
+
+    ghost view = { λ b. record { script = b.script; history = b.events.items; home = b.tasks.items; pool = b.pool; room = vec_capacity b.events } };
+
+    ghost invariant = { λ b.
+        IsBoard (record { script = b.script; history = b.events.items; home = b.tasks.items; pool = b.pool; room = vec_capacity b.events })
+        × IsKeptBeside (record { script = b.script; history = b.events.items; home = b.tasks.items; pool = b.pool; room = vec_capacity b.events }) b.ready.items (deque_capacity b.ready) b.living };
+}
+
+impl Board {
+    /// The board of a script before the first event. It takes the whole room of a run: that of the most events that a run has,
+    /// both memories of each user task, the pool of save areas and the ready list. Fails for want of memory alone, and then the
+    /// script is dropped.
+    pub fn open(alloc: Global, script: Script) -> Result<Board, AllocError>
+        requires valid { IsValid script }
+        requires built { IsBuilt script }
+        ensures script { IfOk result (λ board. board.script ≡ script) }
+        ensures history { IfOk result (λ board. board.history ≡ []) }
+    {
+        let Some(room) = most_events(&script) else {
+            return Err(AllocError);
+        };
+        let blocks = script.blocks.as_slice();
+        let count = blocks.len();
+        let events = Vec::with_capacity(alloc, room)?;
+        let mut pool = AreaPool::open(alloc, &script.layout, users(blocks), script.large)?;
+        let tasks = first_tasks(alloc, &script.layout, blocks, &mut pool)?;
+        let ready = numbers(alloc, count)?;
+        Ok(Board {
+            script,
+            events,
+            tasks,
+            ready,
+            living: count as u32,
+            pool,
+        })
+    }
+
+    /// Hands out the first ready block for a turn on the processor, which is one of the script's and has no turn; `mark` is the
+    /// owner mark that the history gives it. Its Start joins the history. Takes no memory.
+    ///
+    /// `Nothing` comes exactly where no block is ready and one lives, `Done` exactly where none lives: then nothing changes.
+    pub fn take(&mut self, cpu: u32, mark: Option<u32>) -> Taken
+        requires processor { cpu < self.old.script.cpus }
+        requires free { turn_on self.old cpu ≡ None }
+        requires mark { mark ≡ notes.mark self.old.script (past_of self.old) cpu }
+
+        // Which answer comes.
+        ensures turn { IfTurn result (λ turn. IsTurnOf self.old cpu turn) }
+        ensures lives { IfTurn result (λ turn. none_lives (machine_in self.old) ≡ false) }
+        ensures nothing { OnNothing result ((ready_of self.old ≡ []) × (none_lives (machine_in self.old) ≡ false)) }
+        ensures done { OnDone result (none_lives (machine_in self.old) ≡ true) }
+
+        // A restore is left out only where the mark is the task and its last processor is this one.
+        ensures skip { IfTurn result (λ turn. turn.how ≡ hows.Skip → (mark ≡ Some turn.task.name) × (turn.task.last ≡ Some cpu)) }
+
+        // What joins the history, which stays legal.
+        ensures history { IfTurn result (λ turn. self.new.history ≡ self.old.history ++ events.Start turn.task.name cpu turn.how turn.signal ∷ []) }
+        ensures legal { IsLegal self.new.script self.new.history }
+        ensures replay { past_of self.new ≡ entry self.old.script (past_of self.old) cpu }
+
+        // What the history tells then.
+        ensures stage { IfTurn result (λ turn. stage_in self.new turn.task.name ≡ stages.Turn cpu 0) }
+        ensures private { IfTurn result (λ turn. private_in self.new turn.task.name ≡ private_in self.old turn.task.name) }
+        ensures busy { IfTurn result (λ turn. turn_on self.new cpu ≡ Some turn.task.name) }
+        ensures others { IfTurn result (λ turn. KeepsOthers turn.task.name self.old self.new) }
+        ensures turns { KeepsTurns cpu self.old self.new }
+
+        // What stays.
+        ensures script { self.new.script ≡ self.old.script }
+        ensures nothing_changes { OnNothing result (self.new ≡ self.old) }
+        ensures done_changes { OnDone result (self.new ≡ self.old) }
+    {
+        ready_once();
+        two_numbers();
+        let Some(name) = self.ready.pop_front() else {
+            return if self.living == 0 {
+                Taken::Done
+            } else {
+                Taken::Nothing
+            };
+        };
+        let kind = self.script.blocks.as_slice()[name as usize].kind;
+        let Some(task) = self.tasks[name as usize].take() else {
+            unreachable!()
+        };
+        let how = start_how(kind, mark, task.last, name, cpu);
+        tell(
+            &mut self.events,
+            Event::Start {
+                task: name,
+                cpu,
+                how,
+                signal: None,
+            },
+        );
+        Taken::Turn(Turn {
+            task,
+            cpu,
+            how,
+            signal: None,
+        })
+    }
+
+    /// Takes a task back after its turn, with the lines that ran and the turn's close. Their events join the history. At End the
+    /// task's area goes back to the pool and the task is dropped; else the block is the last of the ready list. Takes no memory.
+    ///
+    /// The block is in this turn, and the lines and the close are the script's from the task's place on. The task stands for the
+    /// private task after them, with the marks after a turn: a user task was switched out on the turn's processor.
+    pub fn commit(&mut self, turn: Turn, entries: &Entries, close: Close)
+        requires turn { stage_in self.old turn.task.name ≡ stages.Turn turn.cpu 0 }
+        requires lines { AreLines self.old.script turn.task.name (private_in self.old turn.task.name) 0 entries.now.items close }
+        requires task { IsHome (is_user self.old.script turn.task.name) self.old.script.layout turn.task (private_after self.old turn.task.name entries.now.items) }
+        requires last { is_user self.old.script turn.task.name ≡ true → turn.task.last ≡ Some turn.cpu }
+
+        // What joins the history, which stays legal.
+        ensures history { self.new.history ≡ self.old.history ++ turn_events turn.task.name entries.now.items close }
+        ensures grows { length self.old.history < length self.new.history }
+        ensures legal { IsLegal self.new.script self.new.history }
+        ensures replay { past_of self.new ≡ entry self.old.script (past_of self.old) turn.cpu }
+
+        // What the history tells then.
+        ensures stage { stage_in self.new turn.task.name ≡ stage_closed close }
+        ensures private { private_in self.new turn.task.name ≡ private_after self.old turn.task.name entries.now.items }
+        ensures free { turn_on self.new turn.cpu ≡ None }
+        ensures others { KeepsOthers turn.task.name self.old self.new }
+        ensures turns { KeepsTurns turn.cpu self.old self.new }
+
+        // What stays.
+        ensures script { self.new.script ≡ self.old.script }
+    {
+        lines_found();
+        turns_known();
+        let Turn { task, .. } = turn;
+        tell_turn(&mut self.events, task.name, entries.as_slice(), close);
+        put_back(
+            &mut self.tasks,
+            &mut self.ready,
+            &mut self.living,
+            &mut self.pool,
+            task,
+            close,
+        );
+    }
+
+    /// The events so far, in order.
+    pub fn history(&self) -> &[Event]
+        ensures { result.now ≡ self.now.history }
+    {
+        self.events.as_slice()
+    }
+
+    /// The history of the run. Takes no memory.
+    pub fn into_history(self) -> History
+        ensures { result ≡ self.history }
+    {
+        let Board { events, .. } = self;
+        History::from_vec(events)
+    }
+}
