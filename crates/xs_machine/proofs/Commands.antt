@@ -1,0 +1,173 @@
+-- A command of a user task whose registers are in the bank.
+use Rattle.std.proofs.Common.{◌≡◌, ℕ, zero, suc, ◌+◌, ◌<◌, ◌^◌, Bool, true, false, ◌&&◌, ◌==◌, List, [], ◌∷◌, length, Option, Some, None, if◌then◌else◌, refl, sym, ap, ◌∙◌, subst, inl, inr, arith}
+use Rattle.std.proofs.lemmas.Bool.{cases_Bool, cases_eq, cases_lt, ne_eqb}
+use Rattle.std.proofs.lemmas.List.{get_or_past}
+use Rattle.std.proofs.Math.ListN.{length-set}
+use Rattle.std.specs.Prelude.{slice_index, slice_set as set_at}
+use Rattle.std.specs.Int.{from_le_bytes, w32}
+use Rattle.std.specs.List.{AllByRecursion}
+use Rattle.xs_area.specs.declared.area.Lease.{Lease}
+use Rattle.xs_base.specs.declared.component.Row.{Row}
+use Rattle.xs_base.specs.declared.component.Place.{Place}
+use Rattle.xs_base.specs.Bytes.{splice}
+use Rattle.xs_base.specs.Counts.{one_exec, save_if}
+use Rattle.xs_base.specs.File.{File, IsFile, AreSameButPkru, is_mxcsr, part, with_part, read_place, write_place}
+use Rattle.xs_base.specs.Layout.{IsLayout}
+use Rattle.xs_base.specs.Register.{IsRegister, place_of}
+use Rattle.xs_base.specs.Task.{PrivateTask, IsFileOf, IsPrivateTask}
+use Rattle.xs_base.specs.Trail.{read_numbers, write_numbers}
+use Rattle.xs_base.proofs.FileLemmas.{part_here, part_other, with_control, write_is_file}
+use Rattle.xs_base.proofs.ByteRangeLemmas.{AreBytes, splice_are}
+use Rattle.xs_bank.specs.Bank as banks
+use Rattle.xs_bank.specs.Bank.{IsReady, counts_of}
+use Rattle.xs_bank.specs.Holds.{Holds}
+use Rattle.xs_model.specs.declared.event.Reply.{Reply}
+use Rattle.xs_model.specs.declared.event.Reply.TheVariants as replies
+use Rattle.xs_model.specs.declared.script.Command.TheVariants as commands
+use Rattle.xs_model.specs.declared.script.Script.{Script}
+use Rattle.xs_model.specs.Counts.{exec_of, numbers_of, is_pkru}
+use Rattle.xs_model.specs.Line.{next_line, local_after}
+use Rattle.xs_model.specs.Script.{IsCommand, IsBuiltName, is_built}
+use Rattle.xs_switch.specs.Running.{CanSave, IsRunning, IsSaveable}
+use Rattle.xs_task.specs.declared.task.Task.{Task}
+use Rattle.xs_task.specs.Private.{private_of}
+use Rattle.xs_machine.specs.Line.{IsUserOn}
+use Rattle.xs_machine.proofs.BuiltRegisters.{built_place, built_not_pkru, built_not_tiles, register_of, set_length, set_control}
+
+-- ---- the file after a write
+
+byte_at : (bytes : List ℕ) → AllByRecursion (λ byte. byte < 256) bytes → (i : ℕ) → slice_index bytes i < 256
+byte_at [] fits i = omega arith
+byte_at (b ∷ bytes) fits zero = fits.0
+byte_at (b ∷ bytes) fits (suc i) = byte_at bytes fits.1 i
+
+small_control : (bytes : List ℕ) → AllByRecursion (λ byte. byte < 256) bytes → slice_index bytes 2 ≡ 0 → slice_index bytes 3 ≡ 0 → from_le_bytes w32 bytes < 2 ^ 16
+small_control bytes fits second third = omega (arith, second, third, byte_at bytes fits 0, byte_at bytes fits 1)
+
+pub write_rows : (file : File) (place : Place) (bytes : List ℕ) → (write_place file place bytes).rows ≡ file.rows
+write_rows file place bytes = elim (cases_Bool (is_mxcsr place)) [ inl on ↦ rw on refl | inr off ↦ rw off refl ]
+
+part_bytes : (file : File) (c : ℕ) (bytes : List ℕ) → AreBytes bytes → ((d k : ℕ) → slice_index (part file d) k < 256) → (d k : ℕ) → slice_index (part (with_part file c bytes) d) k < 256
+part_bytes file c bytes small all d k = elim (cases_eq d c) [
+  | inr apart ↦ rw (part_other file c d bytes apart) (all d k)
+  | inl here ↦ elim (cases_lt c (length file.parts)) [
+    | inl lt ↦ rw (here, part_here file c bytes lt) (small k)
+    | inr past ↦ rw (here, get_or_past (set_at file.parts c bytes) c [] (rw length-set past)) (omega arith)
+  ]
+]
+
+-- A task whose register is set to bytes that fit it stays a valid one.
+module _ (rows : List Row) (task : PrivateTask) (reg bytes : List ℕ) (valid : IsPrivateTask rows task) (known : IsCommand rows (commands.Set reg bytes)) (built : IsBuiltName reg) where
+  place : Place
+  place = place_of reg
+
+  file_bytes : AreBytes bytes
+  file_bytes = byte_at bytes known.3
+
+  pub set_is_private : IsPrivateTask rows (record task { file = write_place task.file (place_of reg) bytes })
+  set_is_private = elim (cases_Bool (is_mxcsr (place_of reg))) [
+    | inl control ↦
+        let zero = set_control rows reg bytes known control in
+        let small = small_control bytes known.3 zero.0 zero.1 in
+        rw control (record {
+          file = record {
+            is_file = with_control task.file (from_le_bytes w32 bytes) (omega (arith, small)) valid.file.is_file;
+            rows_are = valid.file.rows_are;
+            bytes = valid.file.bytes;
+            control = small;
+          };
+          tiles_are = valid.tiles_are;
+          frame_size = valid.frame_size;
+          frame_bytes = valid.frame_bytes;
+          buffer_size = valid.buffer_size;
+          buffer_bytes = valid.buffer_bytes;
+        })
+    | inr plain ↦
+        let here : IsRegister task.file.rows reg (place_of reg) = rw valid.file.rows_are (register_of rows reg known.0 (known.1.0, known.1.1)) in
+        rw plain (record {
+          file = record {
+            is_file = write_is_file task.file reg (place_of reg) bytes valid.file.is_file here (set_length rows reg bytes known) plain;
+            rows_are = valid.file.rows_are;
+            bytes = part_bytes task.file (place_of reg).comp.0 (splice (place_of reg).offset bytes (part task.file (place_of reg).comp.0)) (splice_are (place_of reg).offset bytes (part task.file (place_of reg).comp.0) file_bytes (valid.file.bytes (place_of reg).comp.0)) valid.file.bytes;
+            control = valid.file.control;
+          };
+          tiles_are = λ small. part_other task.file (place_of reg).comp.0 18 (splice (place_of reg).offset bytes (part task.file (place_of reg).comp.0)) (λ e. built_not_tiles (place_of reg) (built_place reg built) (sym e)) ∙ valid.tiles_are small;
+          frame_size = valid.frame_size;
+          frame_bytes = valid.frame_bytes;
+          buffer_size = valid.buffer_size;
+          buffer_bytes = valid.buffer_bytes;
+        })
+  ]
+
+-- ---- the instructions of a line
+
+-- an instruction on a built register is counted
+pub counted_here : (reg : List ℕ) (numbers : List ℕ) → IsBuiltName reg → (if is_pkru (place_of reg) then None else Some numbers) ≡ Some numbers
+counted_here reg numbers built = rw (ne_eqb (place_of reg).comp.0 9 (built_not_pkru (place_of reg) (built_place reg built))) refl
+
+-- ---- what a line leaves of the task
+
+-- The task at the next line is a task in the same bank.
+pub next_on : (rows : List Row) (task : Task) (bank : banks.Bank) (private : PrivateTask) (new : Task) → new ≡ record task { place = task.place + 1 } → IsUserOn rows task bank private → IsUserOn rows new bank (next_line private)
+next_on rows task bank private new is on =
+    rw is (record {
+      whole = record { frame = on.whole.frame; buffer = on.whole.buffer; some = on.whole.some; area = on.whole.area };
+      ready = on.ready;
+      running = record {
+        valid = record { file = on.running.valid.file; tiles_are = on.running.valid.tiles_are; frame_size = on.running.valid.frame_size; frame_bytes = on.running.valid.frame_bytes; buffer_size = on.running.valid.buffer_size; buffer_bytes = on.running.valid.buffer_bytes };
+        form = ap next_line on.running.form;
+        pkru = on.running.pkru;
+        saved = on.running.saved;
+        whole = on.running.whole;
+      };
+    })
+
+-- A register of the task in the bank is set.
+module _ (rows : List Row) (task : Task) (old new : banks.Bank) (reg bytes : List ℕ) (known : IsCommand rows (commands.Set reg bytes)) (built : IsBuiltName reg) (loaded : task.need_load ≡ false)
+    (after : new ≡ banks.after_write old (place_of reg) bytes)
+    (ready : (id m : ℕ) (area : List ℕ) → IsReady old id m area → IsReady new id m area)
+    (p : PrivateTask) (on : IsUserOn rows task old (next_line p)) where
+  file_is : new.file ≡ write_place p.file (place_of reg) bytes
+  file_is = ap (λ (b : banks.Bank). b.file) after ∙ ap (λ f. write_place f (place_of reg) bytes) (on.running.whole loaded)
+
+  armed_is : new.armed ≡ old.armed
+  armed_is = ap (λ (b : banks.Bank). b.armed) after
+
+  pub set_on : IsUserOn rows task new (local_after p (commands.Set reg bytes))
+  set_on = record {
+    whole = on.whole;
+    ready = λ _ lease is. record { armed = armed_is ∙ (on.ready loaded lease is).armed; ready = ready _ _ _ (on.ready loaded lease is).ready };
+    running = record {
+      valid = set_is_private rows (next_line p) reg bytes on.running.valid known built;
+      form = ap (λ (q : PrivateTask). record q { file = write_place p.file (place_of reg) bytes }) on.running.form;
+      pkru = ap (λ f. part f 9) file_is;
+      saved = λ needs. absurd (cc);
+      whole = λ _. file_is;
+    };
+  }
+
+  pub set_holds : Holds old p → Holds new (local_after p (commands.Set reg bytes))
+  set_holds holds = record {
+    file = rw file_is (record { rows_are = refl; parts = λ c apart. refl; control = refl });
+    armed = rw (armed_is, write_rows p.file (place_of reg) bytes) holds.armed;
+  }
+
+-- A register of the task in the bank is read.
+module _ (rows : List Row) (task : Task) (old new : banks.Bank) (reg bytes : List ℕ) (loaded : task.need_load ≡ false)
+    (after : new ≡ banks.after_read old (place_of reg) bytes)
+    (p : PrivateTask) (on : IsUserOn rows task old (next_line p)) where
+  pub read_on : IsUserOn rows task new (next_line p)
+  read_on = rw after (record {
+    whole = on.whole;
+    ready = λ off lease is. record { armed = (on.ready off lease is).armed; ready = (on.ready off lease is).ready };
+    running = record {
+      valid = on.running.valid;
+      form = on.running.form;
+      pkru = on.running.pkru;
+      saved = on.running.saved;
+      whole = on.running.whole;
+    };
+  })
+
+  pub read_holds : Holds old p → Holds new (next_line p)
+  read_holds holds = rw after (record { file = holds.file; armed = holds.armed })

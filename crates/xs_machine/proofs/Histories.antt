@@ -1,0 +1,120 @@
+-- What an event of a block on a processor tells of other blocks and of other processors: nothing.
+use Rattle.std.proofs.Common.{◌≡◌, ℕ, Bool, true, false, not, ◌&&◌, ◌==◌, List, [], ◌∷◌, slice_get, Option, Some, None, if◌then◌else◌, refl, sym, ap, ◌∙◌, inl, inr}
+use Rattle.std.proofs.lemmas.Bool.{cases_Bool, ne_eqb, eq-eqb}
+use Rattle.xs_base.specs.Counts.{Counts}
+use Rattle.xs_model.specs.declared.event.Event.{Event}
+use Rattle.xs_model.specs.declared.event.Event.TheVariants as events
+use Rattle.xs_model.specs.declared.script.Script.{Script}
+use Rattle.xs_model.specs.Counts as told
+use Rattle.xs_model.specs.Counts.{in_section, is_event_on, is_section_act, counted_by}
+use Rattle.xs_model.specs.Machine.{machine}
+use Rattle.xs_model.specs.Note.{Act, Starts, Section, Grows, Sets, Plain, task_of, act_of, note_of, notes_of, is_at, start_cpu, cpu_of, is_on, mark, mark_after, last, last_after}
+use Rattle.xs_model.specs.Script.{is_user}
+use Rattle.xs_machine.specs.Turn.{Continues}
+
+-- ---- tests
+
+pub and_no : (a : Bool) → (a && false) ≡ false
+and_no true = refl
+and_no false = refl
+
+pub at_self : (c : ℕ) → is_at (Some c) c ≡ true
+at_self c = eq-eqb c c refl
+
+pub at_other : (c d : ℕ) → (d ≡ c → ⊥) → is_at (Some c) d ≡ false
+at_other c d apart = ne_eqb c d (λ e. apart (sym e))
+
+-- The act neither moves a task to another area nor sets registers from outside.
+abbrev pub is_quiet : Act → Bool
+is_quiet (Starts c) = true
+is_quiet Section = true
+is_quiet Grows = false
+is_quiet (Sets u) = false
+is_quiet Plain = true
+
+quiet_last : (act : Act) (t u : ℕ) (older : Option ℕ) → is_quiet act ≡ true → (u ≡ t → ⊥) → last_after t act u older ≡ older
+quiet_last (Starts c) t u older quiet apart = rw (ne_eqb t u (λ e. apart (sym e))) refl
+quiet_last Section t u older quiet apart = refl
+quiet_last Grows t u older quiet apart = absurd (cc)
+quiet_last (Sets v) t u older quiet apart = absurd (cc)
+quiet_last Plain t u older quiet apart = refl
+
+-- ---- an event of block t that is on processor c
+
+module _ (script : Script) (past : List Event) (event : Event) (t c : ℕ) (is : task_of event ≡ t) (at : start_cpu (act_of script event) (cpu_of (notes_of script past) t) ≡ Some c) where
+  cpu_is : start_cpu (act_of script event) (cpu_of (notes_of script past) (task_of event)) ≡ Some c
+  cpu_is = rw is at
+
+  off : (d : ℕ) → (d ≡ c → ⊥) → is_event_on script past event d ≡ false
+  off d apart = rw cpu_is (at_other c d apart)
+
+  on : is_event_on script past event c ≡ true
+  on = rw cpu_is (at_self c)
+
+  other : (u : ℕ) → (u ≡ t → ⊥) → (task_of event == u) ≡ false
+  other u apart = ne_eqb (task_of event) u (λ e. apart (sym e ∙ is))
+
+  own : (task_of event == t) ≡ true
+  own = eq-eqb (task_of event) t is
+
+  -- what is told of its own processor, and of itself
+  pub counts_here : told.counts_of script (event ∷ past) c ≡ counted_by script past event (told.counts_of script past c)
+  counts_here = rw on refl
+
+  pub mark_here : mark script (event ∷ past) c ≡ mark_after (is_user script t) t (act_of script event) (mark script past c)
+  mark_here = rw (on, is) refl
+
+  pub section_here : in_section script (event ∷ past) t ≡ is_section_act (act_of script event)
+  section_here = rw own refl
+
+  pub file_here : told.file_after script (event ∷ past) c t ≡ told.file_of (slice_get (machine script (event ∷ past)).blocks t)
+  file_here = rw (own, on) refl
+
+  pub one_event : is_quiet (act_of script event) ≡ true → last script (event ∷ past) t ≡ Some c → Continues script t c past (event ∷ past)
+  one_event quiet home = record {
+    counts = λ d apart. rw (off d apart) refl;
+    mark_is = λ d apart. rw (off d apart) refl;
+    files = λ d u apart. rw (off d apart, and_no (task_of event == u)) refl;
+    others = λ d u apart. rw (other u apart) refl;
+    last_is = λ u apart. quiet_last (act_of script event) (task_of event) u (last script past u) quiet (λ e. apart (e ∙ is));
+    cpu = λ u apart. rw (other u apart) refl;
+    section = λ u apart. rw (other u apart) refl;
+    here = rw own at;
+    home = home;
+  }
+
+-- One past goes on to another, and this one to a third.
+pub then_on : (script : Script) (t c : ℕ) (old past new : List Event) → Continues script t c old past → Continues script t c past new → Continues script t c old new
+then_on script t c old past new a b = record {
+  counts = λ d apart. b.counts d apart ∙ a.counts d apart;
+  mark_is = λ d apart. b.mark_is d apart ∙ a.mark_is d apart;
+  files = λ d u apart. b.files d u apart ∙ a.files d u apart;
+  others = λ d u apart. b.others d u apart ∙ a.others d u apart;
+  last_is = λ u apart. b.last_is u apart ∙ a.last_is u apart;
+  cpu = λ u apart. b.cpu u apart ∙ a.cpu u apart;
+  section = λ u apart. b.section u apart ∙ a.section u apart;
+  here = b.here;
+  home = b.home;
+}
+
+-- a mark is a user task
+module _ (script : Script) (past : List Event) (c u : ℕ) (event : Event) (before : mark script past c ≡ Some u → is_user script u ≡ true) where
+  user_by : (user : Bool) → is_user script (task_of event) ≡ user → (act : Act) → mark_after user (task_of event) act (mark script past c) ≡ Some u → is_user script u ≡ true
+  user_by true known (Starts d) is = let e : task_of event ≡ u = cc in rw (sym e) known
+  user_by true known Section is = absurd (cc)
+  user_by true known Grows is = let e : task_of event ≡ u = cc in rw (sym e) known
+  user_by true known (Sets v) is = let e : task_of event ≡ u = cc in rw (sym e) known
+  user_by true known Plain is = let e : task_of event ≡ u = cc in rw (sym e) known
+  user_by false kernel (Starts d) is = before is
+  user_by false kernel Section is = absurd (cc)
+  user_by false kernel Grows is = before is
+  user_by false kernel (Sets v) is = before is
+  user_by false kernel Plain is = before is
+
+  user_on : (b : Bool) → is_event_on script past event c ≡ b → mark script (event ∷ past) c ≡ Some u → is_user script u ≡ true
+  user_on true here is = user_by (is_user script (task_of event)) refl (act_of script event) (rw here at is)
+  user_on false there is = before (rw there at is)
+
+pub mark_user : (script : Script) (past : List Event) (c u : ℕ) → mark script past c ≡ Some u → is_user script u ≡ true
+mark_user script [] c u is = absurd (cc)
+mark_user script (event ∷ past) c u is = user_on script past c u event (mark_user script past c u) (is_event_on script past event c) refl is

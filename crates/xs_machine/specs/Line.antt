@@ -1,0 +1,67 @@
+-- What a line does to the task in a turn and to its processor. Both a user task and a kernel thread may be the task.
+use Rattle.std.specs.Prelude.{◌≡◌, ℕ, Bool, true, false, ◌&&◌, List, Option, Some, None, if◌then◌else◌}
+use Rattle.xs_base.specs.declared.component.Row.{Row}
+use Rattle.xs_base.specs.Counts.{load_if, save_if}
+use Rattle.xs_base.specs.Task.{PrivateTask}
+use Rattle.xs_bank.specs.declared.cpu.Cpu.{Cpu}
+use Rattle.xs_bank.specs.Bank as banks
+use Rattle.xs_bank.specs.Bank.{counts_of}
+use Rattle.xs_bank.specs.Holds.{Holds}
+use Rattle.xs_bank.specs.SetUp.{WasSetUp}
+use Rattle.xs_model.specs.declared.event.Reply.{Reply}
+use Rattle.xs_model.specs.declared.script.Command.{Command}
+use Rattle.xs_model.specs.declared.script.Script.{Script}
+use Rattle.xs_model.specs.Counts.{exec_of, numbers_of}
+use Rattle.xs_model.specs.Line.{local_after, local_reply, next_line}
+use Rattle.xs_model.specs.Note.{is_section}
+use Rattle.xs_task.specs.declared.task.Task.{Task}
+use Rattle.xs_task.specs.TaskArea.{IsTask}
+use Rattle.xs_switch.specs.Running.{CanSave, IsRunning}
+use Rattle.xs_board.specs.Home.{IsThreadHome}
+
+-- A user task in a turn: it is whole, and it is this private task.
+pub record IsUserOn (rows : List Row) (task : Task) (bank : banks.Bank) (private : PrivateTask) : Type 0 where
+  pub whole : IsTask rows task
+  pub ready : CanSave rows task bank
+  pub running : IsRunning rows task bank private
+
+-- The task of a user block, or else of a kernel thread, stands for the private task in a turn.
+abbrev pub IsOn : Bool → List Row → Task → banks.Bank → PrivateTask → Type 0
+IsOn true rows task bank private = IsUserOn rows task bank private
+IsOn false rows task bank private = IsThreadHome task private
+
+-- The processor is the same one but for its bank and its mark.
+abbrev pub KeepsCpu : {B : Type 0} → Cpu B → Cpu B → Type 0
+KeepsCpu old new = new ≡ record old { bank = new.bank; mark = new.mark }
+
+-- A user task's registers came back to the bank where they were in its area. A kernel thread has none.
+pub record CameBack {B : Type 0} (user : Bool) (old new : Task) (before after : Cpu B) (bank_before bank_after : banks.Bank) : Type 0 where
+  pub set_up : WasSetUp before.layout bank_after after.initial
+  pub cpu : KeepsCpu before after
+  pub mark : after.mark ≡ (if user && old.need_load then Some old.name else before.mark)
+  pub name : new.name ≡ old.name
+  pub place : new.place ≡ old.place
+  pub loaded : user ≡ true → new.need_load ≡ false
+  pub on : (p : PrivateTask) → IsOn user before.layout old bank_before p → IsOn user before.layout new bank_after p
+  pub holds : user ≡ true → (p : PrivateTask) → IsOn user before.layout old bank_before p → Holds bank_after p
+  pub counts : counts_of bank_after ≡ load_if (user && old.need_load) (counts_of bank_before)
+  pub still : user ≡ false → bank_after ≡ bank_before
+
+-- A command of the task's line ran. The task has its place behind the line from before on. A section leaves the registers in the
+-- area.
+pub record Ran {B : Type 0} (user : Bool) (command : Command) (reply : Reply) (old new : Task) (before after : Cpu B) (bank_before bank_after : banks.Bank) : Type 0 where
+  pub set_up : WasSetUp before.layout bank_after after.initial
+  pub cpu : KeepsCpu before after
+  pub mark : after.mark ≡ (if is_section (Some command) then None else before.mark)
+  pub name : new.name ≡ old.name
+  pub loaded : user ≡ true → new.need_load ≡ is_section (Some command)
+  pub on : (p : PrivateTask) → IsOn user before.layout old bank_before (next_line p) → IsOn user before.layout new bank_after (local_after p command)
+  pub reply_is : (p : PrivateTask) → IsOn user before.layout old bank_before (next_line p) → reply ≡ local_reply p command
+  pub holds : user ≡ true → is_section (Some command) ≡ false → (p : PrivateTask) → IsOn user before.layout old bank_before (next_line p) → Holds bank_before p → Holds bank_after (local_after p command)
+  pub counts : (script : Script) → counts_of bank_after ≡ exec_of (numbers_of script (Some command) reply) (save_if (user && is_section (Some command)) (counts_of bank_before))
+  pub still : user ≡ false → is_section (Some command) ≡ false → bank_after ≡ bank_before
+
+-- The private task is at the task's place of the body.
+pub record StandsAt (task : Task) (private : PrivateTask) : Type 0 where
+  pub outside : private.handling ≡ false
+  pub place : task.place ≡ private.place

@@ -1,0 +1,87 @@
+//! One entry of the schedule.
+
+ghost use Rattle.std.specs.Prelude.{◌≡◌, ◌<◌, IsTrue, length, Some, None};
+ghost use Rattle.xs_base.specs.declared.words.How.TheVariants as hows;
+ghost use Rattle.xs_base.specs.Task.{PrivateTask};
+ghost use Rattle.xs_bank.specs.SetUp.{WasSetUp};
+ghost use Rattle.xs_board.specs.Board.{past_of, KeepsTurns};
+ghost use Rattle.xs_model.specs.Replay.{entry};
+ghost use Rattle.xs_machine.specs.Processors.{KeepsProcessor};
+ghost use Rattle.xs_machine.specs.Running.{IsAt, IsRun, LeavesOthers, IsIdle, MayBegin, Begun};
+
+use crate::turn::{leave, run_lines};
+use xs_bank::{Bank, Cpu};
+use xs_base::How;
+use xs_board::{Board, Entries, Taken, Turn};
+use xs_model::{Script, machine_known};
+use xs_switch::switch_in;
+
+/// One entry of the schedule on a processor: it takes a turn where it has none, and else runs its turn and brings it back. Answers
+/// whether an event was made.
+pub fn run_entry<B: Bank>(
+    script: &Script,
+    board: &mut Board,
+    cpu: &mut Cpu<B>,
+    slot: &mut Option<Turn>,
+    number: u32,
+) -> bool
+    requires run { IsRun script.now board.old }
+    requires known { number < script.now.cpus }
+    requires at { IsAt script.now board.old number slot.old cpu.old (B.state cpu.old.bank) }
+    ensures run { IsRun script.now board.new }
+    ensures at { IsAt script.now board.new number slot.new cpu.new (B.state cpu.new.bank) }
+    ensures others { LeavesOthers B script.now number board.old board.new }
+    ensures turns { KeepsTurns number board.old board.new }
+    ensures replay { past_of board.new ≡ entry script.now (past_of board.old) number }
+    ensures kept { KeepsProcessor cpu.old cpu.new }
+    ensures grows { IsTrue result → length board.old.history < length board.new.history }
+    ensures idle { (IsTrue result → ⊥) → IsIdle script.now number board.old board.new }
+{
+    match slot.take() {
+        Some(turn) => {
+            finish_turn(script, board, cpu, turn);
+            true
+        }
+        None => match board.take(number, cpu.mark) {
+            Taken::Turn(turn) => {
+                *slot = Some(begin_turn(cpu, turn));
+                true
+            }
+            _ => false,
+        },
+    }
+}
+
+/// Begins a turn that the board handed out: the registers of a user task come to the bank. A kernel thread has none.
+fn begin_turn<B: Bank>(cpu: &mut Cpu<B>, turn: Turn) -> Turn
+    requires set_up { WasSetUp cpu.old.layout (B.state cpu.old.bank) cpu.old.initial }
+    requires home { (p : PrivateTask) × MayBegin cpu.old.layout turn (B.state cpu.old.bank) p }
+    requires skip { turn.how ≡ hows.Skip → (cpu.old.mark ≡ Some turn.task.name) × (turn.task.last ≡ Some cpu.old.number) }
+    ensures { Begun turn result cpu.old cpu.new (B.state cpu.old.bank) (B.state cpu.new.bank) }
+{
+    let mut turn = turn;
+    if turn.how != How::Kern {
+        switch_in(&mut turn.task, cpu, turn.how);
+    }
+    turn
+}
+
+/// Runs the lines of a turn and brings it back to the board.
+fn finish_turn<B: Bank>(script: &Script, board: &mut Board, cpu: &mut Cpu<B>, turn: Turn)
+    requires run { IsRun script.now board.old }
+    requires at { IsAt script.now board.old turn.cpu (Some turn) cpu.old (B.state cpu.old.bank) }
+    ensures run { IsRun script.now board.new }
+    ensures at { IsAt script.now board.new turn.cpu None cpu.new (B.state cpu.new.bank) }
+    ensures others { LeavesOthers B script.now turn.cpu board.old board.new }
+    ensures turns { KeepsTurns turn.cpu board.old board.new }
+    ensures replay { past_of board.new ≡ entry script.now (past_of board.old) turn.cpu }
+    ensures kept { KeepsProcessor cpu.old cpu.new }
+    ensures grows { length board.old.history < length board.new.history }
+{
+    machine_known();
+    let mut turn = turn;
+    let mut entries = Entries::new();
+    let close = run_lines(script, cpu, &mut turn.task, &mut entries);
+    leave(script, cpu, &mut turn.task);
+    board.commit(turn, &entries, close);
+}

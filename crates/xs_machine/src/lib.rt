@@ -1,0 +1,16 @@
+//! The machine's processors at work: each takes turns from the board, runs their lines on its bank and brings them back. The
+//! crate's contract is that of `run_schedule`: the history is the script's replay, it is whole, and each bank has counted and
+//! still holds what the history says. It stands on the board of `xs_board`, on switches in `xs_switch` and on any bank.
+#![tactic(auto)]
+
+mod entry;
+mod lines;
+mod proc;
+mod registers;
+mod round;
+mod schedule;
+mod script;
+mod turn;
+
+pub use proc::Proc;
+pub use schedule::run_schedule;
