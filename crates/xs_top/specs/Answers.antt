@@ -1,0 +1,113 @@
+-- What the program answers: which inputs it accepts, and what it writes for them. All of it is this project's own.
+use Rattle.std.specs.Prelude.{◌≡◌, ℕ, ◌<◌, ◌≤◌, ⊤, List, [], ◌∷◌, ◌++◌, length, codes, ◌⊎◌}
+use Rattle.xs_bank.specs.Bank.{Bank}
+use Rattle.xs_io.specs.Causes.{Rose}
+use Rattle.xs_machine.specs.declared.proc.Proc.{Proc}
+use Rattle.xs_model.specs.declared.script.Script.{Script}
+use Rattle.xs_model.specs.declared.event.Event.{Event}
+use Rattle.xs_script.specs.declared.refusal.Kind.{Kind}
+use Rattle.xs_script.specs.Grammar.{Spells}
+use Rattle.xs_script.specs.Refusal.{Refuses}
+use Rattle.xs_script.specs.RefusalText.{refusal_text}
+use Rattle.xs_text.specs.Text.{history_text}
+use Rattle.xs_top.specs.declared.play.Play.{Play}
+use Rattle.xs_top.specs.declared.status.Status.{Status}
+use Rattle.xs_top.specs.declared.status.Status.TheVariants as statuses
+use Rattle.xs_top.specs.Outside.{Output, Outside, IsRead, TakesAtMost, WritesNothing, Writes, FailsIn, limit}
+use Rattle.xs_top.specs.Run.{IsCommandLine, IsRunOf, play_words, played}
+
+abbrev pub usage_text : List ℕ
+usage_text = codes "usage: xstate run [--tasks] | replay | check | gen N | demo N" ++ 10 ∷ []
+
+abbrev pub too_long_text : List ℕ
+too_long_text = codes "refused 0 too-long" ++ 10 ∷ []
+
+-- ---- inputs
+
+-- The input is the text of this script, and no longer than a script may be.
+pub record IsAccepted (input : List ℕ) (script : Script) : Type 0 where
+  pub short : length input ≤ limit
+  pub spelled : Spells input script
+
+-- The input is no script, and this line says why: it is longer than a script may be, or one of its lines is refused.
+pub data IsRefused (input : List ℕ) : List ℕ → Type 0 where
+  TooLong : limit < length input → IsRefused input too_long_text
+  ByLine : (number : ℕ) (kind : Kind) → length input ≤ limit → Refuses input number kind → IsRefused input (refusal_text number kind)
+
+-- The input is a script, and the text is that of a history of it, which the command ran on the processors.
+pub record RunsTo {B : Type 0} (state : B → Bank) (play : Play) (input text : List ℕ) (old new : List (Proc B)) : Type 0 where
+  pub script : Script
+  pub accepted : IsAccepted input script
+  pub history : List Event
+  pub run : IsRunOf state (played play script) history old new
+  pub written : text ≡ history_text script history
+
+-- The right output for an input: the text of a run, or the line of a refusal, which leaves the processors as they were.
+abbrev pub IsOutput : {B : Type 0} → (B → Bank) → Play → List ℕ → List ℕ → List (Proc B) → List (Proc B) → Type 0
+IsOutput state play input text old new = RunsTo state play input text old new ⊎ (IsRefused input text × (new ≡ old))
+
+-- ---- how calls end, by the status
+
+-- A text that is told with a status was written whole, or a write failed.
+abbrev pub TellEnds : Status → List ℕ → Output → Output → Status → Type 0
+TellEnds status text before after result = ((result ≡ status) × Writes before after text) ⊎ ((result ≡ statuses.WriteFault) × FailsIn before after text)
+
+-- the run of a script
+abbrev pub WriteEnds : {B : Type 0} → (B → Bank) → Script → Output → Output → List (Proc B) → List (Proc B) → Status → Type 0
+WriteEnds state script before after old new statuses.Done = (history : List Event) × IsRunOf state script history old new × Writes before after (history_text script history)
+WriteEnds state script before after old new statuses.Refused = ⊥
+WriteEnds state script before after old new statuses.ReadFault = ⊥
+WriteEnds state script before after old new statuses.WriteFault = (history : List Event) × IsRunOf state script history old new × FailsIn before after (history_text script history)
+WriteEnds state script before after old new statuses.NoMemory = WritesNothing before after
+WriteEnds state script before after old new statuses.Usage = ⊥
+
+-- the answer to an input, with the processors before and after
+abbrev pub AnswerEnds : {B : Type 0} → (B → Bank) → Play → List ℕ → Output → Output → List (Proc B) → List (Proc B) → Status → Type 0
+AnswerEnds state play input before after old new statuses.Done = (text : List ℕ) × RunsTo state play input text old new × Writes before after text
+AnswerEnds state play input before after old new statuses.Refused = (text : List ℕ) × IsRefused input text × Writes before after text
+AnswerEnds state play input before after old new statuses.ReadFault = ⊥
+AnswerEnds state play input before after old new statuses.WriteFault = (text : List ℕ) × IsOutput state play input text old new × FailsIn before after text
+AnswerEnds state play input before after old new statuses.NoMemory = WritesNothing before after
+AnswerEnds state play input before after old new statuses.Usage = ⊥
+
+-- An input was read without a fault, and its answer ends so.
+pub record ReadAndEnds (before after : Outside) (Ends : List ℕ → Type 0) : Type 0 where
+  pub unfailed : after.input.faults ≡ before.input.faults
+  pub input : List ℕ
+  pub read : IsRead before.input after.input input
+  pub ends : Ends input
+
+-- a command that plays a script
+abbrev pub PlayEnds : {B : Type 0} → (B → Bank) → Play → Outside → Outside → List (Proc B) → List (Proc B) → Status → Type 0
+PlayEnds state play before after old new statuses.Done = ReadAndEnds before after (λ input. AnswerEnds state play input before.output after.output old new statuses.Done)
+PlayEnds state play before after old new statuses.Refused = ReadAndEnds before after (λ input. AnswerEnds state play input before.output after.output old new statuses.Refused)
+PlayEnds state play before after old new statuses.ReadFault = Rose before.input.faults after.input.faults × TakesAtMost before.input after.input × WritesNothing before.output after.output
+PlayEnds state play before after old new statuses.WriteFault = ReadAndEnds before after (λ input. AnswerEnds state play input before.output after.output old new statuses.WriteFault)
+PlayEnds state play before after old new statuses.NoMemory = (after.input.faults ≡ before.input.faults) × TakesAtMost before.input after.input × WritesNothing before.output after.output
+PlayEnds state play before after old new statuses.Usage = ⊥
+
+-- The output of a command is cut short: a write failed within what the input asks for.
+abbrev pub IsPlayCutShort : {B : Type 0} → (B → Bank) → Play → Outside → Outside → List (Proc B) → List (Proc B) → Type 0
+IsPlayCutShort state play before after old new = (input text : List ℕ) × IsRead before.input after.input input × IsOutput state play input text old new × FailsIn before.output after.output text
+
+-- The output is cut short: a write failed within what the words and the input ask for. Of wrong words nothing was read, and
+-- no processor changed.
+abbrev pub IsCutShort : {B : Type 0} → (B → Bank) → List (List ℕ) → Outside → Outside → List (Proc B) → List (Proc B) → Type 0
+IsCutShort state words before after old new =
+    ((IsCommandLine words → ⊥) × (after.input ≡ before.input) × (new ≡ old) × FailsIn before.output after.output usage_text)
+    ⊎ ((play : Play) × (words ≡ play_words play) × IsPlayCutShort state play before after old new)
+
+-- No fault is passed over: a read failed only where the status is 4, and a write only where it is 5.
+pub record Unfailed (before after : Outside) (result : Status) : Type 0 where
+  pub reads : (result ≡ statuses.ReadFault → ⊥) → after.input.faults ≡ before.input.faults
+  pub writes : (result ≡ statuses.WriteFault → ⊥) → after.output.faults ≡ before.output.faults
+
+-- No processor changed, where no script was run to its end: at 64, 2, 4 and 6. What 0 and 5 leave is said with the script
+-- that ran.
+abbrev pub KeepsProcessors : {B : Type 0} → List (Proc B) → List (Proc B) → Status → Type 0
+KeepsProcessors before after statuses.Done = ⊤
+KeepsProcessors before after statuses.Refused = after ≡ before
+KeepsProcessors before after statuses.ReadFault = after ≡ before
+KeepsProcessors before after statuses.WriteFault = ⊤
+KeepsProcessors before after statuses.NoMemory = after ≡ before
+KeepsProcessors before after statuses.Usage = after ≡ before

@@ -1,0 +1,55 @@
+-- A run: which script a command plays, and what is said of its history and of the processors that it leaves. This project's
+-- own.
+use Rattle.std.specs.Prelude.{◌≡◌, ℕ, ◌<◌, false, List, [], ◌∷◌, codes, drop, slice_get, Some}
+use Rattle.xs_bank.specs.Bank.{Bank, HasCountedNothing}
+use Rattle.xs_machine.specs.declared.proc.Proc.{Proc}
+use Rattle.xs_machine.specs.Processors.{HaveRun}
+use Rattle.xs_model.specs.declared.script.Script.{Script}
+use Rattle.xs_model.specs.declared.event.Event.{Event}
+use Rattle.xs_model.specs.History.{IsWhole, has_kill}
+use Rattle.xs_model.specs.Replay.{IsReplay}
+use Rattle.xs_top.specs.declared.play.Play.{Play}
+use Rattle.xs_top.specs.declared.play.Play.TheVariants.{Run, Replay}
+
+-- ---- commands that play a script
+
+-- the command's words, without the program's name
+abbrev pub play_words : Play → List (List ℕ)
+play_words Run = codes "run" ∷ []
+play_words Replay = codes "replay" ∷ []
+
+-- The words are one of the command lines of this version.
+abbrev pub IsCommandLine : List (List ℕ) → Type 0
+IsCommandLine words = (play : Play) × (words ≡ play_words play)
+
+-- The script that a command plays: `run` ignores the schedule, so that its processors have their turns in order.
+abbrev pub played : Play → Script → Script
+played Run script = record script { sched = [] }
+played Replay script = script
+
+-- ---- processors
+
+-- The processors have the numbers 0, 1, 2 and so on, in order.
+abbrev pub AreNumbered : {B : Type 0} → List (Proc B) → Type 0
+AreNumbered {B = B} procs = (i : ℕ) (proc : Proc B) → slice_get procs i ≡ Some proc → proc.cpu.number ≡ i
+
+-- No bank has counted anything.
+abbrev pub AreUncounted : {B : Type 0} → (B → Bank) → List (Proc B) → Type 0
+AreUncounted {B = B} state procs = (i : ℕ) (proc : Proc B) → slice_get procs i ≡ Some proc → HasCountedNothing (state proc.cpu.bank)
+
+-- The script's processors have its machine.
+abbrev pub HaveMachineOf : {B : Type 0} → Script → List (Proc B) → Type 0
+HaveMachineOf {B = B} script procs = (i : ℕ) (proc : Proc B) → i < script.cpus → slice_get procs i ≡ Some proc → proc.cpu.layout ≡ script.layout
+
+-- ---- a run
+
+-- The history is whole, it is the script's replay, and no task is killed in it. Each bank has counted what the history tells of
+-- it, and has the file that the history leaves in it, PKRU aside. The script's processors have its machine, and no other
+-- processor changed.
+pub record IsRunOf {B : Type 0} (state : B → Bank) (script : Script) (history : List Event) (old new : List (Proc B)) : Type 0 where
+  pub whole : IsWhole script history
+  pub replay : IsReplay script history
+  pub unkilled : has_kill history ≡ false
+  pub banks : HaveRun state script history new
+  pub machine : HaveMachineOf script new
+  pub others : drop script.cpus new ≡ drop script.cpus old

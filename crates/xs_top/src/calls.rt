@@ -1,0 +1,230 @@
+//! The top call: all that the program does, over any source and sink.
+
+ghost use Rattle.std.specs.Prelude.{◌≡◌, ℕ, List, ◌⊎◌, length, map, string_bytes, Some};
+ghost use Rattle.xs_io.specs.Causes.{Rose};
+ghost use Rattle.xs_model.specs.Script.{IsValid, IsBuilt};
+ghost use Rattle.xs_model.specs.declared.script.Script.{Script};
+ghost use Rattle.xs_script.specs.RefusalText.{refusal_text};
+ghost use Rattle.xs_text.specs.Text.{AreTasksKnown, history_text};
+ghost use Rattle.xs_top.specs.declared.play.Play.{Play};
+ghost use Rattle.xs_top.specs.Outside.{outside, input_of, output_of, TakesAtMost, Writes, WritesNothing};
+ghost use Rattle.xs_top.specs.Run.{AreNumbered, AreUncounted, IsCommandLine, play_words};
+ghost use Rattle.xs_top.specs.Answers.{IsAccepted, IsRefused, AnswerEnds, TellEnds, PlayEnds, WriteEnds, IsCutShort, IsPlayCutShort, Unfailed, KeepsProcessors, usage_text, too_long_text};
+ghost use Rattle.xs_top.specs.Headline.{Headline, Refusal, MayRun, MayRefuse};
+
+#[cfg(test)]
+mod tests;
+
+use crate::history::write_history;
+use crate::play::{Play, as_played, play_of};
+use crate::reading::{LIMIT, ReadError, read_up_to};
+use crate::running::{open_board, run_script};
+use crate::status::Status;
+use crate::writing::write_all;
+use std::alloc::Global;
+use xs_bank::Bank;
+use xs_io::{Sink, Source};
+use xs_machine::Proc;
+use xs_model::{Event, Script};
+use xs_script::{
+    Kind, RefusalLine, ScriptError, not_both, one_refusal, read_script, write_refusal,
+};
+
+/// The line that answers other words than a command.
+const USAGE: &[u8] = b"usage: xstate run [--tasks] | replay | check | gen N | demo N\n";
+
+/// The line that answers an input that is longer than a script may be.
+const TOO_LONG: &[u8] = b"refused 0 too-long\n";
+
+/// Does what the words of the command line ask: `run` and `replay` read a script from the source and write its history to the
+/// sink. `words` is the command line without the program's name. The processors are sixteen, numbered from 0 in order, whose
+/// banks have counted nothing. The script's ones are the first: they are set up once all memory is found, and no other changes.
+pub fn top<S: Source, K: Sink, B: Bank>(
+    alloc: Global,
+    words: &[String],
+    source: &mut S,
+    sink: &mut K,
+    procs: &mut [Proc<B>],
+) -> Status
+    requires many { length procs.old ≡ 16 }
+    requires numbers { AreNumbered procs.old }
+    requires counts { AreUncounted B.state procs.old }
+
+    // 64: the words are no command, and the usage line was written. Nothing was read.
+    ensures usage { result ≡ Status.Usage → (IsCommandLine (map string_bytes words.now) → ⊥)
+        × Writes (output_of K.Sink sink.old) (output_of K.Sink sink.new) usage_text × (input_of S.Source source.new ≡ input_of S.Source source.old) }
+    // Other words than a command answer nothing else, but that the usage line was not written.
+    ensures no_command { (IsCommandLine (map string_bytes words.now) → ⊥) → (result ≡ Status.Usage) ⊎ (result ≡ Status.WriteFault) }
+    // 0: what was written is the text of the one history of the script's run, and the processors are as this run leaves them.
+    ensures headline { result ≡ Status.Done → (play : Play) × (map string_bytes words.now ≡ play_words play)
+        × Headline B.state play (outside S.Source K.Sink source.old sink.old) (outside S.Source K.Sink source.new sink.new) procs.old procs.new }
+    // 2: what was read is no script, and what was written is the line of its first refusal.
+    ensures refused { result ≡ Status.Refused → IsCommandLine (map string_bytes words.now)
+        × Refusal (outside S.Source K.Sink source.old sink.old) (outside S.Source K.Sink source.new sink.new) }
+    // A known input that is a script is never refused.
+    ensures runs { (input : List ℕ) (script : Script) → S.left source.old ≡ Some input → IsCommandLine (map string_bytes words.now) → IsAccepted input script → MayRun result }
+    // A known input that is refused by a line is refused by no other, and never run.
+    ensures refuses { (input line : List ℕ) → S.left source.old ≡ Some input → IsCommandLine (map string_bytes words.now) → IsRefused input line → MayRefuse (output_of K.Sink sink.old) (output_of K.Sink sink.new) line result }
+    // 4: only where the source failed in this call, and nothing was written.
+    ensures read_fault { result ≡ Status.ReadFault → Rose (S.fault_count source.old) (S.fault_count source.new)
+        × TakesAtMost (input_of S.Source source.old) (input_of S.Source source.new) × WritesNothing (output_of K.Sink sink.old) (output_of K.Sink sink.new) }
+    // 5: only where the sink failed in this call, and what was written by then is a front of the right output. Where that is
+    // the text of a run, the processors are as this run leaves them; where it is a line, no processor changed.
+    ensures write_fault { result ≡ Status.WriteFault → IsCutShort B.state (map string_bytes words.now) (outside S.Source K.Sink source.old sink.old) (outside S.Source K.Sink source.new sink.new) procs.old procs.new }
+    // 6: nothing was written. It is the answer to want of memory, for which no clause can ask.
+    ensures no_memory { result ≡ Status.NoMemory → IsCommandLine (map string_bytes words.now)
+        × TakesAtMost (input_of S.Source source.old) (input_of S.Source source.new) × WritesNothing (output_of K.Sink sink.old) (output_of K.Sink sink.new) }
+    // No fault is passed over: the source failed only at 4, and the sink only at 5.
+    ensures unfailed { Unfailed (outside S.Source K.Sink source.old sink.old) (outside S.Source K.Sink source.new sink.new) result }
+    // At 64, 2, 4 and 6 no script ran, and no processor changed.
+    ensures processors { KeepsProcessors procs.old procs.new result }
+    // Each processor keeps its number.
+    ensures numbers { AreNumbered procs.new }
+{
+    one_refusal();
+    not_both();
+    match play_of(words) {
+        Some(play) => play_call(alloc, play, source, sink, procs),
+        None => tell(sink, USAGE, Status::Usage),
+    }
+}
+
+/// The command `replay` alone: reads a script from the source, runs it by its schedule and writes its history to the sink. It
+/// takes the processors that `top` takes, and never answers 64.
+pub fn replay_call<S: Source, K: Sink, B: Bank>(
+    alloc: Global,
+    source: &mut S,
+    sink: &mut K,
+    procs: &mut [Proc<B>],
+) -> Status
+    requires many { length procs.old ≡ 16 }
+    requires numbers { AreNumbered procs.old }
+    requires counts { AreUncounted B.state procs.old }
+
+    ensures no_usage { result ≡ Status.Usage → ⊥ }
+    // 0: what was written is the text of the one history of the script's run, and the processors are as this run leaves them.
+    ensures headline { result ≡ Status.Done → Headline B.state Play.Replay (outside S.Source K.Sink source.old sink.old) (outside S.Source K.Sink source.new sink.new) procs.old procs.new }
+    // 2: what was read is no script, and what was written is the line of its first refusal.
+    ensures refused { result ≡ Status.Refused → Refusal (outside S.Source K.Sink source.old sink.old) (outside S.Source K.Sink source.new sink.new) }
+    // A known input that is a script is never refused, and one that is refused by a line is refused by no other and never run.
+    ensures runs { (input : List ℕ) (script : Script) → S.left source.old ≡ Some input → IsAccepted input script → MayRun result }
+    ensures refuses { (input line : List ℕ) → S.left source.old ≡ Some input → IsRefused input line → MayRefuse (output_of K.Sink sink.old) (output_of K.Sink sink.new) line result }
+    // 4: only where the source failed in this call, and nothing was written.
+    ensures read_fault { result ≡ Status.ReadFault → Rose (S.fault_count source.old) (S.fault_count source.new)
+        × TakesAtMost (input_of S.Source source.old) (input_of S.Source source.new) × WritesNothing (output_of K.Sink sink.old) (output_of K.Sink sink.new) }
+    // 5: only where the sink failed in this call, and what was written by then is a front of the right output, with the processors
+    // that go with it.
+    ensures write_fault { result ≡ Status.WriteFault → IsPlayCutShort B.state Play.Replay (outside S.Source K.Sink source.old sink.old) (outside S.Source K.Sink source.new sink.new) procs.old procs.new }
+    // 6: nothing was written.
+    ensures no_memory { result ≡ Status.NoMemory → TakesAtMost (input_of S.Source source.old) (input_of S.Source source.new) × WritesNothing (output_of K.Sink sink.old) (output_of K.Sink sink.new) }
+    // No fault is passed over, no processor changed where no script ran, and each keeps its number.
+    ensures unfailed { Unfailed (outside S.Source K.Sink source.old sink.old) (outside S.Source K.Sink source.new sink.new) result }
+    ensures processors { KeepsProcessors procs.old procs.new result }
+    ensures numbers { AreNumbered procs.new }
+{
+    one_refusal();
+    not_both();
+    play_call(alloc, Play::Replay, source, sink, procs)
+}
+
+/// Reads a script, plays it as the command does and writes its history.
+fn play_call<S: Source, K: Sink, B: Bank>(
+    alloc: Global,
+    play: Play,
+    source: &mut S,
+    sink: &mut K,
+    procs: &mut [Proc<B>],
+) -> Status
+    requires many { length procs.old ≡ 16 }
+    requires numbers { AreNumbered procs.old }
+    requires counts { AreUncounted B.state procs.old }
+    ensures ends { PlayEnds B.state play (outside S.Source K.Sink source.old sink.old) (outside S.Source K.Sink source.new sink.new) procs.old procs.new result }
+    ensures processors { KeepsProcessors procs.old procs.new result }
+    ensures numbers { AreNumbered procs.new }
+{
+    match read_up_to(alloc, LIMIT, source) {
+        Ok(input) => answer(alloc, play, input.as_slice(), sink, procs),
+        Err(ReadError::Fault) => Status::ReadFault,
+        Err(ReadError::Memory) => Status::NoMemory,
+    }
+}
+
+/// Answers an input: with its history, or with one line where it is no script.
+fn answer<K: Sink, B: Bank>(
+    alloc: Global,
+    play: Play,
+    input: &[u8],
+    sink: &mut K,
+    procs: &mut [Proc<B>],
+) -> Status
+    requires many { length procs.old ≡ 16 }
+    requires numbers { AreNumbered procs.old }
+    requires counts { AreUncounted B.state procs.old }
+    ensures ends { AnswerEnds B.state play input.now (output_of K.Sink sink.old) (output_of K.Sink sink.new) procs.old procs.new result }
+    ensures processors { KeepsProcessors procs.old procs.new result }
+    ensures numbers { AreNumbered procs.new }
+{
+    if input.len() > LIMIT {
+        return tell(sink, TOO_LONG, Status::Refused);
+    }
+    match read_script(alloc, input) {
+        Ok(script) => write_run(alloc, &as_played(alloc, play, script), sink, procs),
+        Err(ScriptError::Refused { line, kind }) => tell_refusal(line, kind, sink),
+        Err(ScriptError::Memory) => Status::NoMemory,
+    }
+}
+
+/// Writes the line of a refusal.
+fn tell_refusal<K: Sink>(line: u32, kind: Kind, sink: &mut K) -> Status
+    ensures { TellEnds Status.Refused (refusal_text line kind) (output_of K.Sink sink.old) (output_of K.Sink sink.new) result }
+{
+    let mut text = RefusalLine::new();
+    write_refusal(line, kind, &mut text);
+    tell(sink, text.as_slice(), Status::Refused)
+}
+
+/// Runs a script and writes its history.
+fn write_run<K: Sink, B: Bank>(
+    alloc: Global,
+    script: &Script,
+    sink: &mut K,
+    procs: &mut [Proc<B>],
+) -> Status
+    requires valid { IsValid script.now }
+    requires built { IsBuilt script.now }
+    requires many { length procs.old ≡ 16 }
+    requires numbers { AreNumbered procs.old }
+    requires counts { AreUncounted B.state procs.old }
+    ensures ends { WriteEnds B.state script.now (output_of K.Sink sink.old) (output_of K.Sink sink.new) procs.old procs.new result }
+    ensures processors { KeepsProcessors procs.old procs.new result }
+    ensures numbers { AreNumbered procs.new }
+{
+    match open_board(alloc, script) {
+        Ok(board) => {
+            let history = run_script(script, board, procs);
+            tell_history(script, history.events(), sink)
+        }
+        Err(_) => Status::NoMemory,
+    }
+}
+
+/// Writes a history.
+fn tell_history<K: Sink>(script: &Script, history: &[Event], sink: &mut K) -> Status
+    requires { AreTasksKnown script.now history.now }
+    ensures { TellEnds Status.Done (history_text script.now history.now) (output_of K.Sink sink.old) (output_of K.Sink sink.new) result }
+{
+    match write_history(script, history, sink) {
+        Ok(()) => Status::Done,
+        Err(_) => Status::WriteFault,
+    }
+}
+
+/// Writes a text in place of a history, and answers its status.
+fn tell<K: Sink>(sink: &mut K, text: &[u8], status: Status) -> Status
+    ensures { TellEnds status text.now (output_of K.Sink sink.old) (output_of K.Sink sink.new) result }
+{
+    match write_all(sink, text) {
+        Ok(()) => status,
+        Err(_) => Status::WriteFault,
+    }
+}

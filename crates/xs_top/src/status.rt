@@ -1,0 +1,37 @@
+//! The exit statuses of the program.
+
+ghost use Rattle.std.specs.Prelude.{◌≡◌};
+ghost use Rattle.xs_top.specs.Statuses.{code_of};
+
+/// How a command ended.
+#[derive(Clone, Copy, PartialEq, Eq, Debug)]
+pub enum Status {
+    /// The history was written, and no task in it was killed.
+    Done,
+    /// The input is no script of this version.
+    Refused,
+    /// Reading the input failed.
+    ReadFault,
+    /// Writing the output failed.
+    WriteFault,
+    /// There was no memory for the input or the run.
+    NoMemory,
+    /// The words are no command.
+    Usage,
+}
+
+impl Status {
+    /// The process's exit status.
+    pub fn code(self) -> u8
+        ensures { result ≡ code_of self }
+    {
+        match self {
+            Status::Done => 0,
+            Status::Refused => 2,
+            Status::ReadFault => 4,
+            Status::WriteFault => 5,
+            Status::NoMemory => 6,
+            Status::Usage => 64,
+        }
+    }
+}
