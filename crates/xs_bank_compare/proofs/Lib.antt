@@ -1,2 +1,0 @@
--- What the proofs of the turns cite.
-pub mod TurnLemmas

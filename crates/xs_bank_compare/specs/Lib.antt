@@ -1,1 +1,0 @@
--- This crate cites the definitions of the crates below it, and has none of its own.

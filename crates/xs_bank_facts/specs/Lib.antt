@@ -1,0 +1,2 @@
+-- What the program's calls cite.
+pub mod Turn

@@ -1,2 +1,0 @@
--- What the tests' own calls cite.
-pub mod Turn
