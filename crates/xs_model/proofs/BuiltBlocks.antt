@@ -11,7 +11,7 @@ use Rattle.xs_base.specs.Register.{place_of}
 use Rattle.xs_base.proofs.Registers.{named_place}
 use Rattle.xs_model.specs.declared.script.Command.{Command}
 use Rattle.xs_model.specs.declared.script.Command.TheVariants as commands
-use Rattle.xs_model.specs.Script.{built_components, is_built, IsBuiltName, IsBuiltCommand, is_outer}
+use Rattle.xs_model.specs.Script.{built_components, is_built, IsBuiltName, IsBuiltCommand, is_outer, is_fork}
 use Rattle.xs_model.specs.Line.{traps, refusal, local_after}
 use Rattle.xs_model.specs.State.{changed}
 
@@ -43,12 +43,13 @@ no_trap true true tiles off = off
 no_trap true false tiles off = refl
 no_trap false small tiles off = refl
 
--- a built command is local, doesn't trap, and is no return
-pub built_inner : (task : PrivateTask) (command : Command) → IsBuiltCommand command → (is_outer command ≡ false) × (traps task command ≡ false) × (refusal task command ≡ None)
+-- a built command is a fork or local, doesn't trap, and is no return
+pub built_inner : (task : PrivateTask) (command : Command) → IsBuiltCommand command → (is_outer command ≡ is_fork command) × (traps task command ≡ false) × (refusal task command ≡ None)
 built_inner task (commands.Set reg bytes) built = (refl, no_trap (has_row task.file.rows tiledata_number) (not task.large) (is_of_tiles (place_of reg) true) (name_apart reg true built), refl)
 built_inner task (commands.Get reg) built = (refl, no_trap (has_row task.file.rows tiledata_number) (not task.large) (is_of_tiles (place_of reg) false) (name_apart reg false built), refl)
 built_inner task (commands.Ksec byte) built = (refl, refl, refl)
 built_inner task commands.Yield built = (refl, refl, refl)
+built_inner task (commands.Fork name) built = (refl, refl, refl)
 built_inner task other built = absurd built
 
 -- it leaves whether a handler runs
@@ -57,6 +58,7 @@ keeps_handling task (commands.Set reg bytes) built = refl
 keeps_handling task (commands.Get reg) built = refl
 keeps_handling task (commands.Ksec byte) built = refl
 keeps_handling task commands.Yield built = refl
+keeps_handling task (commands.Fork name) built = refl
 keeps_handling task other built = absurd built
 
 -- it leaves the room for TILEDATA
@@ -65,6 +67,7 @@ keeps_large task (commands.Set reg bytes) built = refl
 keeps_large task (commands.Get reg) built = refl
 keeps_large task (commands.Ksec byte) built = refl
 keeps_large task commands.Yield built = refl
+keeps_large task (commands.Fork name) built = refl
 keeps_large task other built = absurd built
 
 -- ---- lists

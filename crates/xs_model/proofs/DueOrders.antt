@@ -105,11 +105,12 @@ grow_small m t ran u task (Some order) is = by_tests (is_outer order.command) (t
 -- ---- an outer line
 
 -- An outer event is that of the line at the place.
-pub record OuterAt (line : ℕ) (lines : Block) (task : PrivateTask) : Type 0 where
+pub record OuterAt (m : Machine) (t line : ℕ) (reply : Reply) (lines : Block) (task : PrivateTask) : Type 0 where
   pub order : Order
   pub here : line_at lines task ≡ Some order
   pub number : line ≡ order.number
   pub outer : is_outer order.command ≡ true
+  pub replied : reply ≡ outer_reply m.script m.blocks t order.command
 
 -- the event of a local line is no outer one
 local_no_outer : (m : Machine) (t ran u line : ℕ) (reply : Reply) (task : PrivateTask) (order : Order) (why : Option Why) → local_event m t ran task order why ≡ Some (Outer u line reply) → ⊥
@@ -127,15 +128,15 @@ trap_no_outer true true t u line reply is = cc
 trap_no_outer true false t u line reply is = cc
 
 -- an outer event of a block at its place
-pub outer_at : (m : Machine) (t ran u line : ℕ) (reply : Reply) (lines : Block) (task : PrivateTask) (order : Option Order) → line_at lines task ≡ order → place_event m t ran task order ≡ Some (Outer u line reply) → OuterAt line lines task
+pub outer_at : (m : Machine) (t ran u line : ℕ) (reply : Reply) (lines : Block) (task : PrivateTask) (order : Option Order) → line_at lines task ≡ order → place_event m t ran task order ≡ Some (Outer u line reply) → OuterAt m t line reply lines task
 outer_at m t ran u line reply lines task None here is = within (nat_lt ran m.script.quantum && not task.handling) is
   where
-    within : (b : Bool) → (if b then Some (End t) else None) ≡ Some (Outer u line reply) → OuterAt line lines task
+    within : (b : Bool) → (if b then Some (End t) else None) ≡ Some (Outer u line reply) → OuterAt m t line reply lines task
     within true is = absurd (cc)
     within false is = absurd (cc)
 outer_at m t ran u line reply lines task (Some order) here is = by_tests (is_outer order.command) (traps task order.command) refl is
   where
-    by_tests : (outer trap : Bool) → is_outer order.command ≡ outer → (if outer then Some (Outer t order.number (outer_reply m.script m.blocks t order.command)) else (if trap then Some (trap_event m t task) else local_event m t ran task order (refusal task order.command))) ≡ Some (Outer u line reply) → OuterAt line lines task
-    by_tests true trap test is = record { order = order; here = here; number = cc; outer = test }
+    by_tests : (outer trap : Bool) → is_outer order.command ≡ outer → (if outer then Some (Outer t order.number (outer_reply m.script m.blocks t order.command)) else (if trap then Some (trap_event m t task) else local_event m t ran task order (refusal task order.command))) ≡ Some (Outer u line reply) → OuterAt m t line reply lines task
+    by_tests true trap test is = record { order = order; here = here; number = cc; outer = test; replied = cc }
     by_tests false true test is = absurd (trap_no_outer task.permitted (nat_lt (large_count m.blocks) m.script.large) t u line reply is)
     by_tests false false test is = absurd (local_no_outer m t ran u line reply task order (refusal task order.command) is)

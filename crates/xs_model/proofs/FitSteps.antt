@@ -4,7 +4,6 @@ use Rattle.std.proofs.lemmas.Bool.{cases_eq, both_ways}
 use Rattle.std.proofs.lemmas.Option.{slice_get-map}
 use Rattle.std.specs.Prelude.{Option, Some, None, if◌then◌else◌, slice_get, nat_lt}
 use Rattle.std.specs.Option.{option_map}
-use Rattle.std.specs.List.{AllByRecursion}
 use Rattle.xs_base.specs.declared.component.Row.{Row}
 use Rattle.xs_base.specs.declared.words.Signo.{Signo}
 use Rattle.xs_base.specs.Task.{PrivateTask, root_task}
@@ -20,14 +19,15 @@ use Rattle.xs_model.specs.declared.event.Event.{Event}
 use Rattle.xs_model.specs.declared.event.Event.TheVariants.{Start, Local, Outer, Grow, Kill, End}
 use Rattle.xs_model.specs.declared.stage.Stage.{Stage}
 use Rattle.xs_model.specs.declared.stage.Stage.TheVariants.{Unborn, Ready, Turn, Stopped, Waiting, Ended}
-use Rattle.xs_model.specs.Script.{is_handler, IsValid, IsBuiltCommand, command_at}
+use Rattle.xs_model.specs.Script.{is_handler, IsValid, command_at}
 use Rattle.xs_model.specs.Line.{line_at, next_line, is_frame_cause}
 use Rattle.xs_model.specs.State.{BlockState, Machine, opening_block, turn_cpu, stage_of, stage_at, changed}
 use Rattle.xs_model.specs.Outer.{freed, is_blocked, task_left, outer_own, outer_reach}
 use Rattle.xs_model.specs.Due.{due}
 use Rattle.xs_model.specs.Machine.{started, ran_in, ran_line, own, blocks_after, IsStep, machine, IsLegalPast}
-use Rattle.xs_model.specs.Laws.{IsHandled, AreSignalsHandled, NeverIdle, BuiltHandled}
+use Rattle.xs_model.specs.Laws.{NeverIdle}
 use Rattle.xs_model.proofs.LineNumbers.{AreLinesFound, lines_found}
+use Rattle.xs_model.proofs.NameLaws.{IsHandled, line_named, named_handled}
 use Rattle.xs_model.proofs.MachineShape.{many_blocks}
 use Rattle.xs_model.proofs.Touched.{Touched, Stays, Wakes, Frees, Continues, Signals, Takes, Fills, Bears, Both, alike_at, reach_touches}
 use Rattle.xs_model.proofs.EventTurns.{changed_same, changed_other}
@@ -198,25 +198,13 @@ all_fit script (event ∷ past) tidy legal =
     let next = step_fit m event (many_blocks script past ∙ ap (λ (s : Script). length s.blocks) (sym same)) (subst IsTidy (sym same) tidy) legal.1 before in
     subst (λ (s : Script). AllFit s (blocks_after m.script event m.blocks)) same next
 
--- the line at a place is one of the lines
-order_at : (script : Script) (orders : List Order) → AllByRecursion (λ (order : Order). IsHandled script order.command) orders → (i : ℕ) (order : Order) → slice_get orders i ≡ Some order → IsHandled script order.command
-order_at script [] handled i order at = absurd (cc)
-order_at script (first ∷ orders) handled zero order at = let same : first ≡ order = cc in subst (λ (o : Order). IsHandled script o.command) same handled.0
-order_at script (first ∷ orders) handled (suc i) order at = order_at script orders handled.1 i order at
-
--- so it is in the blocks
-block_at : (script : Script) (blocks : List Block) → AllByRecursion (λ (block : Block). AllByRecursion (λ (order : Order). IsHandled script order.command) block.body) blocks → (t : ℕ) (lines : Block) → slice_get blocks t ≡ Some lines → AllByRecursion (λ (order : Order). IsHandled script order.command) lines.body
-block_at script [] handled t lines at = absurd (cc)
-block_at script (block ∷ blocks) handled zero lines at = let same : block ≡ lines = cc in subst (λ (b : Block). AllByRecursion (λ (order : Order). IsHandled script order.command) b.body) same handled.0
-block_at script (block ∷ blocks) handled (suc t) lines at = block_at script blocks handled.1 t lines at
-
--- a valid script whose signals are handled
-tidy_of : (script : Script) → IsValid script → AreSignalsHandled script → IsTidy script
-tidy_of script valid handled = record {
+-- a valid script
+tidy_of : (script : Script) → IsValid script → IsTidy script
+tidy_of script valid = record {
   found = lines_found script valid;
   inner = handlers_local script valid;
   returns = λ t lines known. (body_at script.layout script.blocks valid.bodies t lines known).returns;
-  handled = λ t i lines order known at. order_at script lines.body (block_at script script.blocks handled t lines known) i order at;
+  handled = λ t i lines order known at. let named = line_named script t i lines order valid known at in named_handled script named.0 order.command named.1;
 }
 
 -- a stage with a processor is a turn
@@ -235,37 +223,13 @@ block_there (Some state) cpu is = (state, refl)
 
 -- the law
 pub never_idle : NeverIdle
-never_idle script past t cpu valid handled legal at =
+never_idle script past t cpu valid legal at =
     let m = machine script past in
     let same : m.script ≡ script = machine_script script past in
     let b = block_there (slice_get m.blocks t) cpu at in
     let s = turn_is (stage_at m.blocks t) cpu at in
     let l = lines_there script.blocks m.blocks t b.0 (many_blocks script past) b.1 in
-    let fit = fit_at (slice_get script.blocks t) (slice_get m.blocks t) l.0 b.0 l.1 b.1 (all_fit script past (tidy_of script valid handled) legal t) in
+    let fit = fit_at (slice_get script.blocks t) (slice_get m.blocks t) l.0 b.0 l.1 b.1 (all_fit script past (tidy_of script valid) legal t) in
     let stage : b.0.stage ≡ Turn cpu s.0 = sym (ap stage_of b.1) ∙ s.1 in
     let within : nat_lt s.0 m.script.quantum ≡ true = ap (λ (x : Script). nat_lt s.0 x.quantum) same ∙ turns_within script past valid.quantum.0 t cpu s.0 s.1 in
     turn_goes m t cpu s.0 b.0 l.0 b.1 (ap (λ (x : Script). slice_get x.blocks t) same ∙ l.1) stage within fit
-
--- ---- scripts of the forms of this version
-
--- its commands send none
-command_handled : (script : Script) (command : Command) → IsBuiltCommand command → IsHandled script command
-command_handled script (commands.Set reg bytes) built = tt
-command_handled script (commands.Get reg) built = tt
-command_handled script (commands.Ksec byte) built = tt
-command_handled script commands.Yield built = tt
-command_handled script other built = absurd built
-
--- nor do its bodies
-body_handled : (script : Script) (orders : List Order) → AllByRecursion (λ (order : Order). IsBuiltCommand order.command) orders → AllByRecursion (λ (order : Order). IsHandled script order.command) orders
-body_handled script [] built = tt
-body_handled script (order ∷ orders) built = (command_handled script order.command built.0, body_handled script orders built.1)
-
--- nor do its blocks
-blocks_handled : (script : Script) (blocks : List Block) → AllByRecursion (λ (block : Block). AllByRecursion (λ (order : Order). IsBuiltCommand order.command) block.body) blocks → AllByRecursion (λ (block : Block). AllByRecursion (λ (order : Order). IsHandled script order.command) block.body) blocks
-blocks_handled script [] built = tt
-blocks_handled script (block ∷ blocks) built = (body_handled script block.body built.0, blocks_handled script blocks built.1)
-
--- so its signals are handled
-pub built_handled : BuiltHandled
-built_handled script built = blocks_handled script script.blocks built.commands

@@ -2,6 +2,7 @@
 mod RowScripts
 mod ProcessorRows
 mod CommandRows
+mod ForkRows
 mod TurnOrder
 mod NoteLaws
 mod KeptLaws
@@ -16,9 +17,10 @@ mod ReadySteps
 mod RiserLaws
 mod DuePlaces
 mod BuiltBlocks
+mod NameLaws
 mod BuiltSteps
 mod UnseenLaws
-mod EngineSteps
+mod StepLaws
 mod TasksStay
 mod TaskWrites
 mod TaskSets
@@ -42,3 +44,7 @@ mod FamilySteps
 mod TurnFits
 mod ShortTurns
 mod FitSteps
+mod BirthPlaces
+mod Bearing
+mod Births
+mod Unscheduled

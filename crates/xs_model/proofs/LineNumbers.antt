@@ -34,13 +34,13 @@ found last (first ∷ orders) (suc i) order rising at =
     rw (ne_eqb first.number order.number (λ (same : first.number ≡ order.number). omega arith)) (found first.number orders i order rising.1 at)
 
 -- a place in the first of two lists
-in_first : {A : Type 0} (xs ys : List A) (i : ℕ) (x : A) → slice_get xs i ≡ Some x → slice_get (xs ++ ys) i ≡ Some x
+pub in_first : {A : Type 0} (xs ys : List A) (i : ℕ) (x : A) → slice_get xs i ≡ Some x → slice_get (xs ++ ys) i ≡ Some x
 in_first [] ys i x at = absurd (cc)
 in_first (y ∷ xs) ys zero x at = at
 in_first (y ∷ xs) ys (suc i) x at = in_first xs ys i x at
 
 -- a place in the second
-in_second : {A : Type 0} (xs ys : List A) (i : ℕ) (x : A) → slice_get ys i ≡ Some x → (j : ℕ) × (slice_get (xs ++ ys) j ≡ Some x)
+pub in_second : {A : Type 0} (xs ys : List A) (i : ℕ) (x : A) → slice_get ys i ≡ Some x → (j : ℕ) × (slice_get (xs ++ ys) j ≡ Some x)
 in_second [] ys i x at = (i, at)
 in_second (y ∷ xs) ys i x at = let rest = in_second xs ys i x at in (suc rest.0, rest.1)
 

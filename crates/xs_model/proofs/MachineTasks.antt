@@ -10,7 +10,8 @@ use Rattle.xs_base.specs.RegisterSet.{set_reply}
 use Rattle.xs_base.specs.Task.{PrivateTask, IsPrivateTask}
 use Rattle.xs_base.proofs.ByteRangeLemmas.{AreBytes, take_are}
 use Rattle.xs_base.proofs.TaskLemmas.{root_is_private}
-use Rattle.xs_base.proofs.ValidLemmas.{parked_is_private, grown_is_private, child_is_private, delivered_is_private}
+use Rattle.xs_base.proofs.ValidLemmas.{parked_is_private, grown_is_private, child_is_private, delivered_is_private, buffer_poked_is_private}
+use Rattle.xs_base.proofs.ReplyLemmas.{reply_length, size_fits, reply_are}
 use Rattle.xs_model.specs.declared.script.Command.{Command}
 use Rattle.xs_model.specs.declared.script.Block.{Block}
 use Rattle.xs_model.specs.declared.script.Script.{Script}
@@ -31,8 +32,8 @@ use Rattle.xs_model.proofs.LegalTurns.{machine_script}
 use Rattle.xs_model.proofs.MachineShape.{many_blocks}
 use Rattle.xs_model.proofs.BuiltBlocks.{all_at, all_changed}
 use Rattle.xs_model.proofs.LocalLines.{due_local, order_valid}
-use Rattle.xs_model.proofs.TaskSets.{reply_are, reply_fits, set_valid}
-use Rattle.xs_model.proofs.TaskLines.{buffer_valid, local_valid, left_valid, killed_valid}
+use Rattle.xs_model.proofs.TaskSets.{set_valid}
+use Rattle.xs_model.proofs.TaskLines.{local_valid, left_valid, killed_valid}
 
 -- the block's private task is valid
 abbrev HasValid : List Row → BlockState → Type 0
@@ -64,7 +65,9 @@ filled_valid : (rows : List Row) (blocks : List BlockState) (set : Set) (child :
 filled_valid rows blocks set child None block at all h = h
 filled_valid rows blocks set child (Some other) block at all h =
     let mine = all_at (HasValid rows) blocks child other all at in
-    buffer_valid rows block.task 0 (set_reply other.task set) h (omega (arith, reply_fits other.task set mine.file.is_file.layout)) (reply_are other.task set mine.file.bytes)
+    let long = reply_length other.task set in
+    let fits = size_fits other.task set mine.file.is_file.layout in
+    buffer_poked_is_private rows block.task 0 (set_reply other.task set) (omega arith) (reply_are rows other.task mine set) h
 
 -- a block that is touched has a valid task
 touched_valid : (rows : List Row) (blocks : List BlockState) (old new : BlockState) → AllByRecursion (HasValid rows) blocks → Touched blocks old new → HasValid rows old → HasValid rows new

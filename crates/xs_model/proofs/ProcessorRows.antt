@@ -33,7 +33,7 @@ unfolding rounds root_task has_row
 moving_ends = refl
 
 -- what three counts are
-abbrev AreCounts : Counts → ℕ → ℕ → ℕ → Type 0
+abbrev pub AreCounts : Counts → ℕ → ℕ → ℕ → Type 0
 AreCounts counts loads saves execs = (counts.loads ≡ loads) × (counts.saves ≡ saves) × (counts.execs ≡ execs)
 
 moving_counts : AreCounts (counts_of moving (rounds moving 2) 0) 2 2 1 × AreCounts (counts_of moving (rounds moving 2) 1) 1 1 0

@@ -112,7 +112,7 @@ pub record SamePlace (old new : PrivateTask) : Type 0 where
   pub large : new.large ≡ old.large
 
 -- the task itself
-place_same : (task : PrivateTask) → SamePlace task task
+pub place_same : (task : PrivateTask) → SamePlace task task
 place_same task = record { handling = refl; place = refl; back = refl; large = refl }
 
 -- such a task has as much work

@@ -4,16 +4,17 @@ use Rattle.std.proofs.lemmas.List.{append-nil}
 use Rattle.std.specs.Prelude.{Option, Some, slice_get}
 use Rattle.std.specs.List.{AllByRecursion}
 use Rattle.xs_model.specs.declared.script.Command.{Command}
+use Rattle.xs_model.specs.declared.script.Command.TheVariants as commands
 use Rattle.xs_model.specs.declared.script.Script.{Script}
-use Rattle.xs_model.specs.declared.event.Event.TheVariants.{Local}
+use Rattle.xs_model.specs.declared.event.Event.TheVariants.{Local, Outer}
 use Rattle.xs_model.specs.declared.stage.Stage.{Stage}
 use Rattle.xs_model.specs.declared.stage.Stage.TheVariants.{Unborn, Ready, Turn, Stopped, Waiting, Ended}
-use Rattle.xs_model.specs.Script.{command_at}
+use Rattle.xs_model.specs.Script.{block_named, command_at}
 use Rattle.xs_model.specs.State.{BlockState, is_plain, is_ready, is_parent, changed}
-use Rattle.xs_model.specs.Outer.{wake, let_go, freed}
-use Rattle.xs_model.specs.Machine.{goes_on, ran_line, own, ended_with, machine}
+use Rattle.xs_model.specs.Outer.{wake, let_go, freed, born, outer_reach, outer_own}
+use Rattle.xs_model.specs.Machine.{goes_on, ran_line, own, ended_with, blocks_after, machine}
 use Rattle.xs_model.specs.Ready.{was_waiting, was_idle, was_in_turn, risen, risers, ready_list}
-use Rattle.xs_model.specs.Laws.{StartTakes, LocalKeeps, LocalRises, EndKeeps}
+use Rattle.xs_model.specs.Laws.{StartTakes, LocalKeeps, LocalRises, ForkRises, EndKeeps}
 use Rattle.xs_model.proofs.LegalTurns.{machine_script}
 
 -- who is ready is none of these
@@ -81,6 +82,56 @@ pub risers_self : (t : ℕ) (f : BlockState → BlockState) (blocks : List Block
 risers_self t f blocks block cpu ran at before now =
     rw (risen_off was_waiting waiting_apart 0 t f blocks block at (rw before refl), risen_off was_idle idle_apart 0 t f blocks block at (rw before refl), risen_on was_in_turn turn_apart 0 t t f blocks block at (rw (now, before) refl) (omega arith)) refl
 
+-- two blocks change: of one that was such, the first that is changed alone rises
+risen_two : (was : Stage → Bool) → Apart was → (i t c n : ℕ) (f g : BlockState → BlockState) (blocks : List BlockState) (block child : BlockState) → (t ≡ c → ⊥) → slice_get blocks t ≡ Some block → slice_get blocks c ≡ Some child
+    → (was block.stage && is_ready (f block).stage) ≡ false → (was child.stage && is_ready (g child).stage) ≡ true → n ≡ i + c → risen was i blocks (changed t f (changed c g blocks)) ≡ n ∷ []
+risen_two was apart i t c n f g [] block child other at there off on sum = absurd (cc)
+risen_two was apart i zero zero n f g (first ∷ blocks) block child other at there off on sum = absurd (other refl)
+risen_two was apart i zero (suc c) n f g (first ∷ blocks) block child other at there off on sum =
+    let same : block ≡ first = cc in
+    let here : (was first.stage && is_ready (f first).stage) ≡ false = subst (λ (b : BlockState). (was b.stage && is_ready (f b).stage) ≡ false) same off in
+    rw here (risen_on was apart (i + 1) c n g blocks child there on (omega arith))
+risen_two was apart i (suc t) zero n f g (first ∷ blocks) block child other at there off on sum =
+    let same : child ≡ first = cc in
+    let here : (was first.stage && is_ready (g first).stage) ≡ true = subst (λ (b : BlockState). (was b.stage && is_ready (g b).stage) ≡ true) same on in
+    let number : i ≡ n = omega arith in
+    rw (here, number) (ap (λ (list : List ℕ). n ∷ list) (risen_off was apart (n + 1) t f blocks block at off))
+risen_two was apart i (suc t) (suc c) n f g (first ∷ blocks) block child other at there off on sum =
+    rw (apart first.stage) (risen_two was apart (i + 1) t c n f g blocks block child (λ (same : t ≡ c). other (ap suc same)) at there off on (omega arith))
+
+-- two change, and neither rises
+risen_none : (was : Stage → Bool) → Apart was → (i t c : ℕ) (f g : BlockState → BlockState) (blocks : List BlockState) (block child : BlockState) → (t ≡ c → ⊥) → slice_get blocks t ≡ Some block → slice_get blocks c ≡ Some child
+    → (was block.stage && is_ready (f block).stage) ≡ false → (was child.stage && is_ready (g child).stage) ≡ false → risen was i blocks (changed t f (changed c g blocks)) ≡ []
+risen_none was apart i t c f g [] block child other at there off on = absurd (cc)
+risen_none was apart i zero zero f g (first ∷ blocks) block child other at there off on = absurd (other refl)
+risen_none was apart i zero (suc c) f g (first ∷ blocks) block child other at there off on =
+    let same : block ≡ first = cc in
+    let here : (was first.stage && is_ready (f first).stage) ≡ false = subst (λ (b : BlockState). (was b.stage && is_ready (f b).stage) ≡ false) same off in
+    rw here (risen_off was apart (i + 1) c g blocks child there on)
+risen_none was apart i (suc t) zero f g (first ∷ blocks) block child other at there off on =
+    let same : child ≡ first = cc in
+    let here : (was first.stage && is_ready (g first).stage) ≡ false = subst (λ (b : BlockState). (was b.stage && is_ready (g b).stage) ≡ false) same on in
+    rw here (risen_off was apart (i + 1) t f blocks block at off)
+risen_none was apart i (suc t) (suc c) f g (first ∷ blocks) block child other at there off on =
+    rw (apart first.stage) (risen_none was apart (i + 1) t c f g blocks block child (λ (same : t ≡ c). other (ap suc same)) at there off on)
+
+-- two change, and the one that is changed last rises
+risen_last : (was : Stage → Bool) → Apart was → (i t c n : ℕ) (f g : BlockState → BlockState) (blocks : List BlockState) (block child : BlockState) → (t ≡ c → ⊥) → slice_get blocks t ≡ Some block → slice_get blocks c ≡ Some child
+    → (was block.stage && is_ready (f block).stage) ≡ true → (was child.stage && is_ready (g child).stage) ≡ false → n ≡ i + t → risen was i blocks (changed t f (changed c g blocks)) ≡ n ∷ []
+risen_last was apart i t c n f g [] block child other at there on off sum = absurd (cc)
+risen_last was apart i zero zero n f g (first ∷ blocks) block child other at there on off sum = absurd (other refl)
+risen_last was apart i zero (suc c) n f g (first ∷ blocks) block child other at there on off sum =
+    let same : block ≡ first = cc in
+    let here : (was first.stage && is_ready (f first).stage) ≡ true = subst (λ (b : BlockState). (was b.stage && is_ready (f b).stage) ≡ true) same on in
+    let number : i ≡ n = omega arith in
+    rw (here, number) (ap (λ (list : List ℕ). n ∷ list) (risen_off was apart (n + 1) c g blocks child there off))
+risen_last was apart i (suc t) zero n f g (first ∷ blocks) block child other at there on off sum =
+    let same : child ≡ first = cc in
+    let here : (was first.stage && is_ready (g first).stage) ≡ false = subst (λ (b : BlockState). (was b.stage && is_ready (g b).stage) ≡ false) same off in
+    rw here (risen_on was apart (i + 1) t n f blocks block at on (omega arith))
+risen_last was apart i (suc t) (suc c) n f g (first ∷ blocks) block child other at there on off sum =
+    rw (apart first.stage) (risen_last was apart (i + 1) t c n f g blocks block child (λ (same : t ≡ c). other (ap suc same)) at there on off (omega arith))
+
 -- ---- the ready list after an event
 
 -- a Start takes the first
@@ -118,11 +169,32 @@ local_rises script past t line cpu ran reply block lines command turn at goes =
     ap (λ (c : Option Command). (ran_line m.script c block).stage) found ∙ line_ends m.script command block cpu ran turn.stage more in
     ap (λ (list : List ℕ). ready_list script past ++ list) (risers_self t (own m.script (Local t line reply)) m.blocks block cpu ran turn.state turn.stage ends)
 
+-- a fork makes its child ready, and then its own block
+pub fork_rises : ForkRises
+fork_rises script past t line cpu ran reply name block state lines turn at birth =
+    let m = machine script past in
+    let c = block_named script name in
+    let same = machine_script script past in
+    let g = born t (slice_get m.blocks t) in
+    let f = outer_own script (Some (commands.Fork name)) reply in
+    let before = turn.stage in
+    let unborn = birth.unborn in
+    let here = turn.state in
+    let child_ready : (g state).stage ≡ Ready = rw (here, unborn) refl in
+    let waits = risen_none was_waiting waiting_apart 0 t c f g m.blocks block state birth.apart here birth.here (rw before refl) (rw unborn refl) in
+    let idles = risen_two was_idle idle_apart 0 t c c f g m.blocks block state birth.apart here birth.here (rw before refl) (rw (child_ready, unborn) refl) (omega arith) in
+    let turns = risen_last was_in_turn turn_apart 0 t c t f g m.blocks block state birth.apart here birth.here (rw before refl) (rw unborn refl) (omega arith) in
+    let all : risers m.blocks (changed t f (changed c g m.blocks)) ≡ c ∷ t ∷ [] = rw (waits, idles, turns) refl in
+    let by_script : risers m.blocks (blocks_after m.script (Outer t line reply) m.blocks) ≡ risers m.blocks (changed t f (changed c g m.blocks)) =
+    ap (λ (s : Script). risers m.blocks (changed t (outer_own s (command_at s t line) reply) (outer_reach s t (command_at s t line) reply m.blocks))) same
+    ∙ ap (λ (command : Option Command). risers m.blocks (changed t (outer_own script command reply) (outer_reach script t command reply m.blocks))) at in
+    ap (λ (list : List ℕ). ready_list script past ++ list) (by_script ∙ all)
+
 -- ---- an end where nobody waits or is stopped
 
 -- a plain stage stays
 pub plain_stays : (may : Bool) (t : ℕ) (s : Stage) → is_plain s ≡ true → let_go may (wake t s) ≡ s
-plain_stays may t Unborn plain = absurd (cc)
+plain_stays may t Unborn plain = refl
 plain_stays may t Ready plain = refl
 plain_stays may t (Turn cpu ran) plain = refl
 plain_stays may t Stopped plain = absurd (cc)

@@ -1,12 +1,10 @@
 -- A local line of a valid script leaves a valid private task, and so does all else that becomes of a task.
-use Rattle.std.proofs.Common.{◌≡◌, ℕ, ◌+◌, ◌<◌, ◌≤◌, ◌==◌, Bool, true, false, not, ◌&&◌, List, [], length, Option, Some, None, if◌then◌else◌, refl, sym, ap, subst, ◌∙◌, arith}
+use Rattle.std.proofs.Common.{◌≡◌, ℕ, ◌+◌, ◌≤◌, ◌==◌, Bool, true, false, not, ◌&&◌, List, [], length, Option, Some, None, if◌then◌else◌, refl, sym, ap, subst, ◌∙◌}
 use Rattle.std.proofs.lemmas.Bool.{and_parts, eq-eqb, leb-true, true≢false}
 use Rattle.std.specs.Prelude.{nat_le}
-use Rattle.std.specs.List.{AllByRecursion}
 use Rattle.xs_base.specs.declared.component.Row.{Row}
 use Rattle.xs_base.specs.declared.component.Place.{Place}
 use Rattle.xs_base.specs.declared.words.Errno.{Errno}
-use Rattle.xs_base.specs.Bytes.{splice}
 use Rattle.xs_base.specs.Component.{initial_part, tiledata_number}
 use Rattle.xs_base.specs.File.{File, part, write_place}
 use Rattle.xs_base.specs.Frame.{refused_file}
@@ -15,17 +13,14 @@ use Rattle.xs_base.specs.Register.{IsRegister, place_of}
 use Rattle.xs_base.specs.Task.{PrivateTask, IsFileOf, IsPrivateTask, frame_length, buffer_length}
 use Rattle.xs_base.specs.Tile.{feature_error, is_of_tiles, raises_nm}
 use Rattle.xs_base.proofs.AcceptedLemmas.{return_is_private}
-use Rattle.xs_base.proofs.ByteLemmas.{length_splice}
-use Rattle.xs_base.proofs.ByteRangeLemmas.{AreBytes, splice_are}
 use Rattle.xs_base.proofs.Registers.{named_place}
 use Rattle.xs_base.proofs.TaskLemmas.{start_is_valid, start_tiles}
-use Rattle.xs_base.proofs.ValidLemmas.{permitted_is_private}
+use Rattle.xs_base.proofs.ValidLemmas.{permitted_is_private, released_is_private, frame_poked_is_private, buffer_poked_is_private}
 use Rattle.xs_model.specs.declared.script.Command.{Command}
 use Rattle.xs_model.specs.declared.script.Command.TheVariants as commands
 use Rattle.xs_model.specs.declared.event.Reply.{Reply}
 use Rattle.xs_model.specs.declared.event.Why.{Why}
 use Rattle.xs_model.specs.Script.{IsCommand, fits_memory}
-use Rattle.xs_base.proofs.ValidLemmas.{released_is_private}
 use Rattle.xs_model.specs.Line.{next_line, asked, local_after, traps, is_frame_cause, killed}
 use Rattle.xs_model.specs.Outer.{is_blocked, task_left}
 use Rattle.xs_model.proofs.TaskWrites.{byte_at_place, written, write_leaves}
@@ -39,35 +34,6 @@ next_valid rows task h = record { file = h.file; tiles_are = h.tiles_are; frame_
 -- the task with another file
 file_valid : (rows : List Row) (task : PrivateTask) (file : File) → IsPrivateTask rows task → IsFileOf rows file → (task.large ≡ false → part file tiledata_number ≡ initial_part tiledata_number) → IsPrivateTask rows (record task { file = file })
 file_valid rows task file h good tiles = record { file = good; tiles_are = tiles; frame_size = h.frame_size; frame_bytes = h.frame_bytes; buffer_size = h.buffer_size; buffer_bytes = h.buffer_bytes }
-
--- bytes spliced into a memory fit it
-splice_fits : (size at : ℕ) (bytes old : List ℕ) → fits_memory size at (length bytes) ≡ true → length old ≡ size → length (splice at bytes old) ≡ size
-splice_fits size at bytes old fits len =
-    let two = and_parts (nat_le 1 (length bytes) && nat_le (length bytes) 64) (nat_le (at + length bytes) size) fits in
-    let below : at + length bytes ≤ size = leb-true (at + length bytes) size two.1 in
-    length_splice at bytes old (omega arith) ∙ len
-
--- the task with other bytes of the frame
-frame_valid : (rows : List Row) (task : PrivateTask) (at : ℕ) (bytes : List ℕ) → IsPrivateTask rows task → fits_memory frame_length at (length bytes) ≡ true → AllByRecursion (λ byte. byte < 256) bytes → IsPrivateTask rows (record task { frame = splice at bytes task.frame })
-frame_valid rows task at bytes h fits all = record {
-  file = h.file;
-  tiles_are = h.tiles_are;
-  frame_size = splice_fits frame_length at bytes task.frame fits h.frame_size;
-  frame_bytes = splice_are at bytes task.frame (λ k. byte_at_place bytes k all) h.frame_bytes;
-  buffer_size = h.buffer_size;
-  buffer_bytes = h.buffer_bytes;
-}
-
--- the task with other bytes of the buffer
-pub buffer_valid : (rows : List Row) (task : PrivateTask) (at : ℕ) (bytes : List ℕ) → IsPrivateTask rows task → at + length bytes ≤ buffer_length → AreBytes bytes → IsPrivateTask rows (record task { buffer = splice at bytes task.buffer })
-buffer_valid rows task at bytes h fits small = record {
-  file = h.file;
-  tiles_are = h.tiles_are;
-  frame_size = h.frame_size;
-  frame_bytes = h.frame_bytes;
-  buffer_size = length_splice at bytes task.buffer (omega (arith, h.buffer_size)) ∙ h.buffer_size;
-  buffer_bytes = splice_are at bytes task.buffer small h.buffer_bytes;
-}
 
 -- a memory's bound
 memory_bound : (size at len : ℕ) → fits_memory size at len ≡ true → at + len ≤ size
@@ -104,8 +70,6 @@ set_valid rows task reg bytes h fits quiet =
     (λ small. write_leaves task.file place bytes (set_apart rows task reg place h fits.1 quiet small) ∙ h.tiles_are small) in
     subst (λ (p : Place). IsPrivateTask rows (record task { file = write_place task.file p bytes })) (sym here) valid
 
--- ---- a release of the tiles
-
 -- ---- a local line
 
 -- a request for a permission
@@ -123,9 +87,10 @@ pub local_valid : (rows : List Row) (task : PrivateTask) (command : Command) →
 local_valid rows task (commands.Set reg bytes) table h fits quiet = next_valid rows _ (set_valid rows task reg bytes h fits quiet)
 local_valid rows task commands.Tilerelease table h fits quiet = next_valid rows _ (released_is_private rows task h)
 local_valid rows task (commands.Perm feature) table h fits quiet = next_valid rows _ (asked_valid rows (feature_error task.file.rows feature) task h)
-local_valid rows task (commands.Poke at bytes) table h fits quiet = next_valid rows _ (frame_valid rows task at bytes h fits.0 fits.1)
+local_valid rows task (commands.Poke at bytes) table h fits quiet =
+    next_valid rows _ (frame_poked_is_private rows task at bytes (memory_bound frame_length at (length bytes) fits.0) (λ k. byte_at_place bytes k fits.1) h)
 local_valid rows task (commands.Bpoke at bytes) table h fits quiet =
-    next_valid rows _ (buffer_valid rows task at bytes h (memory_bound buffer_length at (length bytes) fits.0) (λ k. byte_at_place bytes k fits.1))
+    next_valid rows _ (buffer_poked_is_private rows task at bytes (memory_bound buffer_length at (length bytes) fits.0) (λ k. byte_at_place bytes k fits.1) h)
 local_valid rows task commands.Sigreturn table h fits quiet =
     either_valid rows task.handling _ _ (return_is_private rows task table h) (next_valid rows task h)
 local_valid rows task other table h fits quiet = next_valid rows task h

@@ -1,80 +1,30 @@
--- A register set that a tracer writes leaves a valid task, and one that it reads is of bytes.
-use Rattle.std.proofs.Common.{◌≡◌, ℕ, ◌-◌, ◌<◌, ◌≤◌, ◌^◌, ◌==◌, Bool, true, false, not, ◌&&◌, List, [], ◌∷◌, length, get_or, Option, Some, None, if◌then◌else◌, bit_and, refl, ap, subst, ◌∙◌, arith, lit<, lit≤}
+-- A register set that a tracer writes leaves a valid task.
+use Rattle.std.proofs.Common.{◌≡◌, ℕ, ◌<◌, ◌^◌, ◌==◌, Bool, true, false, not, ◌&&◌, List, length, Option, Some, None, if◌then◌else◌, refl, ap, subst, ◌∙◌, arith, lit<}
 use Rattle.std.proofs.lemmas.Bool.{true≢false, ltb-false, and_parts}
-use Rattle.std.proofs.lemmas.List.FromFn.{length-map-range_with_len}
-use Rattle.std.specs.Prelude.{nat_lt}
-use Rattle.std.specs.Int.{to_le_bytes, w32, w64}
 use Rattle.xs_base.specs.declared.component.Row.{Row}
 use Rattle.xs_base.specs.declared.header.HeaderError.{HeaderError}
 use Rattle.xs_base.specs.declared.header.HeaderError.TheVariants as errors
 use Rattle.xs_base.specs.declared.header.Origin.TheVariants.{Regset}
 use Rattle.xs_base.specs.declared.words.Set.{Set}
 use Rattle.xs_base.specs.declared.words.Set.TheVariants.{Xstate, Fx}
-use Rattle.xs_base.specs.Bytes.{is_within}
 use Rattle.xs_base.specs.Component.{component_count, initial_part, x87_number, sse_number, tiledata_number}
-use Rattle.xs_base.specs.File.{File, part, with_part, initial_file, is_own}
-use Rattle.xs_base.specs.Frame.{legacy_features}
+use Rattle.xs_base.specs.File.{File, part, with_part, initial_file}
 use Rattle.xs_base.specs.Header.{mxcsr}
 use Rattle.xs_base.specs.HeaderCheck.{is_wrong_mxcsr, parts_in}
 use Rattle.xs_base.specs.Image.{taken_part, image_file}
 use Rattle.xs_base.specs.Layout.{IsLayout, has_row, features, default_features, lacks_legacy, table_error}
-use Rattle.xs_base.specs.RegisterSet.{set_size, set_byte, set_reply, set_error, after_set, fx_file, wrong_count, set_by, set_result}
+use Rattle.xs_base.specs.RegisterSet.{set_size, set_error, after_set, fx_file, wrong_count, set_by, set_result}
 use Rattle.xs_base.specs.Sets.{has}
-use Rattle.xs_base.specs.Standard.{component_byte, saved_byte, control_bytes, standard_byte}
-use Rattle.xs_base.specs.Task.{PrivateTask, IsFileOf, IsPrivateTask, user_features, buffer_length}
+use Rattle.xs_base.specs.Task.{PrivateTask, IsFileOf, IsPrivateTask, user_features}
 use Rattle.xs_base.proofs.AcceptedLemmas.{accepted_control, accepted_bits}
-use Rattle.xs_base.proofs.ByteRangeLemmas.{AreBytes, word_are, long_are, append_are, map_are, either_is}
+use Rattle.xs_base.proofs.ByteRangeLemmas.{AreBytes}
 use Rattle.xs_base.proofs.FeatureLemmas.{has_default}
 use Rattle.xs_base.proofs.FileLemmas.{part_is_file, part_other, with_control}
 use Rattle.xs_base.proofs.ImageLemmas.{length_taken, taken_clean}
 use Rattle.xs_base.proofs.LayoutLemmas.{layout_parts, else_none}
-use Rattle.xs_base.proofs.SizeLemmas.{end_most}
 use Rattle.xs_base.proofs.TaskLemmas.{with_part_bytes}
 use Rattle.xs_base.proofs.ValidLemmas.{taken_are, image_is_valid, image_tiles}
 use Rattle.xs_model.specs.Outer.{set_task}
-
--- ---- reading
-
--- a byte of a row's component, or the one before it
-component_is : (byte : ℕ → ℕ → ℕ) (place : Row → ℕ) (mask i : ℕ) (rows : List Row) (d : ℕ) → ((c k : ℕ) → byte c k < 256) → d < 256 → component_byte byte place mask i rows d < 256
-unfolding component_byte
-component_is byte place mask i [] d each small = small
-component_is byte place mask i (r ∷ rows) d each small = component_is byte place mask i rows _ each (either_is _ (byte r.comp.0 (i - place r)) d (each r.comp.0 (i - place r)) small)
-
--- MXCSR and its mask are bytes
-control_are : (value : ℕ) → AreBytes (control_bytes value)
-unfolding control_bytes
-control_are value = append_are (to_le_bytes w32 value) (to_le_bytes w32 0xFFFF) (word_are value) (word_are 0xFFFF)
-
--- a standard byte over none is one
-standard_is : (file : File) (mask i : ℕ) → ((c k : ℕ) → get_or (part file c) k 0 < 256) → standard_byte file mask [] i < 256
-standard_is file mask i bytes =
-    either_is _ (get_or (control_bytes file.mxcsr) (i - 24) 0) _ (control_are file.mxcsr (i - 24))
-    (component_is (saved_byte file) (λ r. r.offset) mask i file.rows 0 (λ c k. either_is (is_own c k) (get_or (part file c) k 0) 0 (bytes c k) (lit< tt)) (lit< tt))
-
--- a byte of a set is one
-set_byte_is : (task : PrivateTask) (set : Set) (i : ℕ) → ((c k : ℕ) → get_or (part task.file c) k 0 < 256) → set_byte task set i < 256
-set_byte_is task Xstate i bytes =
-    either_is (is_within 512 8 i) (get_or (to_le_bytes w64 (bit_and task.marks (user_features task))) (i - 512) 0) _ (long_are (bit_and task.marks (user_features task)) (i - 512))
-    (either_is (is_within 464 8 i) (get_or (to_le_bytes w64 (features task.file.rows)) (i - 464) 0) _ (long_are (features task.file.rows) (i - 464)) (standard_is task.file (features task.file.rows) i bytes))
-set_byte_is task Fx i bytes = either_is (nat_lt i 416) (standard_byte task.file legacy_features [] i) 0 (standard_is task.file legacy_features i bytes) (lit< tt)
-
--- a set has at most as many bytes as the buffer
-set_fits : (task : PrivateTask) (set : Set) → IsLayout task.file.rows → set_size task set ≤ buffer_length
-set_fits task Xstate table = end_most (λ c. true) task.file.rows table
-set_fits task Fx table = lit≤ tt
-
--- the bytes of a set
-pub reply_are : (task : PrivateTask) (set : Set) → ((c k : ℕ) → get_or (part task.file c) k 0 < 256) → AreBytes (set_reply task set)
-unfolding set_reply
-reply_are task set bytes = map_are (set_byte task set) (set_size task set) (λ k. set_byte_is task set k bytes)
-
--- their number
-pub reply_fits : (task : PrivateTask) (set : Set) → IsLayout task.file.rows → length (set_reply task set) ≤ buffer_length
-unfolding set_reply
-reply_fits task set table = omega (arith, length-map-range_with_len (set_byte task set) 0 (set_size task set), set_fits task set table)
-
--- ---- writing
 
 -- a machine has x87 and SSE
 has_legacy : (rows : List Row) → IsLayout rows → (has_row rows x87_number ≡ true) × (has_row rows sse_number ≡ true)

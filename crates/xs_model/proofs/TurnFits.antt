@@ -28,7 +28,7 @@ use Rattle.xs_model.specs.State.{BlockState, Machine, changed}
 use Rattle.xs_model.specs.Outer.{is_held, woken, continued, freed, bear, born, signalled, buffer_of, registers_set, buffer_filled, outer_reply, reach_of}
 use Rattle.xs_model.specs.Due.{first_signal, signal_of, trap_event, local_event, place_event, due}
 use Rattle.xs_model.specs.Machine.{started, goes_on, ran_in}
-use Rattle.xs_model.specs.Laws.{IsHandled}
+use Rattle.xs_model.proofs.NameLaws.{IsHandled}
 use Rattle.xs_model.proofs.EventTurns.{changed_same, changed_other}
 use Rattle.xs_model.proofs.ReachCosts.{SamePlace, set_keeps_place, filled_place}
 
@@ -115,7 +115,7 @@ returned_off task whole true is = return_off task (return_of task) whole
 returned_off task whole false is = is
 
 -- a request for leave keeps the place
-asked_same : (error : Option Errno) (task : PrivateTask) → SamePlace task (asked error task)
+pub asked_same : (error : Option Errno) (task : PrivateTask) → SamePlace task (asked error task)
 asked_same None task = record { handling = refl; place = refl; back = refl; large = refl }
 asked_same (Some error) task = record { handling = refl; place = refl; back = refl; large = refl }
 

@@ -1,25 +1,27 @@
 -- The laws of the machine, as statements.
-use Rattle.std.specs.Prelude.{◌≡◌, ℕ, ◌<◌, ◌≤◌, Bool, true, false, ◌&&◌, ◌==◌, List, [], ◌∷◌, ◌++◌, length, slice_get, Option, Some, None}
+use Rattle.std.specs.Prelude.{◌≡◌, ℕ, ◌<◌, ◌≤◌, true, false, ◌&&◌, ◌==◌, List, [], ◌∷◌, ◌++◌, length, slice_get, Option, Some, None}
 use Rattle.std.specs.List.{AllByRecursion}
 use Rattle.xs_base.specs.declared.words.How.{How}
 use Rattle.xs_base.specs.declared.words.Signo.{Signo}
-use Rattle.xs_base.specs.Task.{PrivateTask}
+use Rattle.xs_base.specs.Task.{PrivateTask, parked, child_of}
 use Rattle.xs_model.specs.declared.script.Command.{Command}
 use Rattle.xs_model.specs.declared.script.Command.TheVariants as commands
 use Rattle.xs_model.specs.declared.script.Order.{Order}
 use Rattle.xs_model.specs.declared.script.Block.{Block}
 use Rattle.xs_model.specs.declared.script.Script.{Script}
 use Rattle.xs_model.specs.declared.event.Reply.{Reply}
+use Rattle.xs_model.specs.declared.event.Reply.TheVariants as replies
 use Rattle.xs_model.specs.declared.event.Event.{Event}
 use Rattle.xs_model.specs.declared.event.Event.TheVariants.{Start, Local, Outer, Grow, Kill, End}
-use Rattle.xs_model.specs.Script.{IsValid, IsBuilt, IsBuiltCommand, is_outer, block_named, command_at, is_user}
-use Rattle.xs_model.specs.Line.{line_at, local_reply, traps, refusal}
+use Rattle.xs_model.specs.Script.{IsValid, IsBuilt, IsBuiltCommand, is_outer, is_fork, block_named, command_at, is_user}
+use Rattle.xs_model.specs.Line.{line_at, next_line, local_reply, traps, refusal}
 use Rattle.xs_model.specs.Note.{Sets, task_of, act_of, notes_of, is_at, cpu_of, mark, last}
 use Rattle.xs_model.specs.Held.{sets_block, held}
 use Rattle.xs_model.specs.declared.stage.Stage.TheVariants.{Unborn, Ready, Turn}
 use Rattle.xs_model.specs.State.{BlockState, is_plain, is_ready, is_active, stage_at, turn_of, has_turn, none_lives}
 use Rattle.xs_model.specs.Due.{how_of, signal_of, due}
 use Rattle.xs_model.specs.Machine.{started, goes_on, ran_line, ended_with, may_act, IsStep, machine, IsLegalPast, IsMachineOf}
+use Rattle.xs_model.specs.History.{IsWhole}
 use Rattle.xs_model.specs.Ready.{one_if, occurs, ready_list}
 use Rattle.xs_model.specs.Replay.{IsReplay}
 use Rattle.xs_model.specs.Counts.{is_event_on, counts_of, remains}
@@ -71,6 +73,54 @@ pub record IsInTurn (script : Script) (past : List Event) (t cpu ran : ℕ) (blo
   pub lines_are : slice_get script.blocks t ≡ Some lines
   pub stage : block.stage ≡ Turn cpu ran
 
+-- Block t is in a turn, at a line that forks the child of this name.
+pub record IsAtFork (script : Script) (past : List Event) (t : ℕ) (name : List ℕ) (block : BlockState) (order : Order) : Type 0 where
+  pub cpu : ℕ
+  pub ran : ℕ
+  pub lines : Block
+  pub turn : IsInTurn script past t cpu ran block lines
+  pub at : line_at lines block.task ≡ Some order
+  pub is : order.command ≡ commands.Fork name
+
+-- Block t may bear the child: both are user tasks, and the child isn't born.
+pub record IsBirth (script : Script) (past : List Event) (t child : ℕ) (state : BlockState) : Type 0 where
+  pub here : slice_get (machine script past).blocks child ≡ Some state
+  pub unborn : state.stage ≡ Unborn
+  pub apart : t ≡ child → ⊥
+  pub parent_user : is_user script t ≡ true
+  pub child_user : is_user script child ≡ true
+
+-- A fork bears: its child isn't born yet, since no other line forks it.
+abbrev pub ForkBears : Type 0
+ForkBears = (script : Script) (past : List Event) (t : ℕ) (name : List ℕ) (block : BlockState) (order : Order) → IsValid script → IsLegalPast script past
+    → IsAtFork script past t name block order → (state : BlockState) × IsBirth script past t (block_named script name) state
+
+-- The event is a fork of block v.
+pub record IsForkOf (script : Script) (event : Event) (v : ℕ) : Type 0 where
+  pub parent : ℕ
+  pub line : ℕ
+  pub reply : Reply
+  pub name : List ℕ
+  pub is : event ≡ Outer parent line reply
+  pub command : command_at script parent line ≡ Some (commands.Fork name)
+  pub child : block_named script name ≡ v
+
+-- A block is born by a fork alone.
+abbrev pub BornByFork : Type 0
+BornByFork = (script : Script) (past : List Event) (event : Event) (v : ℕ) → IsValid script → IsLegalPast script (event ∷ past)
+    → stage_at (machine script past).blocks v ≡ Unborn
+    → (stage_at (machine script (event ∷ past)).blocks v ≡ Unborn → ⊥) → IsForkOf script event v
+
+-- The block had no turn: it has no last processor, and is no processor's mark.
+pub record HadNoTurn (script : Script) (past : List Event) (t : ℕ) : Type 0 where
+  pub cpu : cpu_of (notes_of script past) t ≡ None
+  pub last : last script past t ≡ None
+  pub unmarked : (cpu : ℕ) → is_at (mark script past cpu) t ≡ false
+
+-- A block that isn't born had no turn.
+abbrev pub UnbornUnseen : Type 0
+UnbornUnseen = (script : Script) (past : List Event) (t : ℕ) → IsValid script → IsLegalPast script past → stage_at (machine script past).blocks t ≡ Unborn → HadNoTurn script past t
+
 -- A Start of the first ready block leaves the rest of the list.
 abbrev pub StartTakes : Type 0
 StartTakes = (script : Script) (past : List Event) (t cpu : ℕ) (how : How) (signal : Option Signo) (list : List ℕ) → ready_list script past ≡ t ∷ list
@@ -87,6 +137,12 @@ abbrev pub LocalRises : Type 0
 LocalRises = (script : Script) (past : List Event) (t line cpu ran : ℕ) (reply : Reply) (block : BlockState) (lines : Block) (command : Command)
     → IsInTurn script past t cpu ran block lines → command_at script t line ≡ Some command → goes_on script command ran ≡ false
     → ready_list script (Local t line reply ∷ past) ≡ ready_list script past ++ t ∷ []
+
+-- A fork makes its child ready, and then its own block.
+abbrev pub ForkRises : Type 0
+ForkRises = (script : Script) (past : List Event) (t line cpu ran : ℕ) (reply : Reply) (name : List ℕ) (block state : BlockState) (lines : Block)
+    → IsInTurn script past t cpu ran block lines → command_at script t line ≡ Some (commands.Fork name) → IsBirth script past t (block_named script name) state
+    → ready_list script (Outer t line reply ∷ past) ≡ ready_list script past ++ block_named script name ∷ t ∷ []
 
 -- Where no block waits or is stopped, an end makes nobody ready.
 abbrev pub EndKeeps : Type 0
@@ -152,6 +208,12 @@ LocalIsStep = (script : Script) (past : List Event) (t cpu ran : ℕ) (block : B
     → line_at lines block.task ≡ Some order → is_outer order.command ≡ false → traps block.task order.command ≡ false → refusal block.task order.command ≡ None
     → IsStep (machine script past) (Local t order.number (local_reply block.task order.command))
 
+-- The event of a fork is a step, however many Local events the turn has made.
+abbrev pub ForkIsStep : Type 0
+ForkIsStep = (script : Script) (past : List Event) (t : ℕ) (name : List ℕ) (block : BlockState) (order : Order)
+    → may_act (machine script past).committing t ≡ true → IsAtFork script past t name block order
+    → IsStep (machine script past) (Outer t order.number replies.Done)
+
 -- The end of a body within the quantum is a step.
 abbrev pub EndIsStep : Type 0
 EndIsStep = (script : Script) (past : List Event) (t cpu ran : ℕ) (block : BlockState) (lines : Block)
@@ -165,7 +227,7 @@ FreeTells = (blocks : List BlockState) (cpu t : ℕ) → has_turn blocks cpu ≡
 abbrev pub FreeFound : Type 0
 FreeFound = (blocks : List BlockState) (cpu : ℕ) → ((t : ℕ) → turn_of blocks t ≡ Some cpu → ⊥) → has_turn blocks cpu ≡ false
 
--- What a Start, a local line and an end make of their own block.
+-- What a Start, a local line, a fork and an end make of their own block.
 abbrev pub StartedBlock : Type 0
 StartedBlock = (script : Script) (past : List Event) (t cpu : ℕ) (how : How) (signal : Option Signo) (block : BlockState)
     → slice_get (machine script past).blocks t ≡ Some block
@@ -175,11 +237,23 @@ abbrev pub RanBlock : Type 0
 RanBlock = (script : Script) (past : List Event) (t line : ℕ) (reply : Reply) (block : BlockState) → slice_get (machine script past).blocks t ≡ Some block
     → slice_get (machine script (Local t line reply ∷ past)).blocks t ≡ Some (ran_line script (command_at script t line) block)
 
+abbrev pub ForkedBlock : Type 0
+ForkedBlock = (script : Script) (past : List Event) (t line : ℕ) (reply : Reply) (name : List ℕ) (block : BlockState) → command_at script t line ≡ Some (commands.Fork name)
+    → (t ≡ block_named script name → ⊥) → slice_get (machine script past).blocks t ≡ Some block
+    → slice_get (machine script (Outer t line reply ∷ past)).blocks t ≡ Some (record block { stage = Ready; task = parked (next_line block.task) })
+
+-- What a fork makes of the child: it is ready, with its parent's registers as they are at the fork.
+abbrev pub BornBlock : Type 0
+BornBlock = (script : Script) (past : List Event) (t line : ℕ) (reply : Reply) (name : List ℕ) (block state : BlockState) → command_at script t line ≡ Some (commands.Fork name)
+    → slice_get (machine script past).blocks t ≡ Some block → IsBirth script past t (block_named script name) state
+    → slice_get (machine script (Outer t line reply ∷ past)).blocks (block_named script name) ≡ Some (record { stage = Ready; task = child_of block.task; parent = Some t; pending = [] })
+
 abbrev pub EndedBlock : Type 0
 EndedBlock = (script : Script) (past : List Event) (t : ℕ) (block : BlockState) → slice_get (machine script past).blocks t ≡ Some block
     → slice_get (machine script (End t ∷ past)).blocks t ≡ Some (ended_with block.task block)
 
--- A Start and a local line leave the other blocks, and so does an end where no block waits or is stopped.
+-- A Start and a local line leave the other blocks, and so does an end where no block waits or is stopped. A fork leaves
+-- those that aren't its child.
 abbrev pub StartOthers : Type 0
 StartOthers = (script : Script) (past : List Event) (t cpu other : ℕ) (how : How) (signal : Option Signo) → (t ≡ other → ⊥)
     → slice_get (machine script (Start t cpu how signal ∷ past)).blocks other ≡ slice_get (machine script past).blocks other
@@ -187,6 +261,11 @@ StartOthers = (script : Script) (past : List Event) (t cpu other : ℕ) (how : H
 abbrev pub LocalOthers : Type 0
 LocalOthers = (script : Script) (past : List Event) (t line other : ℕ) (reply : Reply) → (t ≡ other → ⊥)
     → slice_get (machine script (Local t line reply ∷ past)).blocks other ≡ slice_get (machine script past).blocks other
+
+abbrev pub ForkOthers : Type 0
+ForkOthers = (script : Script) (past : List Event) (t line other : ℕ) (reply : Reply) (name : List ℕ) → command_at script t line ≡ Some (commands.Fork name)
+    → (t ≡ other → ⊥) → (block_named script name ≡ other → ⊥)
+    → slice_get (machine script (Outer t line reply ∷ past)).blocks other ≡ slice_get (machine script past).blocks other
 
 abbrev pub EndOthers : Type 0
 EndOthers = (script : Script) (past : List Event) (t other : ℕ) → AllByRecursion (λ (block : BlockState). is_plain block.stage ≡ true) (machine script past).blocks
@@ -206,22 +285,21 @@ TaskStays = (script : Script) (past : List Event) (event : Event) (t : ℕ) (blo
 
 -- ---- scripts of the forms of this version
 
--- A block that is ready, in a turn, or has ended, with no handler that runs, no pending signal, and no room for TILEDATA.
+-- A block that isn't stopped and doesn't wait, with no handler that runs, no pending signal, and no room for TILEDATA.
 pub record IsPlainBlock (block : BlockState) : Type 0 where
   pub stage : is_plain block.stage ≡ true
   pub outside : block.task.handling ≡ false
   pub quiet : block.pending ≡ []
   pub small : block.task.large ≡ false
 
--- a Start without a signal, a local line or an end
-abbrev pub is_plain_event : Event → Bool
-is_plain_event (Start t cpu how None) = true
-is_plain_event (Start t cpu how (Some signal)) = false
-is_plain_event (Local t line reply) = true
-is_plain_event (Outer t line reply) = false
-is_plain_event (Grow t) = false
-is_plain_event (Kill t signo why) = false
-is_plain_event (End t) = true
+-- a Start without a signal, a local line, a fork or an end
+abbrev pub IsPlainEvent : Script → Event → Type 0
+IsPlainEvent script (Start t cpu how signal) = signal ≡ None
+IsPlainEvent script (Local t line reply) = Unit {0}
+IsPlainEvent script (Outer t line reply) = (name : List ℕ) × (command_at script t line ≡ Some (commands.Fork name)) × (reply ≡ replies.Done)
+IsPlainEvent script (Grow t) = ⊥
+IsPlainEvent script (Kill t signo why) = ⊥
+IsPlainEvent script (End t) = Unit {0}
 
 -- The blocks of such a script are plain.
 abbrev pub BuiltBlocks : Type 0
@@ -229,16 +307,16 @@ BuiltBlocks = (script : Script) (past : List Event) → IsBuilt script → IsLeg
 
 -- So are its events.
 abbrev pub BuiltEvents : Type 0
-BuiltEvents = (script : Script) (past : List Event) → IsBuilt script → IsLegalPast script past → AllByRecursion (λ (event : Event). is_plain_event event ≡ true) past
+BuiltEvents = (script : Script) (past : List Event) → IsValid script → IsBuilt script → IsLegalPast script past → AllByRecursion (IsPlainEvent script) past
 
 -- An end in such a script makes nobody ready.
 abbrev pub BuiltEnds : Type 0
 BuiltEnds = (script : Script) (past : List Event) (t : ℕ) → IsBuilt script → IsLegalPast script past → ready_list script (End t ∷ past) ≡ ready_list script past
 
--- A line of such a script is local, doesn't trap, and is no return.
+-- A line of such a script is a fork or local, doesn't trap, and is no return.
 abbrev pub BuiltLines : Type 0
 BuiltLines = (task : PrivateTask) (command : Command) → IsBuiltCommand command
-    → (is_outer command ≡ false) × (traps task command ≡ false) × (refusal task command ≡ None)
+    → (is_outer command ≡ is_fork command) × (traps task command ≡ false) × (refusal task command ≡ None)
 
 -- A script has one replay at most.
 abbrev pub OneReplay : Type 0
@@ -255,16 +333,6 @@ FewEvents = (script : Script) (past : List Event) → IsValid script → IsLegal
 
 -- ---- a turn goes on
 
--- A signal that the line sends is for a block with a handler.
-abbrev pub IsHandled : Script → Command → Type 0
-IsHandled script (commands.Kill name signo) = (other : Block) → slice_get script.blocks (block_named script name) ≡ Some other → 0 < length other.handler
-IsHandled script other = Unit {0}
-
--- So are those that the bodies send. That is a rule of the names that commands have for blocks, which have no part in
--- IsValid yet.
-abbrev pub AreSignalsHandled : Script → Type 0
-AreSignalsHandled script = AllByRecursion (λ (block : Block). AllByRecursion (λ (order : Order). IsHandled script order.command) block.body) script.blocks
-
 -- While a turn lasts, its Local events are fewer than the quantum.
 abbrev pub TurnsShort : Type 0
 TurnsShort = (script : Script) (past : List Event) (t cpu ran : ℕ) → IsValid script
@@ -272,9 +340,34 @@ TurnsShort = (script : Script) (past : List Event) (t cpu ran : ℕ) → IsValid
 
 -- A block in a turn has a next event.
 abbrev pub NeverIdle : Type 0
-NeverIdle = (script : Script) (past : List Event) (t cpu : ℕ) → IsValid script → AreSignalsHandled script → IsLegalPast script past
+NeverIdle = (script : Script) (past : List Event) (t cpu : ℕ) → IsValid script → IsLegalPast script past
     → turn_of (machine script past).blocks t ≡ Some cpu → (event : Event) × (due (machine script past) t ≡ Some event)
 
--- A script of the forms of this version sends no signal.
-abbrev pub BuiltHandled : Type 0
-BuiltHandled = (script : Script) → IsBuilt script → AreSignalsHandled script
+-- ---- the schedule
+
+-- the script with another schedule
+abbrev pub scheduled : List ℕ → Script → Script
+scheduled sched script = record script { sched = sched }
+
+-- Only the replay looks at the schedule. The blocks after a past don't depend on it, nor does which commit is open.
+abbrev pub MachineUnscheduled : Type 0
+MachineUnscheduled = (script : Script) (sched : List ℕ) (past : List Event)
+    → ((machine (scheduled sched script) past).blocks ≡ (machine script past).blocks) × ((machine (scheduled sched script) past).committing ≡ (machine script past).committing)
+
+-- A legal past is legal with any schedule.
+abbrev pub LegalUnscheduled : Type 0
+LegalUnscheduled = (script : Script) (sched : List ℕ) (past : List Event) → IsLegalPast script past → IsLegalPast (scheduled sched script) past
+
+-- A whole history is whole with any.
+abbrev pub WholeUnscheduled : Type 0
+WholeUnscheduled = (script : Script) (sched : List ℕ) (history : List Event) → IsWhole script history → IsWhole (scheduled sched script) history
+
+-- The marks of a past, its counts and what remains in a bank don't depend on it.
+abbrev pub MarkUnscheduled : Type 0
+MarkUnscheduled = (script : Script) (sched : List ℕ) (past : List Event) (cpu : ℕ) → mark (scheduled sched script) past cpu ≡ mark script past cpu
+
+abbrev pub CountsUnscheduled : Type 0
+CountsUnscheduled = (script : Script) (sched : List ℕ) (past : List Event) (cpu : ℕ) → counts_of (scheduled sched script) past cpu ≡ counts_of script past cpu
+
+abbrev pub RemainsUnscheduled : Type 0
+RemainsUnscheduled = (script : Script) (sched : List ℕ) (past : List Event) (cpu : ℕ) → remains (scheduled sched script) past cpu ≡ remains script past cpu

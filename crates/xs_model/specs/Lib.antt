@@ -1,4 +1,6 @@
 -- The definitions of scripts, events and the private machine, one file a noun.
+pub mod Names
+pub mod Bound
 pub mod Script
 pub mod Line
 pub mod Note
@@ -11,5 +13,4 @@ pub mod History
 pub mod Ready
 pub mod Replay
 pub mod Counts
-pub mod Bound
 pub mod Laws

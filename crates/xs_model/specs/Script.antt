@@ -16,6 +16,8 @@ use Rattle.xs_model.specs.declared.script.Command.TheVariants.{Set, Get, Ksec, Y
 use Rattle.xs_model.specs.declared.script.Order.{Order}
 use Rattle.xs_model.specs.declared.script.Block.{Block}
 use Rattle.xs_model.specs.declared.script.Script.{Script}
+use Rattle.xs_model.specs.Names.{AreNamed, all_forked_names}
+use Rattle.xs_model.specs.Bound.{most_events}
 
 -- The rows are the table of components of a machine: of one with a name its own, and of one that is given by its rows
 -- any table that passes the tests.
@@ -72,6 +74,10 @@ is_outer (Getregs name set) = true
 is_outer (Setregs name set count) = true
 is_outer (Cont name) = true
 is_outer other = false
+
+abbrev pub is_fork : Command → Bool
+is_fork (Fork name) = true
+is_fork other = false
 
 abbrev pub is_yield : Command → Bool
 is_yield Yield = true
@@ -142,8 +148,8 @@ lines_of block = block.body ++ block.handler
 abbrev pub order_numbers : List Block → List ℕ
 order_numbers blocks = flat_map (λ (block : Block). map (λ (order : Order). order.number) (lines_of block)) blocks
 
--- A script whose parts are within their limits. The rules of the names that commands have for blocks have no part here
--- yet: no line of this version has such a name.
+-- A script whose parts are within their limits, and whose commands have names of blocks that they may have: each child is
+-- forked by one line at most.
 pub record IsValid (script : Script) : Type 0 where
   pub layout : IsLayout script.layout
   pub machine : IsTableOf script.machine script.layout
@@ -158,6 +164,9 @@ pub record IsValid (script : Script) : Type 0 where
   pub distinct : AreDistinct (map (λ (block : Block). block.name) script.blocks)
   pub rising : AreRising 0 (order_numbers script.blocks)
   pub bodies : AllByRecursion (λ (block : Block). IsBody script.layout block) script.blocks
+  pub named : AllByRecursion (λ (block : Block). AreNamed script.blocks block.body) script.blocks
+  pub forked : AreDistinct (all_forked_names script.blocks)
+  pub events : most_events script ≤ 1048576
 
 -- ---- what is found in a script
 
@@ -192,9 +201,9 @@ is_user script t = is_user_block (slice_get script.blocks t)
 
 -- ---- what this version runs
 
--- the components whose registers the program has: x87, SSE, AVX, opmask, ZMM_Hi256, Hi16_ZMM
+-- the components whose registers the program has: x87, SSE, AVX, opmask, ZMM_Hi256, Hi16_ZMM, PKRU
 abbrev pub built_components : List ℕ
-built_components = 0 ∷ 1 ∷ 2 ∷ 5 ∷ 6 ∷ 7 ∷ []
+built_components = 0 ∷ 1 ∷ 2 ∷ 5 ∷ 6 ∷ 7 ∷ 9 ∷ []
 
 -- A register that the program has. MXCSR's place is in component 1.
 abbrev pub is_built : Place → Bool
@@ -210,15 +219,16 @@ IsBuiltCommand (Set reg bytes) = IsBuiltName reg
 IsBuiltCommand (Get reg) = IsBuiltName reg
 IsBuiltCommand (Ksec byte) = Unit {0}
 IsBuiltCommand Yield = Unit {0}
+IsBuiltCommand (Fork name) = Unit {0}
 IsBuiltCommand other = ⊥
 
 -- a kind of block that the program has
 abbrev pub is_built_kind : BlockKind → Bool
 is_built_kind Task = true
-is_built_kind Child = false
+is_built_kind Child = true
 is_built_kind Kthread = true
 
--- A script of the forms of this version: tasks and kernel threads without handlers, and commands that the program has.
+-- A script of the forms of this version: blocks without handlers, and commands that the program has.
 pub record IsBuilt (script : Script) : Type 0 where
   pub kinds : AllByRecursion (λ (block : Block). (is_built_kind block.kind ≡ true) × (block.handler ≡ [])) script.blocks
   pub commands : AllByRecursion (λ (block : Block). AllByRecursion (λ (order : Order). IsBuiltCommand order.command) block.body) script.blocks

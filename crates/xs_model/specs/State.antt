@@ -78,9 +78,9 @@ is_active Stopped = false
 is_active (Waiting child) = false
 is_active Ended = false
 
--- neither unborn nor stopped, and no wait
+-- neither stopped, nor waiting
 abbrev pub is_plain : Stage → Bool
-is_plain Unborn = false
+is_plain Unborn = true
 is_plain Ready = true
 is_plain (Turn cpu ran) = true
 is_plain Stopped = false

@@ -33,7 +33,7 @@ pub enum Reply {
 }
 
 /// Why a task was killed: no permission for tiles, no Large area, or a signal frame that is refused.
-#[derive(Clone, Copy, PartialEq, Eq, Debug)]
+#[derive(Clone, Copy, PartialEq, Eq)]
 pub enum Why {
     /// The task has no permission to use tiles.
     Permission,

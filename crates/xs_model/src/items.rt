@@ -7,7 +7,7 @@ use std::marker::Model;
 
 /// A `Vec` seen as the list of its elements, so that two with the same elements are equal. It is made from a `Vec`
 /// and gives it back, both without taking memory.
-#[derive(Debug, Drop)]
+#[derive(Drop)]
 pub struct Items<T> {
     elements: Vec<T>,
 }

@@ -1,6 +1,6 @@
 //! The laws of the machine, for proofs: a caller has a law by calling its function, which does nothing.
 
-ghost use Rattle.xs_model.specs.Laws.{LinesFound, TurnsKnown, TurnsApart, TurnsMarked, TwoNumbers, ReadyOnce, FirstReady, NobodyReady, StartTakes, LocalKeeps, LocalRises, EndKeeps, BuiltBlocks, BuiltEvents, BuiltEnds, BuiltLines, MarkUnseen, CountsUnseen, RemainsUnseen, LastUnseen, HeldUnseen, MachineKnown, TasksValid, StartIsStep, LocalIsStep, EndIsStep, FreeTells, FreeFound, StartedBlock, RanBlock, EndedBlock, StartOthers, LocalOthers, EndOthers, TaskStays, OneReplay, NeverStuck, FewEvents, TurnsShort, NeverIdle, BuiltHandled};
+ghost use Rattle.xs_model.specs.Laws.{LinesFound, TurnsKnown, TurnsApart, TurnsMarked, TwoNumbers, ReadyOnce, FirstReady, NobodyReady, StartTakes, LocalKeeps, LocalRises, EndKeeps, BuiltBlocks, BuiltEvents, BuiltEnds, BuiltLines, MarkUnseen, CountsUnseen, RemainsUnseen, LastUnseen, HeldUnseen, MachineKnown, TasksValid, StartIsStep, LocalIsStep, EndIsStep, FreeTells, FreeFound, StartedBlock, RanBlock, EndedBlock, StartOthers, LocalOthers, EndOthers, TaskStays, OneReplay, NeverStuck, FewEvents, TurnsShort, NeverIdle, ForkBears, BornByFork, UnbornUnseen, ForkIsStep, ForkRises, ForkedBlock, BornBlock, ForkOthers, MachineUnscheduled, LegalUnscheduled, WholeUnscheduled, MarkUnscheduled, CountsUnscheduled, RemainsUnscheduled};
 
 /// A line of a valid script is found by its number.
 pub fn lines_found()
@@ -27,12 +27,13 @@ pub fn ready_once()
     ensures nobody { NobodyReady }
 {}
 
-/// Whom an event makes ready: a Start nobody, a local line its own block where it ends the turn, and an end nobody where
-/// no block waits or is stopped.
+/// Whom an event makes ready: a Start nobody, a local line its own block where it ends the turn, a fork its child and
+/// then its own block, and an end nobody where no block waits or is stopped.
 pub fn risers_known()
     ensures start { StartTakes }
     ensures goes_on { LocalKeeps }
     ensures ends { LocalRises }
+    ensures fork { ForkRises }
     ensures end { EndKeeps }
 {}
 
@@ -43,6 +44,25 @@ pub fn built_is_plain()
     ensures events { BuiltEvents }
     ensures end { BuiltEnds }
     ensures lines { BuiltLines }
+{}
+
+/// At a fork the child isn't born: a block is born by a fork alone, each child is forked by one line at most, and who
+/// isn't born had no turn.
+pub fn a_fork_bears()
+    ensures bears { ForkBears }
+    ensures by_fork { BornByFork }
+    ensures unseen { UnbornUnseen }
+{}
+
+/// Two scripts that differ in their schedules alone have the same legal and whole histories, and these say the same of
+/// each bank.
+pub fn schedule_unseen()
+    ensures machine { MachineUnscheduled }
+    ensures legal { LegalUnscheduled }
+    ensures whole { WholeUnscheduled }
+    ensures mark { MarkUnscheduled }
+    ensures counts { CountsUnscheduled }
+    ensures remains { RemainsUnscheduled }
 {}
 
 /// What newer events on other processors, or of other blocks, leave as it was.
@@ -61,10 +81,11 @@ pub fn machine_known()
     ensures valid { TasksValid }
 {}
 
-/// Which Start, local line and end is a step.
+/// Which Start, local line, fork and end is a step.
 pub fn steps_known()
     ensures start { StartIsStep }
     ensures local { LocalIsStep }
+    ensures fork { ForkIsStep }
     ensures end { EndIsStep }
 {}
 
@@ -74,13 +95,17 @@ pub fn free_processors_known()
     ensures found { FreeFound }
 {}
 
-/// What a Start, a local line and an end make of their own block, and that they leave the others.
+/// What a Start, a local line, a fork and an end make of their own block, and a fork of its child; and that they leave
+/// the others.
 pub fn blocks_known()
     ensures started { StartedBlock }
     ensures ran { RanBlock }
+    ensures forked { ForkedBlock }
+    ensures born { BornBlock }
     ensures ended { EndedBlock }
     ensures start_others { StartOthers }
     ensures local_others { LocalOthers }
+    ensures fork_others { ForkOthers }
     ensures end_others { EndOthers }
 {}
 
@@ -104,10 +129,8 @@ pub fn few_events()
     ensures { FewEvents }
 {}
 
-/// A block in a turn has a next event: the turn is within the quantum, and the signals that a script's bodies send are for
-/// blocks with a handler.
+/// A block in a turn has a next event, and the turn is within the quantum.
 pub fn never_idle()
     ensures short { TurnsShort }
     ensures next { NeverIdle }
-    ensures built { BuiltHandled }
 {}

@@ -1,7 +1,7 @@
 //! Scripts, events and the private machine: what a history of a script is, and which histories are legal, said of
 //! a machine where every task owns a whole register file. It has no banks, save areas, owner marks or last
 //! processors. The crate's contract is its definitions in `specs/`; the code has the types of scripts and
-//! histories, and the decisions of a step that an engine shares with the machine.
+//! histories, and the laws of the machine, each on a function that a caller has it from.
 #![tactic(auto)]
 
 mod copying;
@@ -11,15 +11,13 @@ mod laws;
 mod name;
 mod script;
 mod stage;
-#[cfg(test)]
-mod tests;
 
 pub use event::{Event, History, Reply, Why};
 pub use items::Items;
 pub use laws::{
-    blocks_known, built_is_plain, few_events, free_processors_known, lines_found, machine_known,
-    never_idle, never_stuck, one_replay, ready_once, risers_known, steps_known, task_stays,
-    turns_known, two_numbers, unseen_stays,
+    a_fork_bears, blocks_known, built_is_plain, few_events, free_processors_known, lines_found,
+    machine_known, never_idle, never_stuck, one_replay, ready_once, risers_known, schedule_unseen,
+    steps_known, task_stays, turns_known, two_numbers, unseen_stays,
 };
 pub use name::Name;
 pub use script::{Block, BlockKind, Command, Named, Order, Script};

@@ -8,7 +8,7 @@ use xs_base::{Lane, Set, Signo};
 use xs_layout::Layout;
 
 /// A machine that a script names.
-#[derive(Clone, Copy, PartialEq, Eq, Debug)]
+#[derive(Clone, Copy, PartialEq, Eq)]
 pub enum Named {
     /// x87, SSE, AVX, AVX-512, PKRU and AMX.
     Amx,
@@ -19,7 +19,7 @@ pub enum Named {
 }
 
 /// What a block of lines is: a task from the start, a task that a fork makes, or a kernel thread.
-#[derive(Clone, Copy, PartialEq, Eq, Debug)]
+#[derive(Clone, Copy, PartialEq, Eq)]
 pub enum BlockKind {
     /// A task from the start.
     Task,

@@ -1,7 +1,7 @@
 //! What a block is doing.
 
 /// What a block is doing. A turn has its processor and the number of Local events that it has made.
-#[derive(Clone, Copy, PartialEq, Eq, Debug)]
+#[derive(Clone, Copy, PartialEq, Eq)]
 pub enum Stage {
     /// No fork has made it yet.
     Unborn,

@@ -1,4 +1,4 @@
-use Rattle.xs_model.proofs.EngineSteps.{started_block, ran_block, ended_block, start_others, local_others, end_others}
+use Rattle.xs_model.proofs.StepLaws.{started_block, ran_block, forked_block, born_block, ended_block, start_others, local_others, fork_others, end_others}
 use Rattle.xs_model.proofs.laws.blocks_known.Goals as goal
 
 pub returns-clause-started : goal.returns-clause-started
@@ -18,3 +18,12 @@ returns-clause-local_others c = local_others
 
 pub returns-clause-end_others : goal.returns-clause-end_others
 returns-clause-end_others c = end_others
+
+pub returns-clause-forked : goal.returns-clause-forked
+returns-clause-forked c = forked_block
+
+pub returns-clause-born : goal.returns-clause-born
+returns-clause-born c = born_block
+
+pub returns-clause-fork_others : goal.returns-clause-fork_others
+returns-clause-fork_others c = fork_others

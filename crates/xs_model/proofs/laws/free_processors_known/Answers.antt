@@ -1,4 +1,4 @@
-use Rattle.xs_model.proofs.EngineSteps.{free_tells, free_found}
+use Rattle.xs_model.proofs.StepLaws.{free_tells, free_found}
 use Rattle.xs_model.proofs.laws.free_processors_known.Goals as goal
 
 pub returns-clause-tells : goal.returns-clause-tells

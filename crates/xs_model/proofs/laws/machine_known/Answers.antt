@@ -1,4 +1,4 @@
-use Rattle.xs_model.proofs.EngineSteps.{machine_known}
+use Rattle.xs_model.proofs.StepLaws.{machine_known}
 use Rattle.xs_model.proofs.MachineTasks.{tasks_valid}
 use Rattle.xs_model.proofs.laws.machine_known.Goals as goal
 

@@ -1,4 +1,4 @@
-use Rattle.xs_model.proofs.RiserLaws.{start_takes, local_keeps, local_rises, end_keeps}
+use Rattle.xs_model.proofs.RiserLaws.{start_takes, local_keeps, local_rises, fork_rises, end_keeps}
 use Rattle.xs_model.proofs.laws.risers_known.Goals as goal
 
 pub returns-clause-start : goal.returns-clause-start
@@ -12,3 +12,6 @@ returns-clause-ends c = local_rises
 
 pub returns-clause-end : goal.returns-clause-end
 returns-clause-end c = end_keeps
+
+pub returns-clause-fork : goal.returns-clause-fork
+returns-clause-fork c = fork_rises
