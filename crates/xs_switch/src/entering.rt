@@ -9,6 +9,7 @@ ghost use Rattle.xs_bank.specs.Holds.{Holds};
 ghost use Rattle.xs_bank.specs.SetUp.{WasSetUp};
 ghost use Rattle.xs_task.specs.Parked.{IsParked};
 ghost use Rattle.xs_task.specs.TaskArea.{IsTask};
+ghost use Rattle.xs_switch.specs.Pkru.{given_pkru};
 ghost use Rattle.xs_switch.specs.Running.{CanSave, IsRunning};
 
 use crate::pkru::give_pkru;
@@ -19,8 +20,9 @@ use xs_base::How;
 use xs_task::Task;
 
 /// Begins a turn of the parked task on the processor: its registers come from its area, or the bank still holds them; PKRU is
-/// written apart (Linux 6.6, arch/x86/kernel/fpu/context.h, fpregs_restore_userregs; arch/x86/kernel/process_64.c,
+/// given apart, at a skip too (Linux 6.6, arch/x86/kernel/fpu/context.h, fpregs_restore_userregs; arch/x86/kernel/process_64.c,
 /// x86_pkru_load). Where the bank still holds them, the processor's mark is the task and the task's last processor is this one.
+/// A skip leaves the bank as it is but for PKRU.
 pub fn switch_in<B: Bank>(task: &mut Task, cpu: &mut Cpu<B>, how: How)
     requires set_up { WasSetUp cpu.old.layout (B.state cpu.old.bank) cpu.old.initial }
     requires task { IsTask cpu.old.layout task.old }
@@ -34,6 +36,7 @@ pub fn switch_in<B: Bank>(task: &mut Task, cpu: &mut Cpu<B>, how: How)
     ensures ready { CanSave cpu.new.layout task.new (B.state cpu.new.bank) }
     ensures running { (p : PrivateTask) → IsParked cpu.old.layout task.old p → (how ≡ hows.Skip → Holds (B.state cpu.old.bank) p) → IsRunning cpu.new.layout task.new (B.state cpu.new.bank) p }
     ensures holds { (p : PrivateTask) → IsParked cpu.old.layout task.old p → (how ≡ hows.Skip → Holds (B.state cpu.old.bank) p) → Holds (B.state cpu.new.bank) p }
+    ensures skipped { how ≡ hows.Skip → B.state cpu.new.bank ≡ given_pkru (B.state cpu.old.bank) task.old.pkru }
     ensures counts { counts_of (B.state cpu.new.bank) ≡ after_start how (counts_of (B.state cpu.old.bank)) }
 {
     let Some(lease) = &task.lease else {

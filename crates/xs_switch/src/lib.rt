@@ -11,10 +11,10 @@ mod restoring;
 mod saving;
 mod section;
 mod taking;
-#[cfg(test)]
-mod tests;
 
 pub use entering::{resume, switch_in};
-pub use leaving::switch_out;
-pub use pkru::to_kernel;
+pub use leaving::{save_task, switch_out};
+pub use pkru::{give_pkru, to_kernel};
+pub use restoring::restore;
 pub use section::{kernel_section, thread_section};
+pub use xs_task::{fork_into, inherit};

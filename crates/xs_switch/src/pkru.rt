@@ -6,6 +6,7 @@ ghost use Rattle.xs_base.specs.File.{File, IsFile, AreSameButPkru, part, pkru_by
 ghost use Rattle.xs_base.specs.Task.{start_pkru};
 ghost use Rattle.xs_bank.specs.Bank.{counts_of, IsReady};
 ghost use Rattle.xs_bank.specs.SetUp.{WasSetUp};
+ghost use Rattle.xs_switch.specs.Pkru.{given_pkru};
 
 use xs_bank::{Bank, Cpu};
 use xs_base::START_PKRU;
@@ -14,6 +15,7 @@ use xs_base::START_PKRU;
 /// write_pkru).
 #[tactic(auto, using(crate::proofs::SwitchLemmas::same_file))]
 pub fn give_pkru<B: Bank>(bank: &mut B, value: u32)
+    ensures given { B.state bank.new ≡ given_pkru (B.state bank.old) value }
     ensures file { (B.state bank.new).file ≡ with_pkru (B.state bank.old).file value }
     ensures same { (file : File) → IsFile file → AreSameButPkru file (B.state bank.old).file → part file pkru_number ≡ pkru_bytes value → (B.state bank.new).file ≡ file }
     ensures armed { (B.state bank.new).armed ≡ (B.state bank.old).armed }
@@ -32,6 +34,7 @@ pub fn give_pkru<B: Bank>(bank: &mut B, value: u32)
 pub fn to_kernel<B: Bank>(cpu: &mut Cpu<B>)
     requires set_up { WasSetUp cpu.old.layout (B.state cpu.old.bank) cpu.old.initial }
     ensures set_up { WasSetUp cpu.new.layout (B.state cpu.new.bank) cpu.new.initial }
+    ensures given { B.state cpu.new.bank ≡ given_pkru (B.state cpu.old.bank) start_pkru }
     ensures file { (B.state cpu.new.bank).file ≡ with_pkru (B.state cpu.old.bank).file start_pkru }
     ensures armed { (B.state cpu.new.bank).armed ≡ (B.state cpu.old.bank).armed }
     ensures counts { counts_of (B.state cpu.new.bank) ≡ counts_of (B.state cpu.old.bank) }

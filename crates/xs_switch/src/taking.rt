@@ -25,6 +25,7 @@ pub fn take_registers<B: Bank>(bank: &mut B, layout: &Layout, lease: &Lease, how
     ensures machine { (B.state bank.new).file.rows ≡ layout.now }
     ensures in_bank { (file : File) → IsFile file → StandsFor layout.now lease.now.area.bytes.items file → (how ≡ hows.Skip → IsInBank layout.now lease.now (B.state bank.old) file) → IsInBank layout.now lease.now (B.state bank.new) file }
     ensures ready { (file : File) → IsFile file → StandsFor layout.now lease.now.area.bytes.items file → (how ≡ hows.Skip → IsInBank layout.now lease.now (B.state bank.old) file) → IsReady (B.state bank.new) lease.now.area.id (class_features layout.now lease.now.class) lease.now.area.bytes.items }
+    ensures skipped { how ≡ hows.Skip → B.state bank.new ≡ B.state bank.old }
     ensures pkru { part (B.state bank.new).file pkru_number ≡ part (B.state bank.old).file pkru_number }
     ensures counts { counts_of (B.state bank.new) ≡ after_start how (counts_of (B.state bank.old)) }
 {

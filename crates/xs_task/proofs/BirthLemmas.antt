@@ -7,7 +7,7 @@ use Rattle.std.proofs.lemmas.Slice.Eq.{bytes_eq-Decides}
 use Rattle.std.specs.Int.{from_le_bytes, to_le_bytes, w32, w64}
 use Rattle.std.specs.Prelude.{bytes_eq, slice_range}
 use Rattle.xs_base.specs.declared.class.Class.{Class}
-use Rattle.xs_base.specs.declared.class.Class.TheVariants.{Small, Large}
+use Rattle.xs_base.specs.declared.class.Class.TheVariants.{Small}
 use Rattle.xs_base.specs.declared.component.Row.{Row}
 use Rattle.xs_area.specs.declared.area.Lease.{Lease}
 use Rattle.xs_base.specs.Area.{StandsFor, control_in}
@@ -16,7 +16,7 @@ use Rattle.xs_base.specs.Compact.{compacted, is_compacted}
 use Rattle.xs_base.specs.Component.{component_count, initial_part, initial_mxcsr}
 use Rattle.xs_base.specs.File.{File, part, with_pkru, initial_file, is_saved, pkru_bytes}
 use Rattle.xs_base.specs.Header.{xstate_bv, xcomp_bv}
-use Rattle.xs_base.specs.KernelArea.{class_features, class_size, is_of_class, IsLoadable}
+use Rattle.xs_base.specs.KernelArea.{class_features, class_size, IsLoadable}
 use Rattle.xs_base.specs.Layout.{IsLayout, has_row}
 use Rattle.xs_base.specs.Sets.{has}
 use Rattle.xs_base.specs.Task.{root_task, start_pkru}
@@ -25,20 +25,16 @@ use Rattle.xs_task.specs.Marks.{IsSavedIn}
 use Rattle.xs_task.specs.Parked.{IsParked}
 use Rattle.xs_task.specs.TaskArea.{IsTask, IsTaskArea}
 use Rattle.xs_base.proofs.ByteLemmas.{range_same, within_below}
-use Rattle.xs_base.proofs.ClassLemmas.{has_class}
-use Rattle.xs_base.proofs.CompactLemmas.{compact_size_low}
 use Rattle.xs_base.proofs.CompactedLemmas.{compacted_is}
 use Rattle.xs_base.proofs.ComponentLemmas.{length_zeros, zero_at}
 use Rattle.xs_base.proofs.FileLemmas.{initial_at, initial_is_file, part_here, part_other}
 use Rattle.xs_base.proofs.LayoutLemmas.{row_found, sound_at}
 use Rattle.xs_base.proofs.SetLemmas.{has_none}
 use Rattle.xs_base.proofs.TaskLemmas.{root_is_private}
+use Rattle.xs_task.proofs.CopyLemmas.{class_other, class_row}
 use Rattle.xs_task.proofs.ParkLemmas.{parked_from}
 
 -- ---- its area
-
-pub long : (rows : List Row) (lease : Lease) → IsTaskArea rows lease → 576 ≤ length lease.area.bytes.items
-long rows lease area = let low = compact_size_low rows (class_features rows lease.class) in omega (arith, area.len)
 
 -- an area without state is a task's
 pub blank_area : (rows : List Row) (lease new : Lease) → IsTaskArea rows lease → lease.class ≡ Small → new.class ≡ lease.class → new.area.id ≡ lease.area.id → length new.area.bytes.items ≡ length lease.area.bytes.items → xcomp_bv new.area.bytes.items ≡ compacted (class_features rows Small) → ((id : ℕ) → (id ≡ 0 → ⊥) → IsLoadable rows Small id new.area.bytes.items) → IsTaskArea rows new
@@ -79,20 +75,9 @@ stands_pkru rows area file value s = record {
 -- what a class has is a component of the machine, and not PKRU
 class_number : (rows : List Row) (class : Class) (c : ℕ) → IsLayout rows → has (class_features rows class) c ≡ true → (c < component_count) × (c ≡ 9 → ⊥)
 class_number rows class c table on =
-    let both = here class (has_row rows c) (c == 9) (c == 18) (sym (has_class rows class table c) ∙ on) in
-    let found = row_found rows c both.0 in
+    let found = row_found rows c (class_row rows class c table on) in
     let sound = sound_at rows table found.1.index found.0 found.1.within found.1.is in
-    (omega (arith, sound.number, found.1.number), λ nine. false≢true (ap (λ k. not (k == 9)) (sym nine) ∙ both.1))
-  where
-    here : (class : Class) (a n t : Bool) → (a && is_of_class class c) ≡ true → (a ≡ true) × (not (c == 9) ≡ true)
-    here Small true n t on = (refl, first (not (c == 9)) (not (c == 18)) on)
-      where
-        first : (x y : Bool) → (x && y) ≡ true → x ≡ true
-        first true y on = refl
-        first false y on = absurd (false≢true on)
-    here Large true n t on = (refl, on)
-    here Small false n t on = absurd (false≢true on)
-    here Large false n t on = absurd (false≢true on)
+    (omega (arith, sound.number, found.1.number), λ nine. false≢true (ap (λ k. not (k == 9)) (sym nine) ∙ class_other rows class c table on))
 
 -- nothing of it is saved but PKRU
 start_saved : (rows : List Row) (value c : ℕ) → c < component_count → (c ≡ 9 → ⊥) → is_saved (with_pkru (initial_file rows) value) c ≡ false
@@ -139,7 +124,7 @@ whole_task rows task lease is area frame buffer = record {
     some_none : (l : Lease) → Some l ≡ None → ⊥
     some_none l h = cc
 
-own_value : (value : ℕ) → value < 2 ^ 32 → from_le_bytes w32 (take 4 (pkru_bytes value)) ≡ value
+pub own_value : (value : ℕ) → value < 2 ^ 32 → from_le_bytes w32 (take 4 (pkru_bytes value)) ≡ value
 own_value value small = from_le_bytes-to_le_bytes_4 value small
 
 pub root_parked : (rows : List Row) (task : Task) (lease : Lease) → IsLayout rows → lease.class ≡ Small → task.lease ≡ Some lease → task.need_load ≡ true → task.permitted ≡ false → task.frame.items ≡ zeros 16388 → task.buffer.items ≡ zeros 16384 → task.handling ≡ false → task.place ≡ 0 → task.back ≡ 0 → task.pkru ≡ start_pkru → IsSavedIn rows lease (with_pkru (initial_file rows) start_pkru) → IsParked rows task (root_task rows)

@@ -25,7 +25,7 @@ set_of_same f h [] same = refl
 set_of_same f h (c ∷ cs) same = ap (λ b. (if b then 2 ^ c else 0) + set_of f cs) (same c) ∙ ap (λ n. (if h c then 2 ^ c else 0) + n) (set_of_same f h cs same)
 
 -- the user features by number
-has_user : (rows : List Row) → IsLayout rows → (large : Bool) (c : ℕ) → has (if large then features rows else default_features rows) c ≡ (has_row rows c && (large || not (c == 18)))
+pub has_user : (rows : List Row) → IsLayout rows → (large : Bool) (c : ℕ) → has (if large then features rows else default_features rows) c ≡ (has_row rows c && (large || not (c == 18)))
 has_user rows table true c = has_features rows table c ∙ all (has_row rows c)
   where
     all : (b : Bool) → b ≡ (b && true)

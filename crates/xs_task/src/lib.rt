@@ -3,12 +3,12 @@
 //! stands on the areas of `xs_area`; no processor is in it.
 #![tactic(auto)]
 
+mod forking;
 mod laws;
 mod memory;
 mod task;
-#[cfg(test)]
-mod tests;
 
+pub use forking::{copy_lease, fork_into, inherit};
 pub use laws::a_saved_task_is_parked;
 pub use memory::Mem;
 pub use task::Task;

@@ -101,8 +101,28 @@ impl Task {
         ensures buffer { self.new.buffer.items ≡ zeros buffer_length }
         ensures others { self.new ≡ record self.old { frame = self.new.frame; buffer = self.new.buffer; last = None; need_load = true; handling = false; place = 0; back = 0 } }
     {
+        self.clear_memories();
+        self.begin();
+    }
+
+    /// Makes its memories zero.
+    pub(crate) fn clear_memories(&mut self)
+        requires frame { length self.old.frame.items ≡ frame_length }
+        requires buffer { length self.old.buffer.items ≡ buffer_length }
+        ensures frame { self.new.frame.items ≡ zeros frame_length }
+        ensures buffer { self.new.buffer.items ≡ zeros buffer_length }
+        ensures frame_len { length self.new.frame.items ≡ frame_length }
+        ensures buffer_len { length self.new.buffer.items ≡ buffer_length }
+        ensures others { self.new ≡ record self.old { frame = self.new.frame; buffer = self.new.buffer } }
+    {
         make_zero(&mut self.frame);
         make_zero(&mut self.buffer);
+    }
+
+    /// Sets it before its first line, with its registers in its area.
+    pub(crate) fn begin(&mut self)
+        ensures { self.new ≡ record self.old { last = None; need_load = true; handling = false; place = 0; back = 0 } }
+    {
         self.last = None;
         self.need_load = true;
         self.handling = false;
@@ -114,7 +134,8 @@ impl Task {
 /// Makes every byte zero.
 #[tactic(auto, using(crate::proofs::MemoryLemmas::all_zero))]
 fn make_zero(bytes: &mut [u8])
-    ensures { bytes.new ≡ zeros (length bytes.old) }
+    ensures zero { bytes.new ≡ zeros (length bytes.old) }
+    ensures len { length bytes.new ≡ length bytes.old }
 {
     let len = bytes.len();
     clear(bytes, 0, len);

@@ -4,11 +4,11 @@ use Rattle.std.proofs.lemmas.List.{with_items_is}
 use Rattle.std.specs.Vec.{with_items}
 use Rattle.xs_area.specs.declared.area.Lease.{Lease}
 use Rattle.xs_base.specs.Header.{xstate_bv, xcomp_bv}
-use Rattle.xs_base.specs.Layout.{IsLayout}
 use Rattle.xs_base.specs.Task.{start_pkru}
 use Rattle.xs_task.specs.declared.task.Task.{Task}
 use Rattle.xs_task.specs.TaskArea.{IsTaskArea}
-use Rattle.xs_task.proofs.BirthLemmas.{long, blank_area, no_bits, blank_saved, whole_task, root_parked}
+use Rattle.xs_task.proofs.BirthLemmas.{blank_area, no_bits, blank_saved, whole_task, root_parked}
+use Rattle.xs_task.proofs.CopyLemmas.{long, table}
 use Rattle.xs_task.proofs.task.Task.born.Goals as goal
 
 pub make_initial-requires : goal.make_initial-requires
@@ -35,9 +35,9 @@ returns-clause-parked c =
     let rows = c.args.layout.now in
     let others = c.renew.ensures.others in
     let area = c.requires.area in
-    let table : IsLayout rows = rw (area.loadable.stands.rows_are) at area.loadable.is_file.layout in
+    let tab = table rows c.args.lease area in
     let low = long rows c.args.lease area in
     let none = no_bits c.make_initial.new.area (omega (arith, same_length c)) c.make_initial.ensures.zero in
-    root_parked rows c.renew.new.self (new_lease c) table c.requires.small (ap (λ (t : Task). t.lease) others) (ap (λ (t : Task). t.need_load) others) (ap (λ (t : Task). t.permitted) others) c.renew.ensures.frame c.renew.ensures.buffer
+    root_parked rows c.renew.new.self (new_lease c) tab c.requires.small (ap (λ (t : Task). t.lease) others) (ap (λ (t : Task). t.need_load) others) (ap (λ (t : Task). t.permitted) others) c.renew.ensures.frame c.renew.ensures.buffer
     (ap (λ (t : Task). t.handling) others) (ap (λ (t : Task). t.place) others) (ap (λ (t : Task). t.back) others) (ap (λ (t : Task). t.pkru) others)
-    (blank_saved rows (new_lease c) start_pkru table (ap xstate_bv (items_are c) ∙ none) (rw (items_are c) c.make_initial.ensures.stands))
+    (blank_saved rows (new_lease c) start_pkru tab (ap xstate_bv (items_are c) ∙ none) (rw (items_are c) c.make_initial.ensures.stands))
