@@ -2,24 +2,27 @@
 use Rattle.std.proofs.Common.{◌≡◌, ℕ, ◌<◌, Bool, true, false, ◌&&◌, List, [], ◌∷◌, length, refl, sym, ap, ◌∙◌, subst, arith, inl, inr, eq-eqb, ne_eqb, get_or}
 use Rattle.std.proofs.lemmas.Bool.{cases_Bool, eqb-true}
 use Rattle.std.proofs.lemmas.List.{get_or_default}
-use Rattle.std.proofs.lemmas.Option.{slice_get_read, same_Some}
+use Rattle.std.proofs.lemmas.Option.{slice_get_read, slice_get_within, same_Some}
 use Rattle.std.specs.Prelude.{Option, Some, None}
 use Rattle.xs_base.specs.declared.words.How.{How}
 use Rattle.xs_base.specs.declared.words.How.TheVariants.{Skip}
 use Rattle.xs_model.specs.declared.script.Block.{Block}
 use Rattle.xs_model.specs.declared.script.BlockKind.{BlockKind}
-use Rattle.xs_model.specs.declared.stage.Stage.TheVariants.{Ready}
+use Rattle.xs_model.specs.declared.stage.Stage.{Stage}
+use Rattle.xs_model.specs.declared.stage.Stage.TheVariants.{Unborn, Ready, Turn, Stopped, Waiting, Ended}
 use Rattle.xs_model.specs.Due.{how_of}
 use Rattle.xs_model.specs.Held.{held}
-use Rattle.xs_model.specs.Laws.{TwoNumbers, FirstReady}
+use Rattle.xs_model.specs.Laws.{TwoNumbers, FirstReady, MachineKnown}
 use Rattle.xs_model.specs.Note.{is_at, mark}
 use Rattle.xs_model.specs.Script.{is_user, is_user_block, is_user_kind}
-use Rattle.xs_model.specs.State.{lives, none_lives}
+use Rattle.xs_model.specs.State.{is_active, is_on_cpu, is_ready, lives, none_lives, turn_cpu}
 use Rattle.xs_task.specs.declared.task.Task.{Task}
-use Rattle.xs_board.specs.Board.{Board, IsBoard, IsKeptBeside, IsTaskOf, HasHome, past_of, machine_in, stage_in, turn_on, living}
+use Rattle.xs_board.specs.Board.{Board, IsBoard, IsKeptBeside, IsTaskOf, HasHome, past_of, machine_in, ready_of, stage_in, turn_on, living}
 use Rattle.xs_board.specs.Home.{is_resting}
-use Rattle.xs_board.specs.Taken.{is_user_how}
-use Rattle.xs_board.proofs.Changed.{inside, none_counted, tally_some}
+use Rattle.xs_board.specs.Laws.{Laws}
+use Rattle.xs_board.specs.Taken.{HasOther, is_user_how}
+use Rattle.xs_board.proofs.Blocks.{none_counted, tally_some}
+use Rattle.xs_board.proofs.Runners.{is_on, runner_off}
 use Rattle.xs_board.proofs.Taking.{MayTake, the_block}
 
 -- no block is ready
@@ -40,12 +43,12 @@ pub first_ready : FirstReady → (board : Board) (list : List ℕ) (capacity cou
 first_ready law board list capacity count t rest is kept front = law board.script (past_of board) t rest is.legal (sym kept.queue ∙ front)
 
 -- it is one of the script's blocks
-pub ready_known : (board : Board) (t : ℕ) → IsBoard board → stage_in board t ≡ Ready → t < length board.script.blocks
-ready_known board t is ready =
+pub ready_known : MachineKnown → (board : Board) (t : ℕ) → stage_in board t ≡ Ready → t < length board.script.blocks
+ready_known known board t ready =
     let b = the_block board t ready in
-    let here = inside (machine_in board).blocks t b.0 b.1 in
-    let same = is.blocks in
-    omega arith
+    let here = slice_get_within (machine_in board).blocks t b.0 b.1 in
+    let same = (known board.script (past_of board)).2 in
+    omega (arith, here, same)
 
 -- it lives
 pub ready_lives : (board : Board) (t : ℕ) → stage_in board t ≡ Ready → none_lives (machine_in board) ≡ false
@@ -55,8 +58,8 @@ ready_lives board t ready =
     none_counted (machine_in board).blocks 0 ∙ ne_eqb (living board) 0 (λ (e : living board ≡ 0). omega arith)
 
 -- its task is home
-pub ready_home : (board : Board) (t : ℕ) → IsBoard board → stage_in board t ≡ Ready → HasHome board t
-ready_home board t is ready = is.home t (ap is_resting ready)
+pub ready_home : MachineKnown → (board : Board) (t : ℕ) → IsBoard board → stage_in board t ≡ Ready → HasHome board t
+ready_home known board t is ready = is.home t (ap is_resting ready) (ready_known known board t ready)
 
 -- the kind of its block
 pub user_kind : (board : Board) (t : ℕ) (block : Block) → t < length board.script.blocks → block ≡ get_or board.script.blocks t block → is_user board.script t ≡ is_user_kind block.kind
@@ -96,31 +99,66 @@ is_at_some None x at = absurd (cc at)
 is_at_some (Some y) x at = ap Some (eqb-true y x at)
 
 -- the task that was home
-pub home_task : (board : Board) (t : ℕ) (task : Task) → IsBoard board → stage_in board t ≡ Ready → (slot : Option Task) → slot ≡ Some task → slot ≡ get_or board.home t slot → IsTaskOf board t task
-home_task board t task is ready slot some there =
-    let home = ready_home board t is ready in
-    let known = ready_known board t is ready in
+pub home_task : MachineKnown → (board : Board) (t : ℕ) (task : Task) → IsBoard board → stage_in board t ≡ Ready → (slot : Option Task) → slot ≡ Some task → slot ≡ get_or board.home t slot → IsTaskOf board t task
+home_task machine_is board t task is ready slot some there =
+    let home = ready_home machine_is board t is ready in
+    let known = ready_known machine_is board t ready in
     let count = is.count in
     let same : Some task ≡ Some home.0 = sym some ∙ there ∙ get_or_default board.home t slot None (omega arith) ∙ home.1 in
     subst (IsTaskOf board t) (same_Some home.0 task (sym same)) home.2
 
 -- The first of the list may start, with its task.
-pub may_take : FirstReady → TwoNumbers → (board : Board) (list : List ℕ) (capacity count t : ℕ) (rest : List ℕ) (cpu : ℕ) (block : Block) (slot : Option Task) (task : Task) (known : Option ℕ) (how : How)
+pub may_take : Laws → (board : Board) (list : List ℕ) (capacity count t : ℕ) (rest : List ℕ) (cpu : ℕ) (block : Block) (slot : Option Task) (task : Task) (known : Option ℕ) (how : How)
     → IsBoard board → IsKeptBeside board list capacity count → list ≡ t ∷ rest
     → slot ≡ Some task → slot ≡ get_or board.home t slot → block ≡ get_or board.script.blocks t block
     → cpu < board.script.cpus → turn_on board cpu ≡ None → known ≡ mark board.script (past_of board) cpu
     → how ≡ how_of (is_user_kind block.kind) (is_at known t && is_at task.last cpu)
     → MayTake board t cpu rest how × IsTaskOf board t task
-may_take law numbers board list capacity count t rest cpu block slot task known how is kept front some there block_is processor free known_is how_is =
-    let ready = first_ready law board list capacity count t rest is kept front in
-    let own = home_task board t task is ready slot some there in (
+may_take laws board list capacity count t rest cpu block slot task known how is kept front some there block_is processor free known_is how_is =
+    let ready = first_ready laws.first board list capacity count t rest is kept front in
+    let own = home_task laws.machine board t task is ready slot some there in (
       record {
         is_board = is;
         first = sym kept.queue ∙ front;
         ready = ready;
         processor = processor;
         free = free;
-        how_is = how_known numbers board t cpu block.kind task known how is own (user_kind board t block (ready_known board t is ready) block_is) known_is how_is;
+        how_is = how_known laws.numbers board t cpu block.kind task known how is own (user_kind board t block (ready_known laws.machine board t ready) block_is) known_is how_is;
       },
       own,
     )
+
+-- ---- a turn elsewhere
+
+-- who is active and not ready is in a turn
+in_turn : (stage : Stage) → is_active stage ≡ true → is_ready stage ≡ false → (cpu : ℕ) × (turn_cpu stage ≡ Some cpu)
+in_turn Unborn active off = absurd (cc active)
+in_turn Ready active off = absurd (cc off)
+in_turn (Turn cpu ran) active off = (cpu, refl)
+in_turn Stopped active off = absurd (cc active)
+in_turn (Waiting child) active off = absurd (cc active)
+in_turn Ended active off = absurd (cc active)
+
+-- the turn of a block is one on its processor
+turn_there : (board : Board) (u c : ℕ) → turn_cpu (stage_in board u) ≡ Some c → (v : ℕ) × (turn_on board c ≡ Some v)
+turn_there board u c turn = found (turn_on board c) refl
+  where
+    found : (on : Option ℕ) → turn_on board c ≡ on → (v : ℕ) × (turn_on board c ≡ Some v)
+    found None none =
+        let off = runner_off c 0 (machine_in board).blocks none u in
+        let on : is_on c (machine_in board).blocks u ≡ true = ap (is_on_cpu c) turn ∙ eq-eqb c c refl in
+        absurd (cc (on, off))
+    found (Some v) some = (v, some)
+
+-- Where no block is ready and one lives, another processor has a turn.
+pub other_has : Laws → (board : Board) (cpu : ℕ) → IsBoard board → ready_of board ≡ [] → none_lives (machine_in board) ≡ false → turn_on board cpu ≡ None → HasOther board cpu
+other_has laws board cpu is empty lives free =
+    let one = laws.stuck board.script (past_of board) is.valid is.legal lives in
+    let turn = in_turn (stage_in board one.0) one.1 (laws.nobody board.script (past_of board) one.0 is.legal empty) in
+    let there = turn_there board one.0 turn.0 turn.1 in
+    record {
+      other = turn.0;
+      apart = λ (same : turn.0 ≡ cpu). let none : turn_on board turn.0 ≡ None = ap (turn_on board) same ∙ free in let some = there.1 in cc (none, some);
+      task = there.0;
+      turn = there.1;
+    }

@@ -1,46 +1,36 @@
--- A board whose history went on, and of which one block moved: what is left is what holds of that block.
+-- A board whose history went on.
 use Rattle.std.proofs.Common.{◌≡◌, ℕ, ◌+◌, ◌≤◌, Bool, true, false, List, [], ◌∷◌, ◌++◌, length, reverse, refl, sym, ap, ◌∙◌, subst, arith, inl, inr, append_assoc}
 use Rattle.std.proofs.lemmas.Bool.{cases_eq}
-use Rattle.std.proofs.lemmas.List.{reverse-append}
-use Rattle.xs_board.proofs.Lists.{append_nil}
-use Rattle.std.specs.Prelude.{Option, Some, None, slice_get, slice_index_or}
-use Rattle.xs_base.specs.Task.{PrivateTask}
+use Rattle.std.proofs.lemmas.List.{append-nil, length-reverse, reverse-append}
+use Rattle.std.proofs.lemmas.Option.{same_Some}
+use Rattle.std.specs.Prelude.{◌⊎◌, Option, Some, None, slice_get, slice_index_or}
+use Rattle.xs_base.specs.declared.component.Row.{Row}
+use Rattle.xs_base.specs.Task.{PrivateTask, IsPrivateTask, parked, marks_after, child_of}
 use Rattle.xs_model.specs.declared.event.Event.{Event}
 use Rattle.xs_model.specs.declared.script.Script.{Script}
-use Rattle.xs_model.specs.declared.stage.Stage.{Stage}
-use Rattle.xs_model.specs.declared.stage.Stage.TheVariants.{Unborn}
 use Rattle.xs_model.specs.Bound.{most_events}
+use Rattle.xs_model.specs.Laws.{MachineKnown, FewEvents}
+use Rattle.xs_model.specs.Line.{next_line}
 use Rattle.xs_model.specs.Machine.{machine, IsLegalPast}
 use Rattle.xs_model.specs.Note.{last}
-use Rattle.xs_model.specs.Replay.{runner}
-use Rattle.xs_model.specs.Script.{is_user}
-use Rattle.xs_model.specs.State.{BlockState, changed, stage_at, stage_of}
-use Rattle.xs_pool.specs.Pool.{Pool}
+use Rattle.xs_model.specs.Script.{IsValid, is_user}
+use Rattle.xs_model.specs.State.{stage_of}
 use Rattle.xs_task.specs.declared.task.Task.{Task}
-use Rattle.xs_board.specs.Board.{Board, IsBoard, IsPoolOf, HasHome, past_of, machine_in, private_in, task_of_state, is_plain, tally, one}
-use Rattle.xs_board.specs.Home.{IsHome, is_resting}
-use Rattle.xs_board.specs.Spent.{AreFew}
-use Rattle.xs_board.proofs.Changed.{changed_other, changed_len, tally_changed}
-use Rattle.xs_board.proofs.Runners.{is_on, runner_stays}
-use Rattle.xs_board.proofs.Turning.{set_to, onto, changed_here, plain_changed}
+use Rattle.xs_task.specs.Parked.{IsParked}
+use Rattle.xs_task.specs.TaskArea.{IsTask}
+use Rattle.xs_board.specs.declared.turn.Close.{Close}
+use Rattle.xs_board.specs.declared.turn.Close.TheVariants.{Quantum, Yield, Outer, End}
+use Rattle.xs_board.specs.Board.{Board, HasHome, past_of, machine_in, private_in, task_of_state}
+use Rattle.xs_board.specs.Home.{IsHome}
+use Rattle.xs_board.specs.Putting.{moved_on}
+use Rattle.xs_board.specs.Turn.{task_closed}
+use Rattle.xs_board.proofs.Turning.{onto}
 
--- The history went on, and one block came to this stage and this task.
-pub record HasMoved (script : Script) (past later : List Event) (t : ℕ) (stage : Stage) (task : PrivateTask) : Type 0 where
-  pub legal : IsLegalPast script later
-  pub closed : (machine script later).committing ≡ None
-  pub blocks : (machine script later).blocks ≡ changed t (set_to stage task) (machine script past).blocks
-
--- the block of a stage that isn't that of an unborn one
-pub block_in : (blocks : List BlockState) (t : ℕ) (stage : Stage) → (stage ≡ Unborn → ⊥) → stage_at blocks t ≡ stage → (block : BlockState) × (slice_get blocks t ≡ Some block) × (block.stage ≡ stage)
-block_in blocks t stage born is = found (slice_get blocks t) refl
-  where
-    found : (there : Option BlockState) → slice_get blocks t ≡ there → (block : BlockState) × (slice_get blocks t ≡ Some block) × (block.stage ≡ stage)
-    found None at = absurd (born (sym is ∙ ap stage_of at))
-    found (Some block) at = (block, at, sym (ap stage_of at) ∙ is)
+-- ---- histories
 
 -- the events of a history in their order, from the latest
 pub reverse_onto_past : (events history : List Event) → reverse (history ++ events) ≡ onto events (reverse history)
-reverse_onto_past [] history = ap reverse (append_nil history)
+reverse_onto_past [] history = ap reverse (append-nil history)
 reverse_onto_past (event ∷ events) history =
     ap reverse (sym (append_assoc history (event ∷ []) events))
     ∙ reverse_onto_past events (history ++ event ∷ [])
@@ -51,69 +41,89 @@ pub onto_length : (events past : List Event) → length (onto events past) ≡ l
 onto_length [] past = omega arith
 onto_length (event ∷ events) past = let rest = onto_length events (event ∷ past) in omega arith
 
--- What the board's machine tells of the block, of the others and of the turns.
-module _ (old : Board) (history : List Event) (t : ℕ) (block : BlockState) (stage : Stage) (task : PrivateTask) where
-  -- the block that moved
-  pub moved_block : slice_get (machine_in old).blocks t ≡ Some block → HasMoved old.script (past_of old) (reverse history) t stage task → slice_get (machine old.script (reverse history)).blocks t ≡ Some (set_to stage task block)
-  moved_block here moved = changed_here t (set_to stage task) (machine_in old).blocks (machine old.script (reverse history)).blocks block here moved.blocks
+-- a legal history has room
+pub fits : FewEvents → (script : Script) (history events : List Event) (room : ℕ) → IsValid script → IsLegalPast script (onto events (reverse history)) → most_events script ≤ room → length history + length events ≤ room
+fits few script history events room valid legal most =
+    let all = few script (onto events (reverse history)) valid legal in
+    let long = onto_length events (reverse history) in
+    let same : length (reverse history) ≡ length history = length-reverse history in
+    omega (arith, all, long, same, most)
 
-  -- any other block
-  pub moved_other : HasMoved old.script (past_of old) (reverse history) t stage task → (u : ℕ) → (u ≡ t → ⊥) → slice_get (machine old.script (reverse history)).blocks u ≡ slice_get (machine_in old).blocks u
-  moved_other moved u other = ap (λ (all : List BlockState). slice_get all u) moved.blocks ∙ changed_other t u (set_to stage task) (machine_in old).blocks other
+-- the blocks are as many as before
+pub as_many : MachineKnown → (script : Script) (past later : List Event) → length (machine script later).blocks ≡ length (machine script past).blocks
+as_many known script past later = (known script later).2 ∙ sym (known script past).2
 
-  -- other processors keep their turns
-  pub moved_turns : slice_get (machine_in old).blocks t ≡ Some block → HasMoved old.script (past_of old) (reverse history) t stage task → (c : ℕ) → is_on c block ≡ false → is_on c (set_to stage task block) ≡ false → runner c 0 (machine old.script (reverse history)).blocks ≡ runner c 0 (machine_in old).blocks
-  moved_turns here moved c before now = ap (runner c 0) moved.blocks ∙ runner_stays c 0 t (set_to stage task) (machine_in old).blocks block here before now
-
-  -- how many blocks are such
-  pub moved_tally : slice_get (machine_in old).blocks t ≡ Some block → HasMoved old.script (past_of old) (reverse history) t stage task → (such : ℕ → Stage → Bool) → tally such 0 (machine old.script (reverse history)).blocks + one (such t block.stage) ≡ tally such 0 (machine_in old).blocks + one (such t stage)
-  moved_tally here moved such =
-      ap (λ (all : List BlockState). tally such 0 all + one (such t block.stage)) moved.blocks
-      ∙ tally_changed such 0 t t (set_to stage task) (machine_in old).blocks block here (omega arith)
+-- ---- the tasks
 
 -- another block's task stays home
-home_stays : (old new : Board) (u : ℕ) → new.script ≡ old.script → slice_index_or new.home u None ≡ slice_index_or old.home u None → private_in new u ≡ private_in old u → last new.script (past_of new) u ≡ last old.script (past_of old) u → HasHome old u → HasHome new u
-home_stays old new u script slot private last_is home =
+pub home_stays : (old new : Board) (u : ℕ) → new.script ≡ old.script → slice_index_or new.home u None ≡ slice_index_or old.home u None → slice_get (machine_in new).blocks u ≡ slice_get (machine_in old).blocks u → last new.script (past_of new) u ≡ last old.script (past_of old) u → HasHome old u → HasHome new u
+home_stays old new u script slot same last_is home =
     let is = home.2 in (
       home.0,
       slot ∙ home.1,
       record {
         name = is.name;
-        stands = subst (λ (p : PrivateTask). IsHome (is_user new.script u) new.script.layout home.0 p) (sym private) (subst (λ (s : Script). IsHome (is_user s u) s.layout home.0 (private_in old u)) (sym script) is.stands);
+        stands = subst (λ (p : PrivateTask). IsHome (is_user new.script u) new.script.layout home.0 p) (sym (ap task_of_state same)) (subst (λ (s : Script). IsHome (is_user s u) s.layout home.0 (private_in old u)) (sym script) is.stands);
         last = λ user. is.last (sym (ap (λ (s : Script). is_user s u) script) ∙ user) ∙ sym last_is;
+        clear = λ unborn. is.clear (sym (ap stage_of same) ∙ unborn);
       },
     )
 
--- The board is one again.
-pub board_moved : (old : Board) (history : List Event) (home : List (Option Task)) (pool : Pool) (room : ℕ) (t : ℕ) (block : BlockState) (stage : Stage) (task : PrivateTask)
-    → IsBoard old → slice_get (machine_in old).blocks t ≡ Some block → HasMoved old.script (past_of old) (reverse history) t stage task
-    → is_plain stage ≡ true → task.handling ≡ false → task.large ≡ false
-    → length home ≡ length old.home
-    → ((u : ℕ) → (u ≡ t → ⊥) → slice_index_or home u None ≡ slice_index_or old.home u None)
-    → ((u : ℕ) → (u ≡ t → ⊥) → last old.script (reverse history) u ≡ last old.script (past_of old) u)
-    → AreFew old.script (length history) (machine old.script (reverse history)).blocks
-    → (is_resting stage ≡ true → HasHome (record { script = old.script; history = history; home = home; pool = pool; room = room }) t)
-    → IsPoolOf (record { script = old.script; history = history; home = home; pool = pool; room = room })
-    → room ≡ old.room
-    → IsBoard (record { script = old.script; history = history; home = home; pool = pool; room = room })
-board_moved old history home pool room t block stage task board here moved plain outside small same_len slots lasts few own pools same_room =
-    let new : Board = record { script = old.script; history = history; home = home; pool = pool; room = room } in
-    let now = (machine old.script (reverse history)).blocks in
-    record {
-      valid = board.valid;
-      built = board.built;
-      legal = moved.legal;
-      closed = moved.closed;
-      blocks = ap length moved.blocks ∙ changed_len t (set_to stage task) (machine_in old).blocks ∙ board.blocks;
-      count = same_len ∙ board.count;
-      home = λ u rests. elim (cases_eq u t) [
-        | inl same ↦ subst (λ (n : ℕ). HasHome new n) (sym same) (own (sym (ap is_resting (ap (stage_at now) same ∙ ap stage_of (moved_block old history t block stage task here moved))) ∙ rests))
-        | inr other ↦
-            let stays = moved_other old history t block stage task moved u other in
-            home_stays old new u refl (slots u other) (ap task_of_state stays) (lasts u other) (board.home u (sym (ap (λ (b : Option BlockState). is_resting (stage_of b)) stays) ∙ rests))
-      ];
-      plain = plain_changed t (set_to stage task) (machine_in old).blocks now block here moved.blocks board.plain (record { stage = plain; pending = refl; outside = outside; small = small });
-      events = few;
-      pool = pools;
-      room = subst (λ (n : ℕ). most_events old.script ≤ n) (sym same_room) board.room;
-    }
+-- the marks after a turn don't go by the place
+next_marks : (private : PrivateTask) → marks_after (next_line private) ≡ marks_after private
+unfolding marks_after
+next_marks private = refl
+
+-- nor by the marks before
+pub parked_marks : (private : PrivateTask) → marks_after (parked private) ≡ marks_after private
+unfolding marks_after
+parked_marks private = refl
+
+-- a child has its parent's registers whether that is parked or not
+pub parked_child : (private : PrivateTask) → child_of (parked private) ≡ child_of private
+unfolding child_of
+parked_child private = refl
+
+-- the task is whole behind its line
+next_whole : (rows : List Row) (task : Task) → IsTask rows task → IsTask rows (record task { place = task.place + 1 })
+next_whole rows task whole = record { frame = whole.frame; buffer = whole.buffer; some = whole.some; area = whole.area }
+
+-- it is valid there
+next_valid : (rows : List Row) (private : PrivateTask) → IsPrivateTask rows (parked private) → IsPrivateTask rows (parked (next_line private))
+next_valid rows private valid = record {
+  file = valid.file;
+  tiles_are = valid.tiles_are;
+  frame_size = valid.frame_size;
+  frame_bytes = valid.frame_bytes;
+  buffer_size = valid.buffer_size;
+  buffer_bytes = valid.buffer_bytes;
+}
+
+-- it is parked there
+next_parked : (rows : List Row) (task : Task) (private : PrivateTask) → IsParked rows task (parked private) → IsParked rows (record task { place = task.place + 1 }) (parked (next_line private))
+next_parked rows task private parked_is = record {
+  valid = next_valid rows private parked_is.valid;
+  flag = parked_is.flag;
+  form = ap (λ (p : PrivateTask). record p { marks = marks_after (next_line private); place = p.place + 1 }) parked_is.form;
+  stands = parked_is.stands;
+  pkru = parked_is.pkru;
+  marks = next_marks private ∙ parked_is.marks;
+}
+
+-- a task that is home stays so behind its outer line
+pub moved_home : (close : Close) (user : Bool) (rows : List Row) (task : Task) (private : PrivateTask) → IsHome user rows task (parked private) → IsHome user rows (moved_on close task) (parked (task_closed close private))
+moved_home Quantum user rows task private home = home
+moved_home Yield user rows task private home = home
+moved_home (Outer child) true rows task private home = record { whole = next_whole rows task home.whole; parked = next_parked rows task private home.parked }
+moved_home (Outer child) false rows task private home = record { lease = home.lease; frame = home.frame; buffer = home.buffer; place = ap (λ (n : ℕ). n + 1) home.place }
+moved_home End user rows task private home = home
+
+-- ---- children
+
+-- the block is the child, or not
+pub fork_cases : (child : Option ℕ) (u : ℕ) → (child ≡ Some u) ⊎ (child ≡ Some u → ⊥)
+fork_cases None u = inr (λ e. absurd (cc e))
+fork_cases (Some child) u = elim (cases_eq child u) [
+  | inl same ↦ inl (ap Some same)
+  | inr other ↦ inr (λ e. other (same_Some child u e))
+]

@@ -1,207 +1,371 @@
 -- What a board is after a task came back.
-use Rattle.std.proofs.Common.{◌≡◌, ℕ, ◌+◌, ◌-◌, ◌<◌, ◌≤◌, Bool, true, false, ◌&&◌, List, [], ◌∷◌, ◌++◌, length, reverse, refl, sym, ap, ◌∙◌, subst, arith, ne_eqb, length-append}
-use Rattle.std.proofs.lemmas.List.{get_or-set_same, get_or-set_other, length-set}
-use Rattle.std.specs.Prelude.{Option, Some, None, slice_get, slice_index_or}
-use Rattle.xs_area.specs.declared.area.Lease.{Lease}
-use Rattle.xs_base.specs.declared.class.Class.TheVariants.{Small}
-use Rattle.xs_base.specs.Task.{PrivateTask}
+use Rattle.std.proofs.Common.{◌≡◌, ℕ, ◌+◌, ◌<◌, ◌≤◌, ◌^◌, Bool, true, false, ◌&&◌, List, [], ◌∷◌, length, reverse, refl, sym, ap, ◌∙◌, subst, arith, inl, inr, ne_eqb, length-append}
+use Rattle.std.proofs.lemmas.Bool.{cases_eq}
+use Rattle.std.proofs.lemmas.List.{get_or-set_same}
+use Rattle.std.proofs.lemmas.Option.{same_Some}
+use Rattle.std.specs.Prelude.{◌⊎◌, Option, Some, None, IfSome, if◌then◌else◌, slice_get, slice_index_or}
+use Rattle.xs_base.specs.Task.{PrivateTask, child_of}
 use Rattle.xs_model.specs.declared.event.Event.{Event}
+use Rattle.xs_model.specs.declared.script.Block.{Block}
+use Rattle.xs_model.specs.declared.script.Order.{Order}
 use Rattle.xs_model.specs.declared.stage.Stage.{Stage}
-use Rattle.xs_model.specs.declared.stage.Stage.TheVariants.{Turn}
+use Rattle.xs_model.specs.declared.stage.Stage.TheVariants.{Unborn, Ready, Turn}
+use Rattle.xs_model.specs.Bound.{most_events}
+use Rattle.xs_model.specs.Laws.{IsPlainBlock}
+use Rattle.xs_model.specs.Line.{line_at}
 use Rattle.xs_model.specs.Machine.{machine, IsLegalPast}
-use Rattle.xs_model.specs.Replay.{entry, runner}
-use Rattle.xs_model.specs.Script.{is_user}
+use Rattle.xs_model.specs.Note.{last}
+use Rattle.xs_model.specs.Ready.{ready_list}
+use Rattle.xs_model.specs.Replay.{runner}
+use Rattle.xs_model.specs.Script.{command_at, command_of, is_user}
 use Rattle.xs_model.specs.State.{BlockState, is_ready, is_on_cpu, lives, stage_at, stage_of, turn_cpu}
-use Rattle.xs_pool.specs.Pool.{Pool, returned}
+use Rattle.xs_pool.specs.Pool.{Pool}
 use Rattle.xs_task.specs.declared.task.Task.{Task}
+use Rattle.xs_task.specs.TaskArea.{IsTask}
 use Rattle.xs_board.specs.declared.turn.Entry.{Entry}
 use Rattle.xs_board.specs.declared.turn.Close.{Close}
-use Rattle.xs_board.specs.declared.turn.Close.TheVariants.{Quantum, Yield, End}
-use Rattle.xs_board.specs.Board.{Board, IsBoard, IsKeptBeside, HasHome, past_of, machine_in, private_after, task_of_state, is_plain, tally, living, living_users, one}
+use Rattle.xs_board.specs.declared.turn.Close.TheVariants.{Quantum, Yield, Outer, End}
+use Rattle.xs_board.specs.Board.{Board, IsBoard, IsKeptBeside, HasHome, WasBorn, past_of, machine_in, private_in, private_with, private_after, private_closed, task_of_state, tally, living, areas, holds_area, one}
 use Rattle.xs_board.specs.Home.{IsHome, is_resting}
-use Rattle.xs_board.specs.Spent.{AreFew}
-use Rattle.xs_board.specs.Putting.{home_after, ready_after, living_after, pool_after}
-use Rattle.xs_board.specs.Turn.{turn_events, stage_closed}
-use Rattle.xs_board.proofs.Lists.{append_nil}
-use Rattle.xs_board.proofs.Runners.{runner_leaves}
-use Rattle.xs_board.proofs.Turning.{HasLeft, itself_if, onto, set_to}
-use Rattle.xs_board.proofs.Moving.{HasMoved, reverse_onto_past, moved_block, moved_other, moved_turns, moved_tally, board_moved}
-use Rattle.xs_board.proofs.Committing.{MayCommit, Laws, the_turn, turn_in_range, turn_few, turn_leaves, turn_replays, alone, plain_task, lease_known, some_lease}
+use Rattle.xs_board.specs.Laws.{Laws}
+use Rattle.xs_board.specs.Starts.{AreInOrder}
+use Rattle.xs_board.specs.Putting.{Bears, CanBeBorn, IfOuter, UnlessEnd, forked_there, home_after, ready_born, ready_after, living_born, living_after, moved_on, pool_after}
+use Rattle.xs_board.specs.Turn.{body_command, body_order, forked, forked_by, stage_closed, newborn, line_in, line_of}
+use Rattle.xs_board.proofs.Blocks.{each_of, existing, tally_most}
+use Rattle.xs_board.proofs.Runners.{is_on, runner_alike, runner_none}
+use Rattle.xs_board.proofs.Turning.{HasLeft, IsBearing, for_fork}
+use Rattle.xs_board.proofs.Moving.{as_many, fork_cases, home_stays, moved_home, parked_child, parked_marks}
+use Rattle.xs_board.proofs.Committing.{AtOuter, MayCommit, alone, block_known, lease_known, outer_open, place_small, plain_block, some_lease, the_turn, turn_in_range}
+use Rattle.xs_board.proofs.Closing.{closed_born, off_closed, home_length, bears_length, home_other, bears_other, home_own, moved_name, moved_last, closed_large, closed_handling, was_born, is_born, queue_born, queue_after, living_is, area_stays, pool_is, tally_left, forked_child, bears_child, whole_of, parked_of, place_of}
 
--- a close leaves a plain stage
-plain_closed : (close : Close) → is_plain (stage_closed close) ≡ true
-plain_closed Quantum = refl
-plain_closed Yield = refl
-plain_closed End = refl
+-- ---- what the board is, seen through a later past
 
--- a close ends the turn
-off_closed : (cpu : ℕ) (close : Close) → is_on_cpu cpu (turn_cpu (stage_closed close)) ≡ false
-off_closed cpu Quantum = refl
-off_closed cpu Yield = refl
-off_closed cpu End = refl
-
--- as many places
-home_length : (close : Close) (task : Task) (home : List (Option Task)) → length (home_after close task home) ≡ length home
-home_length Quantum task home = length-set home task.name (Some task)
-home_length Yield task home = length-set home task.name (Some task)
-home_length End task home = refl
-
--- the other tasks are where they were
-home_other : (close : Close) (task : Task) (home : List (Option Task)) (u : ℕ) → (u ≡ task.name → ⊥) → slice_index_or (home_after close task home) u None ≡ slice_index_or home u None
-home_other Quantum task home u other = get_or-set_other home task.name u (Some task) None other
-home_other Yield task home u other = get_or-set_other home task.name u (Some task) None other
-home_other End task home u other = refl
-
--- the task is home, if it has not ended
-home_own : (close : Close) (task : Task) (home : List (Option Task)) → task.name < length home → is_resting (stage_closed close) ≡ true → slice_index_or (home_after close task home) task.name None ≡ Some task
-home_own Quantum task home here rests = get_or-set_same home task.name (Some task) None here
-home_own Yield task home here rests = get_or-set_same home task.name (Some task) None here
-home_own End task home here rests = absurd (cc rests)
-
--- the queue as the ready list goes on
-queue_is : (close : Close) (t : ℕ) (list : List ℕ) → ready_after close t list ≡ list ++ itself_if (is_ready (stage_closed close)) t
-queue_is Quantum t list = refl
-queue_is Yield t list = refl
-queue_is End t list = sym (append_nil list)
-
--- its length
-queue_length : (close : Close) (t : ℕ) (list : List ℕ) → length (ready_after close t list) ≡ length list + one (is_ready (stage_closed close))
-queue_length Quantum t list = length-append list (t ∷ [])
-queue_length Yield t list = length-append list (t ∷ [])
-queue_length End t list = omega arith
-
--- how many live
-living_is : (close : Close) (before now : ℕ) → now + 1 ≡ before + one (lives (stage_closed close)) → living_after close before ≡ now
-living_is Quantum before now sum = omega arith
-living_is Yield before now sum = omega arith
-living_is End before now sum = omega arith
-
--- The pool, where the areas that are out are those of the living user tasks before and after the turn.
-pool_is : (close : Close) (user : Bool) (lease : Option Lease) (pool : Pool) (before now : ℕ) → pool.small.out ≡ before → now + one (user && true) ≡ before + one (user && lives (stage_closed close)) → (lease ≡ None → user ≡ false) → ((l : Lease) → lease ≡ Some l → (user ≡ true) × (l.class ≡ Small)) → pool_after close lease pool ≡ record pool { small = record pool.small { out = now } }
-pool_is Quantum user lease pool before now out sum none some = let same : pool.small.out ≡ now = omega arith in ap (λ (n : ℕ). record pool { small = record pool.small { out = n } }) same
-pool_is Yield user lease pool before now out sum none some = let same : pool.small.out ≡ now = omega arith in ap (λ (n : ℕ). record pool { small = record pool.small { out = n } }) same
-pool_is End user None pool before now out sum none some =
-    let thread : user ≡ false = none refl in
-    let was : one (user && true) ≡ 0 = ap (λ (u : Bool). one (u && true)) thread in
-    let is : one (user && false) ≡ 0 = ap (λ (u : Bool). one (u && false)) thread in
-    let same : pool.small.out ≡ now = omega arith in
-    ap (λ (n : ℕ). record pool { small = record pool.small { out = n } }) same
-pool_is End user (Some lease) pool before now out sum none some =
-    let known = some lease refl in
-    let was : one (user && true) ≡ 1 = ap (λ (u : Bool). one (u && true)) known.0 in
-    let is : one (user && false) ≡ 0 = ap (λ (u : Bool). one (u && false)) known.0 in
-    let same : pool.small.out - 1 ≡ now = omega arith in
-    ap (returned pool) known.1 ∙ ap (λ (n : ℕ). record pool { small = record pool.small { out = n } }) same
-
--- What the board is, seen through its history.
-module _ (laws : Laws) (old : Board) (history : List Event) (task : Task) (cpu : ℕ) (entries : List Entry) (close : Close) (may : MayCommit old task.name cpu entries close) (is : history ≡ old.history ++ turn_events task.name entries close) where
-  -- what the history tells, the latest first
-  said : reverse history ≡ onto (turn_events task.name entries close) (past_of old)
-  said = ap reverse is ∙ reverse_onto_past (turn_events task.name entries close) old.history
-
-  -- what the turn left
-  left : HasLeft old.script (past_of old) (reverse history) task.name (stage_closed close) (private_after old task.name entries)
-  left = subst (λ (past : List Event). HasLeft old.script (past_of old) past task.name (stage_closed close) (private_after old task.name entries)) (sym said) (turn_leaves laws old task.name cpu entries close may).0
-
-  -- the block moved
-  moved : HasMoved old.script (past_of old) (reverse history) task.name (stage_closed close) (private_after old task.name entries)
-  moved = record { legal = left.legal; closed = left.closed; blocks = left.blocks }
-
-  -- the history is legal
-  pub back_legal : IsLegalPast old.script (reverse history)
-  back_legal = left.legal
-
-  -- it is what the replay tells
-  pub back_replay : reverse history ≡ entry old.script (past_of old) cpu
-  back_replay = said ∙ sym (turn_replays laws old task.name cpu entries close may)
-
+module _ (laws : Laws) (old : Board) (t cpu : ℕ) (entries : List Entry) (close : Close) (may : MayCommit old t cpu entries close) (later : List Event) (left : HasLeft old.script (past_of old) later t close (private_with old t entries)) where
   -- the block in its turn
   abbrev block : BlockState
-  block = (the_turn old task.name cpu may.turn).0
+  block = (the_turn old t cpu may.turn).0
 
-  -- it is there
-  here : slice_get (machine_in old).blocks task.name ≡ Some block
-  here = (the_turn old task.name cpu may.turn).1
+  here : slice_get (machine_in old).blocks t ≡ Some block
+  here = (the_turn old t cpu may.turn).1
 
-  -- the block after its turn
-  back_block : slice_get (machine old.script (reverse history)).blocks task.name ≡ Some (set_to (stage_closed close) (private_after old task.name entries) block)
-  back_block = moved_block old history task.name block (stage_closed close) (private_after old task.name entries) here moved
+  -- the child, if there is one
+  abbrev newcomer : Option ℕ
+  newcomer = forked old.script t close
+
+  -- the blocks
+  abbrev now : List BlockState
+  now = (machine old.script later).blocks
+
+  -- they are as many
+  many : length now ≡ length (machine_in old).blocks
+  many = as_many laws.machine old.script (past_of old) later
 
   -- its stage
-  pub back_stage : stage_at (machine old.script (reverse history)).blocks task.name ≡ stage_closed close
-  back_stage = ap stage_of back_block
+  pub back_stage : stage_at now t ≡ stage_closed close
+  back_stage = ap stage_of left.own ∙ left.stage
 
   -- its private task
-  pub back_private : task_of_state (slice_get (machine old.script (reverse history)).blocks task.name) ≡ private_after old task.name entries
-  back_private = ap task_of_state back_block
+  pub back_private : task_of_state (slice_get now t) ≡ private_closed old t entries close
+  back_private = ap task_of_state left.own ∙ left.task_is
 
-  -- the other blocks
-  pub back_others : (u : ℕ) → (u ≡ task.name → ⊥) → slice_get (machine old.script (reverse history)).blocks u ≡ slice_get (machine_in old).blocks u
-  back_others u other = moved_other old history task.name block (stage_closed close) (private_after old task.name entries) moved u other
+  -- no handler runs, and there is no room for TILEDATA
+  pub back_small : (private_after old t entries).large ≡ false
+  back_small =
+      let plain = each_of IsPlainBlock now t left.left (laws.blocks old.script later may.is_board.built left.legal) left.own in
+      sym (closed_large close (private_with old t entries)) ∙ sym (ap (λ (p : PrivateTask). p.large) left.task_is) ∙ plain.small
+
+  back_outside : (private_with old t entries).handling ≡ false
+  back_outside =
+      let plain = each_of IsPlainBlock now t left.left (laws.blocks old.script later may.is_board.built left.legal) left.own in
+      sym (closed_handling close (private_with old t entries)) ∙ sym (ap (λ (p : PrivateTask). p.handling) left.task_is) ∙ plain.outside
+
+  -- a fork's child is in no turn
+  child_off : (c u : ℕ) → newcomer ≡ Some u → (is_on c (machine_in old).blocks u ≡ false) × (is_on c now u ≡ false)
+  child_off c u fork =
+      let born = forked_child newcomer (IsBearing old.script (past_of old) later t (private_with old t entries)) u fork left.born in (
+        ap (λ (b : Option BlockState). is_on_cpu c (turn_cpu (stage_of b))) born.1.here ∙ ap (λ (s : Stage). is_on_cpu c (turn_cpu s)) born.1.unborn,
+        ap (λ (b : Option BlockState). is_on_cpu c (turn_cpu (stage_of b))) born.2,
+      )
+
+  -- another block is as little or as much on a processor as before
+  other_on : (c u : ℕ) → (u ≡ t → ⊥) → is_on c now u ≡ is_on c (machine_in old).blocks u
+  other_on c u other = elim (fork_cases newcomer u) [
+    | inl fork ↦ let off = child_off c u fork in off.1 ∙ sym off.0
+    | inr apart ↦ ap (λ (b : Option BlockState). is_on_cpu c (turn_cpu (stage_of b))) (left.others u other apart)
+  ]
 
   -- the processor has no turn
-  pub back_free : runner cpu 0 (machine old.script (reverse history)).blocks ≡ None
-  back_free = ap (runner cpu 0) moved.blocks ∙ runner_leaves cpu 0 task.name (set_to (stage_closed close) (private_after old task.name entries)) (machine_in old).blocks block here (alone laws old task.name cpu may.is_board may.turn) (off_closed cpu close)
+  pub back_free : runner cpu 0 now ≡ None
+  back_free = runner_none cpu 0 now (λ u. elim (cases_eq u t) [
+    | inl same ↦ ap (is_on cpu now) same ∙ ap (λ (s : Stage). is_on_cpu cpu (turn_cpu s)) back_stage ∙ off_closed cpu close
+    | inr other ↦ other_on cpu u other ∙ alone laws old t cpu may.is_board may.turn u other
+  ])
 
   -- the turns of other processors
-  pub back_turns : (c : ℕ) → (c ≡ cpu → ⊥) → runner c 0 (machine old.script (reverse history)).blocks ≡ runner c 0 (machine_in old).blocks
-  back_turns c other = moved_turns old history task.name block (stage_closed close) (private_after old task.name entries) here moved c (ap (λ (s : Stage). is_on_cpu c (turn_cpu s)) (the_turn old task.name cpu may.turn).2 ∙ ne_eqb cpu c (λ (same : cpu ≡ c). other (sym same))) (off_closed c close)
+  pub back_turns : (c : ℕ) → (c ≡ cpu → ⊥) → runner c 0 now ≡ runner c 0 (machine_in old).blocks
+  back_turns c apart = runner_alike c 0 (machine_in old).blocks now many (λ u. elim (cases_eq u t) [
+    | inl same ↦
+        ap (is_on c now) same
+        ∙ ap (λ (s : Stage). is_on_cpu c (turn_cpu s)) back_stage
+        ∙ off_closed c close
+        ∙ sym (ap (is_on c (machine_in old).blocks) same ∙ ap (λ (s : Stage). is_on_cpu c (turn_cpu s)) may.turn ∙ ne_eqb cpu c (λ (e : cpu ≡ c). apart (sym e)))
+    | inr other ↦ other_on c u other
+  ])
 
   -- how many blocks are such
-  back_tally : (such : ℕ → Stage → Bool) → tally such 0 (machine old.script (reverse history)).blocks + one (such task.name (Turn cpu 0)) ≡ tally such 0 (machine_in old).blocks + one (such task.name (stage_closed close))
+  back_tally : (such : ℕ → Stage → Bool) → tally such 0 now + one (such t (Turn cpu 0)) + was_born newcomer such ≡ tally such 0 (machine_in old).blocks + one (such t (stage_closed close)) + is_born newcomer such
   back_tally such =
-      ap (λ (s : Stage). tally such 0 (machine old.script (reverse history)).blocks + one (such task.name s)) (sym (the_turn old task.name cpu may.turn).2)
-      ∙ moved_tally old history task.name block (stage_closed close) (private_after old task.name entries) here moved such
+      let sum = tally_left newcomer such t (private_with old t entries) (machine_in old).blocks now block left.left many here left.own left.others
+      (for_fork newcomer (IsBearing old.script (past_of old) later t (private_with old t entries)) (λ child. (state : BlockState) × (slice_get (machine_in old).blocks child ≡ Some state) × (state.stage ≡ Unborn) × (t ≡ child → ⊥) × (slice_get now child ≡ Some (newborn t (private_with old t entries)))) (λ child fork bearing. (bearing.0, bearing.1.here, bearing.1.unborn, bearing.1.apart, bearing.2)) left.born) in
+      let before : one (such t block.stage) ≡ one (such t (Turn cpu 0)) = ap (λ (s : Stage). one (such t s)) (the_turn old t cpu may.turn).2 in
+      let after : one (such t left.left.stage) ≡ one (such t (stage_closed close)) = ap (λ (s : Stage). one (such t s)) left.stage in
+      omega (arith, sum, before, after)
 
-  -- the board with the task, or without it
-  module _ (home : IsHome (is_user old.script task.name) old.script.layout task (private_after old task.name entries)) (last_is : is_user old.script task.name ≡ true → task.last ≡ Some cpu) where
-    -- the pool
-    back_pool : pool_after close task.lease old.pool ≡ record old.pool { small = record old.pool.small { out = tally (λ v stage. is_user old.script v && lives stage) 0 (machine old.script (reverse history)).blocks } }
-    back_pool =
-        pool_is close (is_user old.script task.name) task.lease old.pool (living_users old) _ may.is_board.pool.small (back_tally (λ v stage. is_user old.script v && lives stage))
-        (some_lease (is_user old.script task.name) old.script.layout task (private_after old task.name entries) home)
-        (λ lease there.
-        let known = lease_known (is_user old.script task.name) old.script.layout task (private_after old task.name entries) home (plain_task old task.name cpu may.is_board may.turn entries).1 lease there in
-        (known.0, known.1))
+  -- the queue is as long as blocks are ready, and the count is that of those that live
+  back_queue : (list : List ℕ) → length list ≡ tally (λ v stage. is_ready stage) 0 (machine_in old).blocks → length (ready_after close t (ready_born newcomer list)) ≡ tally (λ v stage. is_ready stage) 0 now
+  back_queue list before =
+      let sum = back_tally (λ v stage. is_ready stage) in
+      let long = queue_after close t (ready_born newcomer list) in
+      let born = queue_born newcomer list in
+      omega (arith, sum, long, born, before)
 
-    -- the task is home
-    back_home : (pool : Pool) (room : ℕ) → is_resting (stage_closed close) ≡ true → HasHome (record { script = old.script; history = history; home = home_after close task old.home; pool = pool; room = room }) task.name
-    back_home pool room rests =
-        let in_range = turn_in_range old task.name cpu may.is_board may.turn in
-        let count = may.is_board.count in (
-          task,
-          home_own close task old.home (omega arith) rests,
-          record {
-            name = refl;
-            stands = subst (λ (p : PrivateTask). IsHome (is_user old.script task.name) old.script.layout task p) (sym back_private) home;
-            last = λ user. last_is user ∙ sym (left.last task.name ∙ (laws.known old.script (past_of old) cpu task.name may.is_board.valid may.is_board.legal (ap turn_cpu may.turn)).1);
-          },
-        )
+  -- it has room for every block
+  pub back_room : (list : List ℕ) (capacity count : ℕ) → IsKeptBeside old list capacity count → length (ready_after close t (ready_born newcomer list)) ≤ capacity
+  back_room list capacity count kept =
+      let long = back_queue list kept.ready in
+      let most = tally_most (λ v stage. is_ready stage) 0 now in
+      let all = (laws.machine old.script later).2 in
+      let fits = kept.fits in
+      omega (arith, long, most, all, fits)
 
-    pub board_back : (pool : Pool) (room : ℕ) → pool ≡ pool_after close task.lease old.pool → room ≡ old.room → IsBoard (record { script = old.script; history = history; home = home_after close task old.home; pool = pool; room = room })
-    board_back pool room pool_after_is same_room =
-        let now = plain_task old task.name cpu may.is_board may.turn entries in
-        let pool_now = pool_after_is ∙ back_pool in
-        let few_now = subst (λ (n : ℕ). AreFew old.script n (machine old.script (reverse history)).blocks) (sym (ap length is ∙ length-append old.history (turn_events task.name entries close)))
-        (subst (λ (past : List Event). AreFew old.script (length old.history + length (turn_events task.name entries close)) (machine old.script past).blocks) (sym said) (turn_few laws old task.name cpu entries close may)) in
-        board_moved old history (home_after close task old.home) pool room task.name block (stage_closed close) (private_after old task.name entries) may.is_board here moved
-        (plain_closed close) now.0 now.1 (home_length close task old.home) (home_other close task old.home) (λ u other. left.last u) few_now (back_home pool room)
-        (record {
-          rows = ap (λ (p : Pool). p.rows) pool_now ∙ may.is_board.pool.rows;
-          small = ap (λ (p : Pool). p.small.out) pool_now;
-          large = ap (λ (p : Pool). p.large.out) pool_now ∙ may.is_board.pool.large;
-          given = subst (λ (n : ℕ). n ≤ length old.script.blocks) (sym (ap (λ (p : Pool). p.given) pool_now)) may.is_board.pool.given;
-        })
-        same_room
+  -- ---- the birth
 
-    pub beside_back : (pool : Pool) (room : ℕ) (list : List ℕ) (capacity count : ℕ) → IsKeptBeside old list capacity count → IsKeptBeside (record { script = old.script; history = history; home = home_after close task old.home; pool = pool; room = room }) (ready_after close task.name list) capacity (living_after close count)
-    beside_back pool room list capacity count kept =
-        let ready_sum = back_tally (λ v stage. is_ready stage) in
-        let before = kept.ready in
-        let long = queue_length close task.name list in
+  -- what was born
+  pub back_born : (new : Board) → (machine_in new).blocks ≡ now → IfSome newcomer (λ child. WasBorn t (private_with old t entries) child old new)
+  back_born new same = for_fork newcomer (IsBearing old.script (past_of old) later t (private_with old t entries)) (λ child. WasBorn t (private_with old t entries) child old new) (λ child fork bearing. record {
+    unborn = ap stage_of bearing.1.here ∙ bearing.1.unborn;
+    fresh = laws.unseen old.script (past_of old) child may.is_board.valid may.is_board.legal (ap stage_of bearing.1.here ∙ bearing.1.unborn);
+    apart = λ (e : child ≡ t). bearing.1.apart (sym e);
+    parent_user = bearing.1.parent_user;
+    child_user = bearing.1.child_user;
+    state = ap (λ (all : List BlockState). slice_get all child) same ∙ bearing.2;
+  }) left.born
+
+  -- the other blocks
+  pub back_others : (new : Board) → (machine_in new).blocks ≡ now → (u : ℕ) → (u ≡ t → ⊥) → (slice_get (machine_in new).blocks u ≡ slice_get (machine_in old).blocks u) ⊎ ((newcomer ≡ Some u) × WasBorn t (private_with old t entries) u old new)
+  back_others new same u other = elim (fork_cases newcomer u) [
+    | inl fork ↦ inr (fork, forked_child newcomer (λ v. WasBorn t (private_with old t entries) v old new) u fork (back_born new same))
+    | inr apart ↦ inl (ap (λ (all : List BlockState). slice_get all u) same ∙ left.others u other apart)
+  ]
+
+  -- the task of the child
+  child_home : (child : ℕ) → IsBearing old.script (past_of old) later t (private_with old t entries) child → HasHome old child
+  child_home child bearing =
+      may.is_board.home child (ap (λ (b : Option BlockState). is_resting (stage_of b)) bearing.1.here ∙ ap is_resting bearing.1.unborn) (block_known laws.machine old child bearing.0 bearing.1.here)
+
+  -- can be born
+  pub fork_child : IfSome newcomer (λ child. (before : Task) × (slice_index_or old.home child None ≡ Some before) × CanBeBorn old.script.layout before)
+  fork_child = for_fork newcomer (IsBearing old.script (past_of old) later t (private_with old t entries)) (λ child. (before : Task) × (slice_index_or old.home child None ≡ Some before) × CanBeBorn old.script.layout before) (λ child fork bearing.
+      let home = child_home child bearing in
+      let plain = plain_block laws old child bearing.0 may.is_board bearing.1.here in
+      let small : (private_in old child).large ≡ false = ap (λ (b : Option BlockState). (task_of_state b).large) bearing.1.here ∙ plain.small in (
+        home.0,
+        home.1,
         record {
-          queue = queue_is close task.name list ∙ ap (λ (l : List ℕ). l ++ itself_if (is_ready (stage_closed close)) task.name) kept.queue ∙ sym left.ready;
-          ready = omega arith;
-          fits = kept.fits;
-          alive = ap (living_after close) kept.alive ∙ living_is close (living old) _ (back_tally (λ v stage. lives stage));
-        }
+          whole = whole_of (is_user old.script child) old.script.layout home.0 (private_in old child) bearing.1.child_user home.2.stands;
+          small = λ lease there. (lease_known (is_user old.script child) old.script.layout home.0 (private_in old child) home.2.stands small lease there).1;
+          clear = home.2.clear (ap stage_of bearing.1.here ∙ bearing.1.unborn);
+        },
+      )) left.born
+
+  -- it has a place
+  pub fork_known : IfSome newcomer (λ child. child < length old.home)
+  fork_known = for_fork newcomer (IsBearing old.script (past_of old) later t (private_with old t entries)) (λ child. child < length old.home) (λ child fork bearing.
+      let known = block_known laws.machine old child bearing.0 bearing.1.here in
+      let count = may.is_board.count in
+      omega (arith, known, count)) left.born
+
+  -- the queue has room for it
+  pub fork_room : (list : List ℕ) (capacity count : ℕ) → IsKeptBeside old list capacity count → IfSome newcomer (λ child. length list < capacity)
+  fork_room list capacity count kept =
+      let room = back_room list capacity count kept in
+      let long = queue_after close t (ready_born newcomer list) in
+      for_born newcomer (omega (arith, room, long))
+    where
+      for_born : (born : Option ℕ) → length (ready_born born list) ≤ capacity → IfSome born (λ child. length list < capacity)
+      for_born None room = tt
+      for_born (Some child) room = let long = length-append list (child ∷ []) in omega (arith, room, long)
+
+  -- and then for its parent
+  pub put_room : (list : List ℕ) (capacity count : ℕ) → IsKeptBeside old list capacity count → UnlessEnd close (length (ready_born newcomer list) < capacity)
+  put_room list capacity count kept =
+      let room = back_room list capacity count kept in
+      by_close close (ready_born newcomer list) room
+    where
+      by_close : (c : Close) (l : List ℕ) → length (ready_after c t l) ≤ capacity → UnlessEnd c (length l < capacity)
+      by_close Quantum l room = let long = length-append l (t ∷ []) in omega (arith, room, long)
+      by_close Yield l room = let long = length-append l (t ∷ []) in omega (arith, room, long)
+      by_close (Outer line) l room = let long = length-append l (t ∷ []) in omega (arith, room, long)
+      by_close End l room = tt
+
+  -- ---- the task that comes back
+
+  module _ (task : Task) (name : task.name ≡ t) (home : IsHome (is_user old.script t) old.script.layout task (private_after old t entries)) where
+    -- it is whole at a fork
+    pub fork_parent : IfSome newcomer (λ child. IsTask old.script.layout task)
+    fork_parent = for_fork newcomer (IsBearing old.script (past_of old) later t (private_with old t entries)) (λ child. IsTask old.script.layout task) (λ child fork bearing.
+        whole_of (is_user old.script t) old.script.layout task (private_after old t entries) bearing.1.parent_user home) left.born
+
+    -- an outer line is at its place
+    at_outer : AtOuter old.script t close (private_with old t entries)
+    at_outer = outer_open old.script t entries close (private_in old t) 0 may.lines
+
+    at_line : (order : Order) → line_of old.script t (private_with old t entries) ≡ Some order → (lines : Block) × (slice_get old.script.blocks t ≡ Some lines) × (slice_get lines.body task.place ≡ Some order)
+    at_line order at =
+        let lines = existing old.script.blocks t (turn_in_range laws old t cpu may.is_board may.turn) in
+        let place : (private_with old t entries).place ≡ task.place = sym (place_of (is_user old.script t) old.script.layout task (private_after old t entries) home) in
+        let there : line_at lines.0 (private_with old t entries) ≡ Some order = sym (ap (λ (l : Option Block). line_in l (private_with old t entries)) lines.1) ∙ at in
+        (lines.0, lines.1, ap (slice_get lines.0.body) (sym place) ∙ sym (ap (λ (b : Bool). slice_get (if b then lines.0.handler else lines.0.body) (private_with old t entries).place) back_outside) ∙ there)
+
+    -- the code finds the child there
+    pub fork_found : forked_there close (forked_by old.script (body_command old.script t task.place)) ≡ newcomer
+    fork_found = by_close close at_outer
+      where
+        by_close : (c : Close) → AtOuter old.script t c (private_with old t entries) → forked_there c (forked_by old.script (body_command old.script t task.place)) ≡ forked old.script t c
+        by_close Quantum at = refl
+        by_close Yield at = refl
+        by_close (Outer line) at =
+            let order = at.0 in
+            let there = at_line order at.1.at in
+            let private : line_at there.0 (private_with old t entries) ≡ Some order = sym (ap (λ (l : Option Block). line_in l (private_with old t entries)) there.1) ∙ at.1.at in
+            ap (λ (b : Option Block). forked_by old.script (command_of (body_order b task.place))) there.1
+            ∙ ap (λ (o : Option Order). forked_by old.script (command_of o)) there.2
+            ∙ ap (forked_by old.script) (sym (laws.found old.script t there.0 (private_with old t entries) order may.is_board.valid there.1 private))
+            ∙ ap (λ (n : ℕ). forked_by old.script (command_at old.script t n)) at.1.number
+        by_close End at = refl
+
+    -- the next place is a number of 32 bits
+    pub fork_place : IfOuter close (task.place + 1 < 2 ^ 32)
+    fork_place = by_close close at_outer
+      where
+        by_close : (c : Close) → AtOuter old.script t c (private_with old t entries) → IfOuter c (task.place + 1 < 2 ^ 32)
+        by_close Quantum at = tt
+        by_close Yield at = tt
+        by_close (Outer line) at = let there = at_line at.0 at.1.at in place_small old.script t task.place there.0 at.0 may.is_board.valid there.1 there.2
+        by_close End at = tt
+
+    -- as it goes back
+    abbrev back : Task
+    back = moved_on close task
+
+    -- it stands for the private task behind its line
+    pub back_stands : IsHome (is_user old.script t) old.script.layout back (private_closed old t entries close)
+    back_stands = moved_home close (is_user old.script t) old.script.layout task (private_with old t entries) home
+
+    -- its private task has no room for TILEDATA
+    pub closed_small : (private_closed old t entries close).large ≡ false
+    closed_small = closed_large close (private_with old t entries) ∙ back_small
+
+    module _ (history : List Event) (is : reverse history ≡ later) (last_is : is_user old.script t ≡ true → task.last ≡ Some cpu) (bearing : List (Option Task)) (bears : Bears newcomer old.script.layout task old.home bearing) (pool : Pool) (room : ℕ) where
+      -- the board
+      abbrev new : Board
+      new = record { script = old.script; history = history; home = home_after close back bearing; pool = pool; room = room }
+
+      same_blocks : (machine_in new).blocks ≡ now
+      same_blocks = ap (λ (past : List Event). (machine old.script past).blocks) is
+
+      -- the pool
+      pub back_pool : pool_after close back.lease old.pool ≡ record old.pool { small = record old.pool.small { out = areas new } }
+      back_pool =
+          let sum = back_tally (λ v stage. is_user old.script v && holds_area stage) in
+          let stays = area_stays newcomer (is_user old.script) in
+          let out : areas new ≡ tally (λ v stage. is_user old.script v && holds_area stage) 0 now = ap (tally (λ v stage. is_user old.script v && holds_area stage) 0) same_blocks in
+          pool_is close (is_user old.script t) back.lease old.pool (areas old) (areas new) may.is_board.pool.small (omega (arith, sum, stays, out))
+          (some_lease (is_user old.script t) old.script.layout back (private_closed old t entries close) back_stands)
+          (λ lease there.
+          let known = lease_known (is_user old.script t) old.script.layout back (private_closed old t entries close) back_stands closed_small lease there in
+          (known.0, known.1))
+
+      -- the task is home
+      own_home : is_resting (stage_closed close) ≡ true → HasHome new t
+      own_home rests =
+          let in_range = turn_in_range laws old t cpu may.is_board may.turn in
+          let count = may.is_board.count in
+          let long = bears_length newcomer old.script.layout task old.home bearing bears in
+          let same : back.name ≡ t = moved_name close task ∙ name in (
+            back,
+            ap (λ (n : ℕ). slice_index_or (home_after close back bearing) n None) (sym same) ∙ home_own close back bearing (omega (arith, in_range, count, long, same)) rests,
+            record {
+              name = same;
+              stands = subst (λ (p : PrivateTask). IsHome (is_user old.script t) old.script.layout back p) (sym (ap (λ (all : List BlockState). task_of_state (slice_get all t)) same_blocks ∙ back_private)) back_stands;
+              last = λ user. moved_last close task ∙ last_is user ∙ sym (ap (λ (past : List Event). last old.script past t) is ∙ left.last_is t ∙ (laws.known old.script (past_of old) cpu t may.is_board.valid may.is_board.legal (ap turn_cpu may.turn)).1);
+              clear = λ unborn. closed_born close (sym (ap (λ (all : List BlockState). stage_at all t) same_blocks ∙ back_stage) ∙ unborn);
+            },
+          )
+
+      -- so is the child's
+      born_home : (u : ℕ) → (u ≡ t → ⊥) → newcomer ≡ Some u → HasHome new u
+      born_home u other fork =
+          let at = forked_child newcomer (IsBearing old.script (past_of old) later t (private_with old t entries)) u fork left.born in
+          let was = child_home u at in
+          let child = bears_child newcomer old.script.layout task old.home bearing bears u fork in
+          let same : was.0 ≡ child.0 = same_Some was.0 child.0 (sym was.1 ∙ child.2) in
+          let known = block_known laws.machine old u at.0 at.1.here in
+          let count = may.is_board.count in
+          let parent = parked_of (is_user old.script t) old.script.layout task (private_after old t entries) at.1.parent_user home in
+          let private : private_in new u ≡ child_of (private_after old t entries) = ap (λ (all : List BlockState). task_of_state (slice_get all u)) same_blocks ∙ ap task_of_state at.2 ∙ sym (parked_child (private_with old t entries)) in (
+            child.1,
+            home_other close back bearing u (λ (e : u ≡ back.name). other (e ∙ moved_name close task ∙ name))
+                ∙ ap (λ (h : List (Option Task)). slice_index_or h u None) child.3
+                ∙ get_or-set_same old.home u (Some child.1) None (omega (arith, known, count)),
+            record {
+              name = child.4.name ∙ sym (ap (λ (x : Task). x.name) same) ∙ was.2.name;
+              stands = subst (λ (p : PrivateTask). IsHome (is_user old.script u) old.script.layout child.1 p) (sym private)
+                  (subst (λ (b : Bool). IsHome b old.script.layout child.1 (child_of (private_after old t entries))) (sym at.1.child_user)
+                  (record { whole = child.4.whole; parked = child.4.stands (private_after old t entries) parent (sym (parked_marks (private_with old t entries))) }));
+              last = λ user. child.4.last ∙ sym (ap (λ (past : List Event). last old.script past u) is ∙ left.last_is u ∙ (laws.unseen old.script (past_of old) u may.is_board.valid may.is_board.legal (ap stage_of at.1.here ∙ at.1.unborn)).last);
+              clear = λ unborn. let e : Ready ≡ Unborn = sym (ap (λ (all : List BlockState). stage_at all u) same_blocks ∙ ap stage_of at.2) ∙ unborn in absurd (cc e);
+            },
+          )
+
+      -- the board is one again
+      pub board_back : pool ≡ pool_after close back.lease old.pool → room ≡ old.room → IsBoard new
+      board_back pool_is_after same_room =
+          let was = may.is_board in
+          let pool_now = pool_is_after ∙ back_pool in
+          record {
+            valid = was.valid;
+            built = was.built;
+            legal = subst (IsLegalPast old.script) (sym is) left.legal;
+            order = subst (AreInOrder old.script) (sym is) (left.order was.order);
+            closed = ap (λ (past : List Event). (machine old.script past).committing) is ∙ left.closed;
+            count = home_length close back bearing ∙ bears_length newcomer old.script.layout task old.home bearing bears ∙ was.count;
+            home = λ u rests known. elim (cases_eq u t) [
+              | inl same ↦ subst (λ (n : ℕ). HasHome new n) (sym same) (own_home (sym (ap is_resting (ap (λ (all : List BlockState). stage_at all u) same_blocks ∙ ap (stage_at now) same ∙ back_stage)) ∙ rests))
+              | inr other ↦ elim (fork_cases newcomer u) [
+                | inl fork ↦ born_home u other fork
+                | inr apart ↦
+                    let stays = ap (λ (all : List BlockState). slice_get all u) same_blocks ∙ left.others u other apart in
+                    home_stays old new u refl (home_other close back bearing u (λ (e : u ≡ back.name). other (e ∙ moved_name close task ∙ name)) ∙ bears_other newcomer old.script.layout task old.home bearing bears u apart)
+                    stays (ap (λ (past : List Event). last old.script past u) is ∙ left.last_is u)
+                    (was.home u (sym (ap (λ (b : Option BlockState). is_resting (stage_of b)) stays) ∙ rests) known)
+              ]
+            ];
+            pool = record {
+              rows = ap (λ (p : Pool). p.rows) pool_now ∙ was.pool.rows;
+              small = ap (λ (p : Pool). p.small.out) pool_now;
+              large = ap (λ (p : Pool). p.large.out) pool_now ∙ was.pool.large;
+              given = subst (λ (n : ℕ). n ≤ length old.script.blocks) (sym (ap (λ (p : Pool). p.given) pool_now)) was.pool.given;
+            };
+            room = subst (λ (n : ℕ). most_events old.script ≤ n) (sym same_room) was.room;
+          }
+
+      -- what is kept beside it
+      pub beside_back : (list : List ℕ) (capacity count : ℕ) → IsKeptBeside old list capacity count → IsKeptBeside new (ready_after close t (ready_born newcomer list)) capacity (living_after close (living_born newcomer count))
+      beside_back list capacity count kept =
+          record {
+            queue = ap (λ (l : List ℕ). ready_after close t (ready_born newcomer l)) kept.queue ∙ sym (ap (ready_list old.script) is ∙ left.ready);
+            ready = back_queue list kept.ready ∙ sym (ap (tally (λ v stage. is_ready stage) 0) same_blocks);
+            fits = kept.fits;
+            alive = ap (λ (n : ℕ). living_after close (living_born newcomer n)) kept.alive ∙ living_is close newcomer (living old) (tally (λ v stage. lives stage) 0 now) (back_tally (λ v stage. lives stage)) ∙ sym (ap (tally (λ v stage. lives stage) 0) same_blocks);
+          }

@@ -9,9 +9,9 @@ use Rattle.xs_model.specs.Line.{local_after}
 use Rattle.xs_model.specs.Machine.{goes_on}
 use Rattle.xs_board.specs.declared.turn.Entry.{Entry}
 use Rattle.xs_board.specs.declared.turn.Close.{Close}
-use Rattle.xs_board.specs.declared.turn.Close.TheVariants.{End}
-use Rattle.xs_board.proofs.Lists.{append_nil}
-use Rattle.xs_board.specs.Turn.{AreAfter, AreLines, HaveRun, IsEntry, after_line, closed_by, line_of, task_after}
+use Rattle.xs_board.specs.declared.turn.Close.TheVariants.{End, Outer}
+use Rattle.std.proofs.lemmas.List.{append-nil}
+use Rattle.xs_board.specs.Turn.{AreAfter, AreLines, HaveRun, IsEntry, IsOuterLine, after_line, closed_by, line_of, task_after}
 
 -- the task after two parts of a turn
 task_append : (script : Script) (t : ℕ) (task : PrivateTask) (xs ys : List Entry) → task_after script t task (xs ++ ys) ≡ task_after script t (task_after script t task xs) ys
@@ -45,7 +45,12 @@ pub last_one : (script : Script) (t : ℕ) (first : PrivateTask) (entries : List
 last_one script t first entries task ran entry order run is off =
     run.follow (entry ∷ []) (closed_by order.command) (order, is, over (goes_on script order.command ran) order.command (AreLines script t (local_after task order.command) (ran + 1) [] (closed_by order.command)) off)
 
+-- the next line is outer
+pub at_outer : (script : Script) (t : ℕ) (first : PrivateTask) (entries : List Entry) (task : PrivateTask) (ran line : ℕ) (order : Order) → HaveRun script t first entries task ran → IsOuterLine script t task line order → AreLines script t first 0 entries (Outer line)
+at_outer script t first entries task ran line order run is =
+    subst (λ (all : List Entry). AreLines script t first 0 all (Outer line)) (append-nil entries) (run.follow [] (Outer line) (order, is))
+
 -- no line is left
 pub at_end : (script : Script) (t : ℕ) (first : PrivateTask) (entries : List Entry) (task : PrivateTask) (ran : ℕ) → HaveRun script t first entries task ran → line_of script t task ≡ None → task.handling ≡ false → AreLines script t first 0 entries End
 at_end script t first entries task ran run none outside =
-    subst (λ (all : List Entry). AreLines script t first 0 all End) (append_nil entries) (run.follow [] End (none, outside))
+    subst (λ (all : List Entry). AreLines script t first 0 all End) (append-nil entries) (run.follow [] End (none, outside))

@@ -1,5 +1,5 @@
 -- What a board has before its first event.
-use Rattle.std.specs.Prelude.{◌≡◌, ℕ, zero, suc, ◌+◌, ◌<◌, true, List, [], ◌∷◌, slice_get, slice_index_or, Option, Some, None}
+use Rattle.std.specs.Prelude.{◌≡◌, ℕ, ◌+◌, ◌<◌, true, List, [], ◌∷◌, ◌++◌, slice_get, slice_index_or, Option, Some, None}
 use Rattle.xs_base.specs.declared.class.Class.TheVariants as classes
 use Rattle.xs_base.specs.declared.component.Row.{Row}
 use Rattle.xs_base.specs.Task.{root_task}
@@ -21,10 +21,26 @@ abbrev pub users_in : List Block → ℕ
 users_in [] = 0
 users_in (block ∷ blocks) = one_user block.kind + users_in blocks
 
--- so many numbers, from one on
-abbrev pub numbers_from : ℕ → ℕ → List ℕ
-numbers_from first zero = []
-numbers_from first (suc count) = first ∷ numbers_from (first + 1) count
+-- how many of the blocks are born before the first event: a child isn't
+abbrev pub one_born : BlockKind → ℕ
+one_born Task = 1
+one_born Child = 0
+one_born Kthread = 1
+
+abbrev pub born_in : List Block → ℕ
+born_in [] = 0
+born_in (block ∷ blocks) = one_born block.kind + born_in blocks
+
+-- the number of a block, if it is born then
+abbrev pub born_if : BlockKind → ℕ → List ℕ
+born_if Task i = i ∷ []
+born_if Child i = []
+born_if Kthread i = i ∷ []
+
+-- the numbers of these blocks, from number i on
+abbrev pub born_from : ℕ → List Block → List ℕ
+born_from i [] = []
+born_from i (block ∷ blocks) = born_if block.kind i ++ born_from (i + 1) blocks
 
 -- The task of a block of the kind and of this number, before the first event.
 pub record IsFirstTask (rows : List Row) (kind : BlockKind) (name : ℕ) (task : tasks.Task) : Type 0 where

@@ -1,5 +1,5 @@
 -- What a processor gets that asks for a turn.
-use Rattle.std.specs.Prelude.{◌≡◌, ℕ, Bool, true, false, List, ◌∷◌, None}
+use Rattle.std.specs.Prelude.{◌≡◌, ℕ, Bool, true, false, Some, None}
 use Rattle.xs_base.specs.declared.words.How.{How}
 use Rattle.xs_base.specs.declared.words.How.TheVariants.{Load, Skip, Kern}
 use Rattle.xs_model.specs.Due.{how_of}
@@ -8,7 +8,8 @@ use Rattle.xs_model.specs.Script.{is_user}
 use Rattle.xs_board.specs.declared.turn.Turn.{Turn}
 use Rattle.xs_board.specs.declared.turn.Taken.{Taken}
 use Rattle.xs_board.specs.declared.turn.Taken.TheVariants as answers
-use Rattle.xs_board.specs.Board.{Board, past_of, ready_of, IsTaskOf}
+use Rattle.xs_board.specs.Board.{Board, past_of, ready_of, turn_on, IsTaskOf}
+use Rattle.xs_board.specs.Starts.{IsFirst}
 
 abbrev pub IfTurn : Taken → (Turn → Type 0) → Type 0
 IfTurn (answers.Turn turn) Holds = Holds turn
@@ -25,9 +26,12 @@ OnDone (answers.Turn turn) Holds = Unit {0}
 OnDone answers.Nothing Holds = Unit {0}
 OnDone answers.Done Holds = Holds
 
--- The number is the first of the list.
-abbrev pub IsFirst : ℕ → List ℕ → Type 0
-IsFirst t list = (rest : List ℕ) × (list ≡ t ∷ rest)
+-- Another processor has a turn.
+pub record HasOther (board : Board) (cpu : ℕ) : Type 0 where
+  pub other : ℕ
+  pub apart : other ≡ cpu → ⊥
+  pub task : ℕ
+  pub turn : turn_on board other ≡ Some task
 
 abbrev pub is_user_how : How → Bool
 is_user_how Load = true

@@ -1,40 +1,75 @@
 -- A turn as a worker brings it back: the lines that ran and how it came to its end. The rules are those of the private machine.
-use Rattle.std.specs.Prelude.{◌≡◌, ℕ, ◌+◌, Bool, true, false, List, [], ◌∷◌, ◌++◌, map, slice_get, Option, Some, None, if◌then◌else◌}
-use Rattle.xs_base.specs.Task.{PrivateTask}
+use Rattle.std.specs.Prelude.{◌≡◌, ℕ, ◌+◌, Bool, true, false, List, [], ◌∷◌, ◌++◌, map, reverse, slice_get, Option, Some, None, if◌then◌else◌}
+use Rattle.xs_base.specs.Task.{PrivateTask, child_of}
 use Rattle.xs_model.specs.declared.event.Event.{Event}
 use Rattle.xs_model.specs.declared.event.Event.TheVariants.{Local}
 use Rattle.xs_model.specs.declared.event.Event.TheVariants as events
+use Rattle.xs_model.specs.declared.event.Reply.TheVariants as replies
 use Rattle.xs_model.specs.declared.script.Block.{Block}
 use Rattle.xs_model.specs.declared.script.Command.{Command}
+use Rattle.xs_model.specs.declared.script.Command.TheVariants.{Fork}
 use Rattle.xs_model.specs.declared.script.Order.{Order}
 use Rattle.xs_model.specs.declared.script.Script.{Script}
 use Rattle.xs_model.specs.declared.stage.Stage.{Stage}
 use Rattle.xs_model.specs.declared.stage.Stage.TheVariants.{Ready, Ended}
-use Rattle.xs_model.specs.Script.{is_outer, is_yield}
-use Rattle.xs_model.specs.Line.{line_at, local_reply, local_after, traps, refusal}
+use Rattle.xs_model.specs.Script.{block_named, command_at, command_of, is_outer, is_yield}
+use Rattle.xs_model.specs.Line.{line_at, local_reply, local_after, next_line, traps, refusal}
 use Rattle.xs_model.specs.Machine.{goes_on}
+use Rattle.xs_model.specs.State.{BlockState}
 use Rattle.xs_board.specs.declared.turn.Entry.{Entry}
 use Rattle.xs_board.specs.declared.turn.Close.{Close}
-use Rattle.xs_board.specs.declared.turn.Close.TheVariants.{Quantum, Yield, End}
+use Rattle.xs_board.specs.declared.turn.Close.TheVariants.{Quantum, Yield, Outer, End}
 
 -- ---- the events of a turn after its Start
 
 abbrev pub entry_event : ℕ → Entry → Event
 entry_event t entry = Local t entry.line entry.reply
 
+-- A close may have an event of its own: that of an outer line, which is a fork and answers nothing, or the end.
 abbrev pub close_events : ℕ → Close → List Event
 close_events t Quantum = []
 close_events t Yield = []
+close_events t (Outer line) = events.Outer t line replies.Done ∷ []
 close_events t End = events.End t ∷ []
 
 abbrev pub turn_events : ℕ → List Entry → Close → List Event
 turn_events t entries close = map (entry_event t) entries ++ close_events t close
 
+-- the past after the lines of these entries, the latest event first
+abbrev pub past_with : ℕ → List Entry → List Event → List Event
+past_with t entries past = reverse (map (entry_event t) entries) ++ past
+
+-- ---- what a close leaves
+
 -- the stage in which a turn leaves its block
 abbrev pub stage_closed : Close → Stage
 stage_closed Quantum = Ready
 stage_closed Yield = Ready
+stage_closed (Outer line) = Ready
 stage_closed End = Ended
+
+-- the task that came to the close: an outer line is behind it then
+abbrev pub task_closed : Close → PrivateTask → PrivateTask
+task_closed Quantum task = task
+task_closed Yield task = task
+task_closed (Outer line) task = next_line task
+task_closed End task = task
+
+-- the block that block t bears, which has this task at its fork
+abbrev pub newborn : ℕ → PrivateTask → BlockState
+newborn t task = record { stage = Ready; task = child_of task; parent = Some t; pending = [] }
+
+-- the block that a command forks, if it forks one
+abbrev pub forked_by : Script → Option Command → Option ℕ
+forked_by script (Some (Fork name)) = Some (block_named script name)
+forked_by script other = None
+
+-- the block that block t forks with this close
+abbrev pub forked : Script → ℕ → Close → Option ℕ
+forked script t Quantum = None
+forked script t Yield = None
+forked script t (Outer line) = forked_by script (command_at script t line)
+forked script t End = None
 
 -- ---- the lines of a turn
 
@@ -45,6 +80,14 @@ line_in (Some lines) task = line_at lines task
 -- the line at the task's place
 abbrev pub line_of : Script → ℕ → PrivateTask → Option Order
 line_of script t task = line_in (slice_get script.blocks t) task
+
+abbrev pub body_order : Option Block → ℕ → Option Order
+body_order None place = None
+body_order (Some lines) place = slice_get lines.body place
+
+-- the command at this place of the body of block t
+abbrev pub body_command : Script → ℕ → ℕ → Option Command
+body_command script t place = command_of (body_order (slice_get script.blocks t) place)
 
 -- how a Local event that ends its turn closes it
 abbrev pub closed_by : Command → Close
@@ -60,10 +103,19 @@ pub record IsEntry (script : Script) (t : ℕ) (task : PrivateTask) (entry : Ent
   pub line : entry.line ≡ order.number
   pub reply : entry.reply ≡ local_reply task order.command
 
--- Only End closes a turn in which more Local events could come: no line is at the task's place, and no handler runs.
+-- The line of this number is at the task's place, and it's outer: a fork.
+pub record IsOuterLine (script : Script) (t : ℕ) (task : PrivateTask) (line : ℕ) (order : Order) : Type 0 where
+  pub at : line_of script t task ≡ Some order
+  pub number : order.number ≡ line
+  pub name : List ℕ
+  pub forks : order.command ≡ Fork name
+
+-- Two closes come in a turn in which more Local events could come: an outer line at the task's place, and the end, where no line
+-- stands there and no handler runs.
 abbrev pub IsOpenClose : Script → ℕ → PrivateTask → Close → Type 0
 IsOpenClose script t task Quantum = ⊥
 IsOpenClose script t task Yield = ⊥
+IsOpenClose script t task (Outer line) = (order : Order) × IsOuterLine script t task line order
 IsOpenClose script t task End = (line_of script t task ≡ None) × (task.handling ≡ false)
 
 -- What follows an entry: these lines where the turn goes on, and else nothing.

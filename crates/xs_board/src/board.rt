@@ -1,6 +1,6 @@
 //! The board.
 
-ghost use Rattle.std.specs.Prelude.{◌≡◌, ◌<◌, ◌++◌, [], ◌∷◌, true, false, length, IfOk, Some, None};
+ghost use Rattle.std.specs.Prelude.{◌≡◌, ◌<◌, ◌++◌, [], ◌∷◌, true, false, length, IfOk, IfSome, Some, None};
 ghost use Rattle.xs_base.specs.declared.words.How.TheVariants as hows;
 ghost use Rattle.xs_model.specs.declared.event.Event.TheVariants as events;
 ghost use Rattle.xs_model.specs.declared.stage.Stage.TheVariants as stages;
@@ -9,12 +9,14 @@ ghost use Rattle.xs_model.specs.Note as notes;
 ghost use Rattle.xs_model.specs.Replay.{entry};
 ghost use Rattle.xs_model.specs.Script.{IsValid, IsBuilt, is_user};
 ghost use Rattle.xs_model.specs.State.{none_lives};
-ghost use Rattle.xs_board.specs.Board.{past_of, machine_in, ready_of, stage_in, private_in, private_after, turn_on, KeepsOthers, KeepsTurns};
+ghost use Rattle.xs_board.specs.Board.{past_of, machine_in, ready_of, stage_in, private_in, private_with, private_after, private_closed, turn_on, IsBoard, KeepsOthers, KeepsOrBears, KeepsTurns, WasBorn};
 ghost use Rattle.xs_board.specs.Home.{IsHome};
-ghost use Rattle.xs_board.specs.Taken.{IfTurn, OnNothing, OnDone, IsTurnOf};
-ghost use Rattle.xs_board.specs.Turn.{turn_events, AreLines, stage_closed};
+ghost use Rattle.xs_board.specs.Taken.{HasOther, IfTurn, OnNothing, OnDone, IsTurnOf};
+ghost use Rattle.xs_board.specs.Turn.{forked, turn_events, AreLines, stage_closed};
 
-use crate::opening::{first_tasks, numbers, users};
+use crate::forking::{forked, move_on, perform};
+use crate::laws::machine_laws;
+use crate::opening::{born_blocks, count_born, first_tasks, users};
 use crate::putting::put_back;
 use crate::room::most_events;
 use crate::telling::{tell, tell_turn};
@@ -22,7 +24,7 @@ use crate::turn::{Close, Entries, Taken, Turn, start_how};
 use std::alloc::{AllocError, Global};
 use std::collections::VecDeque;
 use std::marker::Model;
-use xs_model::{Event, History, Script, lines_found, ready_once, turns_known, two_numbers};
+use xs_model::{Event, History, Script};
 use xs_pool::AreaPool;
 use xs_task::Task;
 
@@ -69,17 +71,17 @@ impl Board {
             return Err(AllocError);
         };
         let blocks = script.blocks.as_slice();
-        let count = blocks.len();
         let events = Vec::with_capacity(alloc, room)?;
         let mut pool = AreaPool::open(alloc, &script.layout, users(blocks), script.large)?;
         let tasks = first_tasks(alloc, &script.layout, blocks, &mut pool)?;
-        let ready = numbers(alloc, count)?;
+        let ready = born_blocks(alloc, blocks)?;
+        let living = count_born(blocks);
         Ok(Board {
             script,
             events,
             tasks,
             ready,
-            living: count as u32,
+            living,
             pool,
         })
     }
@@ -87,7 +89,8 @@ impl Board {
     /// Hands out the first ready block for a turn on the processor, which is one of the script's and has no turn; `mark` is the
     /// owner mark that the history gives it. Its Start joins the history. Takes no memory.
     ///
-    /// `Nothing` comes exactly where no block is ready and one lives, `Done` exactly where none lives: then nothing changes.
+    /// `Nothing` comes exactly where no block is ready and one lives: then another processor has a turn. `Done` comes exactly where
+    /// none lives. After both nothing has changed.
     pub fn take(&mut self, cpu: u32, mark: Option<u32>) -> Taken
         requires processor { cpu < self.old.script.cpus }
         requires free { turn_on self.old cpu ≡ None }
@@ -97,6 +100,7 @@ impl Board {
         ensures turn { IfTurn result (λ turn. IsTurnOf self.old cpu turn) }
         ensures lives { IfTurn result (λ turn. none_lives (machine_in self.old) ≡ false) }
         ensures nothing { OnNothing result ((ready_of self.old ≡ []) × (none_lives (machine_in self.old) ≡ false)) }
+        ensures idle { OnNothing result (HasOther self.old cpu) }
         ensures done { OnDone result (none_lives (machine_in self.old) ≡ true) }
 
         // A restore is left out only where the mark is the task and its last processor is this one.
@@ -119,8 +123,7 @@ impl Board {
         ensures nothing_changes { OnNothing result (self.new ≡ self.old) }
         ensures done_changes { OnDone result (self.new ≡ self.old) }
     {
-        ready_once();
-        two_numbers();
+        machine_laws();
         let Some(name) = self.ready.pop_front() else {
             return if self.living == 0 {
                 Taken::Done
@@ -150,11 +153,13 @@ impl Board {
         })
     }
 
-    /// Takes a task back after its turn, with the lines that ran and the turn's close. Their events join the history. At End the
-    /// task's area goes back to the pool and the task is dropped; else the block is the last of the ready list. Takes no memory.
+    /// Takes a task back after its turn, with the lines that ran and the turn's close. Their events join the history. A fork bears
+    /// its child, which is ready before its parent is. At End the task's area goes back to the pool and the task is dropped; else
+    /// the block is the last of the ready list. Takes no memory.
     ///
     /// The block is in this turn, and the lines and the close are the script's from the task's place on. The task stands for the
-    /// private task after them, with the marks after a turn: a user task was switched out on the turn's processor.
+    /// private task after the lines, with the marks after a turn: a user task was switched out on the turn's processor. An outer
+    /// line is still before it.
     pub fn commit(&mut self, turn: Turn, entries: &Entries, close: Close)
         requires turn { stage_in self.old turn.task.name ≡ stages.Turn turn.cpu 0 }
         requires lines { AreLines self.old.script turn.task.name (private_in self.old turn.task.name) 0 entries.now.items close }
@@ -169,18 +174,29 @@ impl Board {
 
         // What the history tells then.
         ensures stage { stage_in self.new turn.task.name ≡ stage_closed close }
-        ensures private { private_in self.new turn.task.name ≡ private_after self.old turn.task.name entries.now.items }
+        ensures private { private_in self.new turn.task.name ≡ private_closed self.old turn.task.name entries.now.items close }
         ensures free { turn_on self.new turn.cpu ≡ None }
-        ensures others { KeepsOthers turn.task.name self.old self.new }
+        ensures born { IfSome (forked self.old.script turn.task.name close) (λ child. WasBorn turn.task.name (private_with self.old turn.task.name entries.now.items) child self.old self.new) }
+        ensures others { KeepsOrBears turn.task.name (private_with self.old turn.task.name entries.now.items) close self.old self.new }
         ensures turns { KeepsTurns turn.cpu self.old self.new }
 
         // What stays.
         ensures script { self.new.script ≡ self.old.script }
     {
-        lines_found();
-        turns_known();
+        machine_laws();
         let Turn { task, .. } = turn;
+        let mut task = task;
+        let child = forked(&self.script, task.name, task.place, close);
         tell_turn(&mut self.events, task.name, entries.as_slice(), close);
+        perform(
+            &self.script.layout,
+            &mut self.tasks,
+            &mut self.ready,
+            &mut self.living,
+            &task,
+            child,
+        );
+        move_on(&mut task, close);
         put_back(
             &mut self.tasks,
             &mut self.ready,
@@ -191,16 +207,18 @@ impl Board {
         );
     }
 
-    /// The events so far, in order.
+    /// The events so far, in order. What a board is between calls holds of it.
     pub fn history(&self) -> &[Event]
-        ensures { result.now ≡ self.now.history }
+        ensures events { result.now ≡ self.now.history }
+        ensures board { IsBoard self.now }
     {
         self.events.as_slice()
     }
 
-    /// The history of the run. Takes no memory.
+    /// The history of the run, in which each turn was that of the first ready block. Takes no memory.
     pub fn into_history(self) -> History
-        ensures { result ≡ self.history }
+        ensures events { result ≡ self.history }
+        ensures board { IsBoard self }
     {
         let Board { events, .. } = self;
         History::from_vec(events)

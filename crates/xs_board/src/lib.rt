@@ -1,17 +1,17 @@
 //! The board: the history that the processors write together, the tasks that are home, the ready list and the pool of save areas.
 //! A processor takes a task from it and brings it back with the lines that ran. The crate's contract is that the history is
 //! legal: each event is a step of the private machine of `xs_model`, and each task that is home stands for that machine's
-//! private task. It stands on scripts and the machine in `xs_model`, on tasks in `xs_task` and on the pool of `xs_pool`.
+//! private task. It stands on scripts and the machine in `xs_model`, on tasks in `xs_task` and on
+//! the pool of `xs_pool`.
 #![tactic(auto)]
 
 mod board;
+mod forking;
 mod laws;
 mod opening;
 mod putting;
 mod room;
 mod telling;
-#[cfg(test)]
-mod tests;
 mod turn;
 
 pub use board::Board;

@@ -1,24 +1,22 @@
 //! What a board has before its first event.
 
-ghost use Rattle.std.specs.Prelude.{◌≡◌, true, ◌+◌, ◌-◌, ◌<◌, ◌≤◌, ◌^◌, length, IfOk, OnOk, Some, None};
+ghost use Rattle.std.specs.Prelude.{◌≡◌, true, ◌+◌, ◌-◌, ◌<◌, ◌≤◌, ◌^◌, ◌++◌, length, IfOk, OnOk, Some, None};
 ghost use Rattle.std.specs.VecDeque.{deque_capacity};
 ghost use Rattle.xs_base.specs.Task.{root_task};
 ghost use Rattle.xs_model.specs.Script.{is_user_kind};
 ghost use Rattle.xs_pool.specs.Pool.{leased};
 ghost use Rattle.xs_board.specs.Home.{IsUserHome, IsThreadHome};
-ghost use Rattle.xs_board.specs.Opening.{one_user, users_in, numbers_from, IsFirstTask, AreFirst, pool_first};
+ghost use Rattle.xs_board.specs.Opening.{one_user, one_born, users_in, born_if, born_in, born_from, IsFirstTask, AreFirst, pool_first};
 ghost use Rattle.xs_base.specs.declared.class.Class.TheVariants as classes;
 
 use std::alloc::{AllocError, Global};
 use std::collections::VecDeque;
 use xs_area::Class;
+use xs_base::START_PKRU;
 use xs_layout::Layout;
 use xs_model::{Block, BlockKind};
 use xs_pool::AreaPool;
 use xs_task::Task;
-
-/// PKRU of a kernel thread, for its whole life.
-const THREAD_PKRU: u32 = 0x5555_5554;
 
 /// How many of the blocks are user tasks.
 pub fn users(blocks: &[Block]) -> u32
@@ -42,17 +40,53 @@ fn one_if_user(kind: BlockKind) -> u32
     }
 }
 
-/// The numbers from 0 on, so many, in a queue that has room for them.
-pub fn numbers(alloc: Global, count: usize) -> Result<VecDeque<u32>, AllocError>
-    requires { count ≤ 64 }
-    ensures numbers { IfOk result (λ numbers. numbers.items ≡ numbers_from 0 count) }
-    ensures room { IfOk result (λ numbers. count ≤ deque_capacity numbers) }
+/// How many of the blocks are born before the first event.
+pub fn count_born(blocks: &[Block]) -> u32
+    requires { length blocks.now ≤ 64 }
+    ensures { result ≡ born_in blocks.now }
 {
-    let mut numbers = VecDeque::with_capacity(alloc, count)?;
-    'each: for number in 0..count {
-        numbers.push_back_reserved(number as u32);
+    let mut born: u32 = 0;
+    'each: for block in blocks {
+        born += one_if_born(block.kind);
     }
-    Ok(numbers)
+    born
+}
+
+/// 1 for a block that is born before the first event.
+fn one_if_born(kind: BlockKind) -> u32
+    ensures { result ≡ one_born kind }
+{
+    match kind {
+        BlockKind::Child => 0,
+        _ => 1,
+    }
+}
+
+/// The numbers of the blocks that are born before the first event, in a queue that has room for those of all blocks.
+pub fn born_blocks(alloc: Global, blocks: &[Block]) -> Result<VecDeque<u32>, AllocError>
+    requires { length blocks.now ≤ 64 }
+    ensures born { IfOk result (λ born. born.items ≡ born_from 0 blocks.now) }
+    ensures room { IfOk result (λ born. length blocks.now ≤ deque_capacity born) }
+{
+    let mut born = VecDeque::with_capacity(alloc, blocks.len())?;
+    let mut number: u32 = 0;
+    'each: for block in blocks {
+        add_born(&mut born, block.kind, number);
+        number += 1;
+    }
+    Ok(born)
+}
+
+/// Adds the number of a block, if the block is born before the first event.
+fn add_born(born: &mut VecDeque<u32>, kind: BlockKind, number: u32)
+    requires room { length born.old.items < deque_capacity born.old }
+    ensures born { born.new.items ≡ born.old.items ++ born_if kind number }
+    ensures capacity { deque_capacity born.new ≡ deque_capacity born.old }
+{
+    match kind {
+        BlockKind::Child => {}
+        _ => born.push_back_reserved(number),
+    }
 }
 
 /// The task of each block before the first event, the areas from a pool that gave none yet and has one for each user task.
@@ -139,7 +173,7 @@ pub fn thread(alloc: Global, layout: &Layout, name: u32) -> Task
         lease: None,
         last: None,
         need_load: true,
-        pkru: THREAD_PKRU,
+        pkru: START_PKRU,
         permitted: false,
         frame: Vec::new(alloc),
         buffer: Vec::new(alloc),

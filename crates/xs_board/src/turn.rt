@@ -62,6 +62,8 @@ pub enum Close {
     Quantum,
     /// By a line `yield`.
     Yield,
+    /// By the outer line of this number, at which the task stands.
+    Outer(u32),
     /// At the end of the body.
     End,
 }

@@ -1,42 +1,134 @@
 -- The board with the task again, or without it where it has ended.
-use Rattle.std.proofs.Common.{◌≡◌, ℕ, ◌≤◌, List, ◌++◌, length, sym, ap, ◌∙◌, subst}
+use Rattle.std.proofs.Common.{◌≡◌, ℕ, ◌≤◌, List, ◌++◌, length, reverse, refl, sym, ap, ◌∙◌, subst, arith}
 use Rattle.std.specs.Prelude.{Option, vec_capacity}
 use Rattle.std.specs.VecDeque.{deque_capacity}
 use Rattle.xs_model.specs.declared.event.Event.{Event}
+use Rattle.xs_model.specs.declared.stage.Stage.TheVariants as stages
+use Rattle.xs_model.specs.Script.{is_user}
 use Rattle.xs_task.specs.declared.task.Task.{Task}
 use Rattle.xs_board.specs.declared.turn.Entry.{Entry}
-use Rattle.xs_board.specs.Board.{Board, IsBoard, IsKeptBeside}
-use Rattle.xs_board.specs.Turn.{turn_events}
-use Rattle.xs_board.proofs.Committing.{MayCommit, Laws, turn_fits, lives_in_turn, area_is_out, area_is_long, slot_is_there, queue_has_room}
-use Rattle.xs_board.proofs.Returning.{back_legal, back_replay, back_stage, back_private, back_others, back_free, back_turns, board_back, beside_back}
+use Rattle.xs_board.specs.declared.turn.Close.{Close}
+use Rattle.xs_board.specs.Board.{Board, IsBoard, IsKeptBeside, past_of, stage_in, private_in, private_with, private_after, private_closed}
+use Rattle.xs_board.specs.Laws.{Laws}
+use Rattle.xs_board.specs.Home.{IsHome}
+use Rattle.xs_board.specs.Putting.{forked_there, home_after, living_born, living_after, moved_on, pool_after, ready_born, ready_after}
+use Rattle.xs_board.specs.Turn.{AreLines, body_command, forked, forked_by, turn_events}
+use Rattle.xs_board.proofs.Turning.{HasLeft, past_closed}
+use Rattle.xs_board.proofs.Moving.{reverse_onto_past}
+use Rattle.xs_board.proofs.Committing.{MayCommit, turn_leaves, turn_fits, turn_replays, turn_lives, turn_in_range, area_is_out, area_is_long, unless_end, few_live}
+use Rattle.xs_board.proofs.Closing.{at_fork, bears_length, lives_born, moved_name}
+use Rattle.xs_board.proofs.Returning.{back_born, back_free, back_others, back_private, back_stage, back_turns, back_stands, closed_small, beside_back, board_back, fork_found, fork_child, fork_known, fork_parent, fork_place, fork_room, put_room}
 use Rattle.xs_board.proofs.board.Board.commit.Goals as goal
+
+-- What the calls of `commit` rest on.
+module _ (laws : Laws) (board : Board) (task : Task) (cpu : ℕ) (entries : List Entry) (close : Close) (is_board : IsBoard board) (turn : stage_in board task.name ≡ stages.Turn cpu 0) (lines : AreLines board.script task.name (private_in board task.name) 0 entries close) (home : IsHome (is_user board.script task.name) board.script.layout task (private_after board task.name entries)) where
+  abbrev may_commit : MayCommit board task.name cpu entries close
+  may_commit = record { is_board = is_board; turn = turn; lines = lines }
+
+  -- the past after the turn
+  abbrev later : List Event
+  later = past_closed task.name entries close (past_of board)
+
+  left : HasLeft board.script (past_of board) later task.name close (private_with board task.name entries)
+  left = (turn_leaves laws board task.name cpu entries close may_commit).0
+
+  -- the code finds the child
+  child_found : forked_there close (forked_by board.script (body_command board.script task.name task.place)) ≡ forked board.script task.name close
+  child_found = fork_found laws board task.name cpu entries close may_commit later left task refl home
+
+-- ---- as the code has it
+
+pub forked-child-requires : goal.forked-child-requires
+forked-child-requires c =
+    let board : Board = record { script = c.self.inside.script; history = c.self.inside.events.items; home = c.self.inside.tasks.items; pool = c.self.inside.pool; room = vec_capacity c.self.inside.events } in
+    record {
+      known = turn_in_range c.machine_laws.ensures board c.args.turn.task.name c.args.turn.cpu c.self.invariant.0 (rw (← c.self.view_is) at c.requires.turn);
+      few = c.self.invariant.0.valid.few;
+    }
 
 pub tell_turn-requires : goal.tell_turn-requires
 tell_turn-requires c =
     let board : Board = record { script = c.self.inside.script; history = c.self.inside.events.items; home = c.self.inside.tasks.items; pool = c.self.inside.pool; room = vec_capacity c.self.inside.events } in
-    let laws : Laws = record { found = c.lines_found.ensures; known = c.turns_known.ensures.known; apart = c.turns_known.ensures.apart } in
-    let may : MayCommit board c.args.turn.task.name c.args.turn.cpu c.args.entries.now.items c.args.close = record { is_board = c.self.invariant.0; turn = rw (← c.self.view_is) at c.requires.turn; lines = rw (← c.self.view_is) at c.requires.lines } in
-    record { room = rw c.as_slice.ensures.value (turn_fits laws board c.args.turn.task.name c.args.turn.cpu c.args.entries.now.items c.args.close may) }
+    let turn = rw (← c.self.view_is) at c.requires.turn in
+    let lines = rw (← c.self.view_is) at c.requires.lines in
+    record { room = rw c.as_slice.ensures.value (turn_fits c.machine_laws.ensures board c.args.turn.task.name c.args.turn.cpu c.args.entries.now.items c.args.close (record { is_board = c.self.invariant.0; turn = turn; lines = lines })) }
+
+pub perform-requires : goal.perform-requires
+perform-requires c =
+    let board : Board = record { script = c.self.inside.script; history = c.self.inside.events.items; home = c.self.inside.tasks.items; pool = c.self.inside.pool; room = vec_capacity c.self.inside.events } in
+    let laws = c.machine_laws.ensures in
+    let turn = rw (← c.self.view_is) at c.requires.turn in
+    let lines = rw (← c.self.view_is) at c.requires.lines in
+    let home = rw (← c.self.view_is) at c.requires.task in
+    let task = c.args.turn.task in
+    let t = task.name in
+    let cpu = c.args.turn.cpu in
+    let entries = c.args.entries.now.items in
+    let close = c.args.close in
+    let is_board = c.self.invariant.0 in
+    let kept = c.self.invariant.1 in
+    let may = may_commit laws board task cpu entries close is_board turn lines home in
+    let past = later laws board task cpu entries close is_board turn lines home in
+    let leaves = left laws board task cpu entries close is_board turn lines home in
+    let found = c.forked-child.ensures ∙ child_found laws board task cpu entries close is_board turn lines home in
+    rw found (record {
+      parent = fork_parent laws board t cpu entries close may past leaves task refl home;
+      child = fork_child laws board t cpu entries close may past leaves;
+      known = fork_known laws board t cpu entries close may past leaves;
+      room = fork_room laws board t cpu entries close may past leaves c.self.inside.ready.items (deque_capacity c.self.inside.ready) c.self.inside.living kept;
+      few = at_fork (forked board.script t close) _ (few_live laws.machine board c.self.inside.ready.items (deque_capacity c.self.inside.ready) c.self.inside.living is_board kept);
+    })
+
+pub move_on-requires : goal.move_on-requires
+move_on-requires c =
+    let board : Board = record { script = c.self.inside.script; history = c.self.inside.events.items; home = c.self.inside.tasks.items; pool = c.self.inside.pool; room = vec_capacity c.self.inside.events } in
+    let laws = c.machine_laws.ensures in
+    let turn = rw (← c.self.view_is) at c.requires.turn in
+    let lines = rw (← c.self.view_is) at c.requires.lines in
+    let home = rw (← c.self.view_is) at c.requires.task in
+    let task = c.args.turn.task in
+    let cpu = c.args.turn.cpu in
+    let entries = c.args.entries.now.items in
+    let close = c.args.close in
+    let is_board = c.self.invariant.0 in
+    let may = may_commit laws board task cpu entries close is_board turn lines home in
+    let past = later laws board task cpu entries close is_board turn lines home in
+    let leaves = left laws board task cpu entries close is_board turn lines home in
+    record { place = fork_place laws board task.name cpu entries close may past leaves task refl home }
 
 pub put_back-requires : goal.put_back-requires
 put_back-requires c =
     let board : Board = record { script = c.self.inside.script; history = c.self.inside.events.items; home = c.self.inside.tasks.items; pool = c.self.inside.pool; room = vec_capacity c.self.inside.events } in
+    let laws = c.machine_laws.ensures in
     let turn = rw (← c.self.view_is) at c.requires.turn in
+    let lines = rw (← c.self.view_is) at c.requires.lines in
     let home = rw (← c.self.view_is) at c.requires.task in
-    let t = c.args.turn.task.name in
-    let cpu = c.args.turn.cpu in
     let task = c.args.turn.task in
+    let t = task.name in
+    let cpu = c.args.turn.cpu in
     let entries = c.args.entries.now.items in
     let close = c.args.close in
-    let queue = c.self.inside.ready.items in
-    let capacity = deque_capacity c.self.inside.ready in
-    record {
-      lives = lives_in_turn board t cpu queue capacity c.self.inside.living close c.self.invariant.1 turn;
-      out = area_is_out board t cpu task entries close c.self.invariant.0 turn home;
-      len = area_is_long board t cpu task entries close c.self.invariant.0 turn home;
-      known = slot_is_there board t cpu close c.self.invariant.0 turn;
-      room = queue_has_room board t cpu queue capacity c.self.inside.living close c.self.invariant.0 c.self.invariant.1 turn;
-    }
+    let is_board = c.self.invariant.0 in
+    let kept = c.self.invariant.1 in
+    let may = may_commit laws board task cpu entries close is_board turn lines home in
+    let past = later laws board task cpu entries close is_board turn lines home in
+    let leaves = left laws board task cpu entries close is_board turn lines home in
+    let goes_back = moved_on close task in
+    let stands = back_stands laws board t cpu entries close may past leaves task refl home in
+    let small = closed_small laws board t cpu entries close may past leaves task refl home in
+    let found = c.forked-child.ensures ∙ child_found laws board task cpu entries close is_board turn lines home in
+    let child = forked board.script t close in
+    let bears = rw found at c.perform.ensures.home in
+    let long = bears_length child board.script.layout task board.home c.perform.new.tasks.items bears in
+    let in_range = turn_in_range laws board t cpu is_board turn in
+    let count = is_board.count in
+    rw c.move_on.ensures.task (record {
+      lives = rw (c.perform.ensures.living, found) (lives_born close child c.self.inside.living (turn_lives laws board t cpu is_board turn c.self.inside.ready.items (deque_capacity c.self.inside.ready) c.self.inside.living kept));
+      out = area_is_out laws board t cpu is_board turn goes_back (private_closed board t entries close) stands small close;
+      len = area_is_long laws board t cpu is_board turn goes_back (private_closed board t entries close) stands small close;
+      known = unless_end close _ (omega (arith, long, in_range, count, moved_name close task));
+      room = rw (c.perform.ensures.ready, c.perform.ensures.capacity, found) (put_room laws board t cpu entries close may past leaves c.self.inside.ready.items (deque_capacity c.self.inside.ready) c.self.inside.living kept);
+    })
 
 -- ---- after all
 
@@ -46,20 +138,40 @@ old c = record { script = c.self.inside.script; history = c.self.inside.events.i
 abbrev task : goal.After-put_back → Task
 task c = c.args.turn.task
 
-abbrev lines : goal.After-put_back → List Entry
-lines c = c.args.entries.now.items
+abbrev cpu : goal.After-put_back → ℕ
+cpu c = c.args.turn.cpu
+
+abbrev ran : goal.After-put_back → List Entry
+ran c = c.args.entries.now.items
 
 abbrev history : goal.After-put_back → List Event
 history c = c.tell_turn.new.events.items
 
-laws : (c : goal.After-put_back) → Laws
-laws c = record { found = c.lines_found.ensures; known = c.turns_known.ensures.known; apart = c.turns_known.ensures.apart }
+abbrev laws : (c : goal.After-put_back) → Laws
+laws c = c.machine_laws.ensures
 
-may : (c : goal.After-put_back) → MayCommit (old c) (task c).name c.args.turn.cpu (lines c) c.args.close
+home : (c : goal.After-put_back) → IsHome (is_user (old c).script (task c).name) (old c).script.layout (task c) (private_after (old c) (task c).name (ran c))
+home c = rw (← c.self.view_is) at c.requires.task
+
+may : (c : goal.After-put_back) → MayCommit (old c) (task c).name (cpu c) (ran c) c.args.close
 may c = record { is_board = c.self.invariant.0; turn = rw (← c.self.view_is) at c.requires.turn; lines = rw (← c.self.view_is) at c.requires.lines }
 
-told : (c : goal.After-put_back) → history c ≡ (old c).history ++ turn_events (task c).name (lines c) c.args.close
-told c = c.tell_turn.ensures.told ∙ ap (λ (entries : List Entry). (old c).history ++ turn_events (task c).name entries c.args.close) c.as_slice.ensures.value
+-- what joins the history
+told : (c : goal.After-put_back) → history c ≡ (old c).history ++ turn_events (task c).name (ran c) c.args.close
+told c =
+    c.tell_turn.ensures.told
+    ∙ ap (λ (entries : List Entry). (old c).history ++ turn_events (task c).name entries c.args.close) c.as_slice.ensures.value
+
+-- the child that the code found
+found : (c : goal.After-put_back) → c.forked-child.result ≡ forked (old c).script (task c).name c.args.close
+found c = c.forked-child.ensures ∙ child_found (laws c) (old c) (task c) (cpu c) (ran c) c.args.close (may c).is_board (may c).turn (may c).lines (home c)
+
+-- what the turn left
+is_left : (c : goal.After-put_back) → HasLeft (old c).script (past_of (old c)) (reverse (history c)) (task c).name c.args.close (private_with (old c) (task c).name (ran c))
+is_left c =
+    subst (λ (past : List Event). HasLeft (old c).script (past_of (old c)) past (task c).name c.args.close (private_with (old c) (task c).name (ran c)))
+    (sym (ap reverse (told c) ∙ reverse_onto_past (turn_events (task c).name (ran c) c.args.close) (old c).history))
+    (turn_leaves (laws c) (old c) (task c).name (cpu c) (ran c) c.args.close (may c)).0
 
 -- the same queue, capacity and count
 beside_same : (board : Board) (list list' : List ℕ) (capacity capacity' count count' : ℕ) → list' ≡ list → capacity' ≡ capacity → count' ≡ count → IsKeptBeside board list capacity count → IsKeptBeside board list' capacity' count'
@@ -70,34 +182,51 @@ beside_same board list list' capacity capacity' count count' l p n kept = record
   alive = n ∙ kept.alive;
 }
 
+-- the tasks that are home then
+homes : (c : goal.After-put_back) → c.put_back.new.tasks.items ≡ home_after c.args.close (moved_on c.args.close (task c)) c.perform.new.tasks.items
+homes c = c.put_back.ensures.home ∙ ap (λ (x : Task). home_after c.args.close x c.perform.new.tasks.items) c.move_on.ensures.task
+
 pub invariant_of-self : goal.invariant_of-self
 invariant_of-self c =
-    let home = rw (← c.self.view_is) at c.requires.task in
     let last = rw (← c.self.view_is) at c.requires.last in
-    let room = vec_capacity c.tell_turn.new.events in (
-      subst (λ (tasks : List (Option Task)). IsBoard (record { script = c.self.inside.script; history = history c; home = tasks; pool = c.put_back.new.pool; room = room })) (sym c.put_back.ensures.home)
-          (board_back (laws c) (old c) (history c) (task c) c.args.turn.cpu (lines c) c.args.close (may c) (told c) home last c.put_back.new.pool room c.put_back.ensures.pool c.tell_turn.ensures.capacity),
-      subst (λ (tasks : List (Option Task)). IsKeptBeside (record { script = c.self.inside.script; history = history c; home = tasks; pool = c.put_back.new.pool; room = room }) c.put_back.new.ready.items (deque_capacity c.put_back.new.ready) c.put_back.new.living) (sym c.put_back.ensures.home)
-          (beside_same _ _ _ _ _ _ _ c.put_back.ensures.ready c.put_back.ensures.capacity c.put_back.ensures.living (beside_back (laws c) (old c) (history c) (task c) c.args.turn.cpu (lines c) c.args.close (may c) (told c) home last c.put_back.new.pool room c.self.inside.ready.items (deque_capacity c.self.inside.ready) c.self.inside.living c.self.invariant.1)),
+    let room = vec_capacity c.tell_turn.new.events in
+    let close = c.args.close in
+    let bears = rw (found c) at c.perform.ensures.home in
+    let pool_is = c.put_back.ensures.pool ∙ ap (λ (x : Task). pool_after close x.lease c.self.inside.pool) c.move_on.ensures.task in
+    let ready_is = c.put_back.ensures.ready ∙ ap (λ (x : Task). ready_after close x.name c.perform.new.ready.items) c.move_on.ensures.task ∙ ap (λ (n : ℕ). ready_after close n c.perform.new.ready.items) (moved_name close (task c)) ∙ ap (ready_after close (task c).name) (c.perform.ensures.ready ∙ ap (λ (o : Option ℕ). ready_born o c.self.inside.ready.items) (found c)) in
+    let living_now = c.put_back.ensures.living ∙ ap (living_after close) (c.perform.ensures.living ∙ ap (λ (o : Option ℕ). living_born o c.self.inside.living) (found c)) in (
+      subst (λ (tasks : List (Option Task)). IsBoard (record { script = c.self.inside.script; history = history c; home = tasks; pool = c.put_back.new.pool; room = room })) (sym (homes c))
+          (board_back (laws c) (old c) (task c).name (cpu c) (ran c) close (may c) (reverse (history c)) (is_left c) (task c) refl (home c) (history c) refl last c.perform.new.tasks.items bears c.put_back.new.pool room pool_is c.tell_turn.ensures.capacity),
+      subst (λ (tasks : List (Option Task)). IsKeptBeside (record { script = c.self.inside.script; history = history c; home = tasks; pool = c.put_back.new.pool; room = room }) c.put_back.new.ready.items (deque_capacity c.put_back.new.ready) c.put_back.new.living) (sym (homes c))
+          (beside_same _ _ _ _ _ _ _ ready_is (c.put_back.ensures.capacity ∙ c.perform.ensures.capacity) living_now
+          (beside_back (laws c) (old c) (task c).name (cpu c) (ran c) close (may c) (reverse (history c)) (is_left c) (task c) refl (home c) (history c) refl last c.perform.new.tasks.items bears c.put_back.new.pool room c.self.inside.ready.items (deque_capacity c.self.inside.ready) c.self.inside.living c.self.invariant.1)),
     )
 
+pub returns-clause-history : goal.returns-clause-history
+returns-clause-history c = rw (← c.self.view_is) (told c)
+
 pub returns-clause-legal : goal.returns-clause-legal
-returns-clause-legal c = back_legal (laws c) (old c) (history c) (task c) c.args.turn.cpu (lines c) c.args.close (may c) (told c)
+returns-clause-legal c = (is_left c).legal
 
 pub returns-clause-replay : goal.returns-clause-replay
-returns-clause-replay c = rw (← c.self.view_is) (back_replay (laws c) (old c) (history c) (task c) c.args.turn.cpu (lines c) c.args.close (may c) (told c))
+returns-clause-replay c =
+    rw (← c.self.view_is) (ap reverse (told c) ∙ reverse_onto_past (turn_events (task c).name (ran c) c.args.close) (old c).history
+    ∙ sym (turn_replays (laws c) (old c) (task c).name (cpu c) (ran c) c.args.close (may c)))
 
 pub returns-clause-stage : goal.returns-clause-stage
-returns-clause-stage c = back_stage (laws c) (old c) (history c) (task c) c.args.turn.cpu (lines c) c.args.close (may c) (told c)
+returns-clause-stage c = back_stage (laws c) (old c) (task c).name (cpu c) (ran c) c.args.close (may c) (reverse (history c)) (is_left c)
 
 pub returns-clause-private : goal.returns-clause-private
-returns-clause-private c = rw (← c.self.view_is) (back_private (laws c) (old c) (history c) (task c) c.args.turn.cpu (lines c) c.args.close (may c) (told c))
+returns-clause-private c = rw (← c.self.view_is) (back_private (laws c) (old c) (task c).name (cpu c) (ran c) c.args.close (may c) (reverse (history c)) (is_left c))
 
 pub returns-clause-free : goal.returns-clause-free
-returns-clause-free c = back_free (laws c) (old c) (history c) (task c) c.args.turn.cpu (lines c) c.args.close (may c) (told c)
+returns-clause-free c = back_free (laws c) (old c) (task c).name (cpu c) (ran c) c.args.close (may c) (reverse (history c)) (is_left c)
+
+pub returns-clause-born : goal.returns-clause-born
+returns-clause-born c = rw (← c.self.view_is) (back_born (laws c) (old c) (task c).name (cpu c) (ran c) c.args.close (may c) (reverse (history c)) (is_left c) (record { script = c.self.inside.script; history = history c; home = c.put_back.new.tasks.items; pool = c.put_back.new.pool; room = vec_capacity c.tell_turn.new.events }) refl)
 
 pub returns-clause-others : goal.returns-clause-others
-returns-clause-others c = rw (← c.self.view_is) (back_others (laws c) (old c) (history c) (task c) c.args.turn.cpu (lines c) c.args.close (may c) (told c))
+returns-clause-others c = rw (← c.self.view_is) (back_others (laws c) (old c) (task c).name (cpu c) (ran c) c.args.close (may c) (reverse (history c)) (is_left c) (record { script = c.self.inside.script; history = history c; home = c.put_back.new.tasks.items; pool = c.put_back.new.pool; room = vec_capacity c.tell_turn.new.events }) refl)
 
 pub returns-clause-turns : goal.returns-clause-turns
-returns-clause-turns c = rw (← c.self.view_is) (back_turns (laws c) (old c) (history c) (task c) c.args.turn.cpu (lines c) c.args.close (may c) (told c))
+returns-clause-turns c = rw (← c.self.view_is) (back_turns (laws c) (old c) (task c).name (cpu c) (ran c) c.args.close (may c) (reverse (history c)) (is_left c))

@@ -7,7 +7,7 @@ use Rattle.xs_model.specs.declared.script.Block.{Block}
 use Rattle.xs_model.specs.Bound.{most_events}
 use Rattle.xs_pool.specs.Pool.{Pool}
 use Rattle.xs_board.specs.Board.{IsBoard, IsKeptBeside}
-use Rattle.xs_board.specs.Opening.{users_in, numbers_from, AreFirst}
+use Rattle.xs_board.specs.Opening.{users_in, born_from, born_in, AreFirst}
 use Rattle.xs_board.proofs.Beginning.{board_open, beside_open}
 use Rattle.xs_board.proofs.board.Board.open.Goals as goal
 
@@ -20,7 +20,6 @@ invariant_of-result c =
     let queue = c.in_ok-ready.ready in
     let blocks = c.as_slice-blocks.ensures in
     let opened = c.in_ok-pool.ensures.opened in
-    let count = length c.as_slice-blocks.result.now in
     let most : most_events script ≤ room = omega (arith, c.in-Some.ensures, c.in_ok-events.ensures.capacity) in (
       subst (λ (history : List Event). IsBoard (record { script = script; history = history; home = tasks; pool = pool; room = room })) (sym c.in_ok-events.ensures.items)
           (board_open script tasks pool room c.requires.valid c.requires.built
@@ -31,9 +30,9 @@ invariant_of-result c =
           (c.in_ok-tasks.ensures.large ∙ ap (λ (p : Pool). p.large.out) opened)
           (c.in_ok-tasks.ensures.given ∙ ap users_in blocks)
           most),
-      subst (λ (history : List Event). IsKeptBeside (record { script = script; history = history; home = tasks; pool = pool; room = room }) queue.items (deque_capacity queue) count) (sym c.in_ok-events.ensures.items)
-          (beside_open script tasks pool room c.requires.built queue.items (deque_capacity queue) count
-          (c.in_ok-ready.ensures.numbers ∙ ap (λ (all : List Block). numbers_from 0 (length all)) blocks)
+      subst (λ (history : List Event). IsKeptBeside (record { script = script; history = history; home = tasks; pool = pool; room = room }) queue.items (deque_capacity queue) c.count_born-living.result) (sym c.in_ok-events.ensures.items)
+          (beside_open script tasks pool room queue.items (deque_capacity queue) c.count_born-living.result
+          (c.in_ok-ready.ensures.born ∙ ap (born_from 0) blocks)
           (subst (λ (all : List Block). length all ≤ deque_capacity queue) blocks c.in_ok-ready.ensures.room)
-          (ap length blocks)),
+          (c.count_born-living.ensures ∙ ap born_in blocks)),
     )

@@ -17,7 +17,7 @@ use Rattle.xs_model.specs.Script.{is_user, is_user_kind}
 use Rattle.xs_model.specs.State.{stage_at}
 use Rattle.xs_board.specs.Board.{Board, IsKeptBeside, IsTaskOf, past_of, private_in, task_of_state}
 use Rattle.xs_board.specs.Taken.{is_user_how}
-use Rattle.xs_board.proofs.Asking.{nil_of_len, nobody_lives, somebody_lives, first_ready, ready_known, ready_lives, ready_home, may_take, user_how, skip_held, is_at_some}
+use Rattle.xs_board.proofs.Asking.{nil_of_len, nobody_lives, somebody_lives, first_ready, ready_known, ready_lives, ready_home, may_take, other_has, user_how, skip_held, is_at_some}
 use Rattle.xs_board.proofs.Taking.{MayTake, start_fits, taken_legal, taken_replay, taken_stage, taken_private, taken_others, taken_busy, taken_turns, board_taken, beside_taken}
 use Rattle.xs_board.proofs.board.Board.take.Goals as goal
 use Rattle.xs_board.proofs.board.Board.take.Goals.{then-self-eq0, else-self-eq0}
@@ -36,6 +36,18 @@ returns-in_default-clause-nothing c =
       | else-self-eq0 w ↦ rw (w.result-is, ← c.self.view_is) (sym c.self.invariant.1.queue ∙ empty, somebody_lives (before c) c.self.inside.ready.items (deque_capacity c.self.inside.ready) c.self.inside.living c.self.invariant.1 w.if-self-eq0.false)
     ]
 
+pub returns-in_default-clause-idle : goal.returns-in_default-clause-idle
+returns-in_default-clause-idle c =
+    let none : length c.self.inside.ready.items ≡ 0 = omega (arith, c.in_default.ensures.cases.0) in
+    let empty = nil_of_len c.self.inside.ready.items none in
+    elim c.if-self-eq0.branch [
+      | then-self-eq0 w ↦ rw w.result-is tt
+      | else-self-eq0 w ↦ rw (w.result-is, ← c.self.view_is)
+          (other_has c.machine_laws.ensures (before c) c.args.cpu c.self.invariant.0 (sym c.self.invariant.1.queue ∙ empty)
+          (somebody_lives (before c) c.self.inside.ready.items (deque_capacity c.self.inside.ready) c.self.inside.living c.self.invariant.1 w.if-self-eq0.false)
+          (rw (← c.self.view_is) at c.requires.free))
+    ]
+
 pub returns-in_default-clause-done : goal.returns-in_default-clause-done
 returns-in_default-clause-done c =
     elim c.if-self-eq0.branch [
@@ -46,39 +58,39 @@ returns-in_default-clause-done c =
 pub bounds-as_slice-name : goal.bounds-as_slice-name
 bounds-as_slice-name c =
     let board : Board = record { script = c.self.inside.script; history = c.self.inside.events.items; home = c.self.inside.tasks.items; pool = c.self.inside.pool; room = vec_capacity c.self.inside.events } in
-    rw c.as_slice.ensures (ready_known board c.in-Some.name c.self.invariant.0 (first_ready c.ready_once.ensures.first board c.self.inside.ready.items (deque_capacity c.self.inside.ready) c.self.inside.living c.in-Some.name c.pop_front.new.self.items c.self.invariant.0 c.self.invariant.1 c.in-Some.ensures.items))
+    rw c.as_slice.ensures (ready_known c.machine_laws.ensures.machine board c.in-Some.name (first_ready c.machine_laws.ensures.first board c.self.inside.ready.items (deque_capacity c.self.inside.ready) c.self.inside.living c.in-Some.name c.pop_front.new.self.items c.self.invariant.0 c.self.invariant.1 c.in-Some.ensures.items))
 
 pub bounds-as_slice-name-in-Some : goal.bounds-as_slice-name-in-Some
 bounds-as_slice-name-in-Some c =
     let board : Board = record { script = c.self.inside.script; history = c.self.inside.events.items; home = c.self.inside.tasks.items; pool = c.self.inside.pool; room = vec_capacity c.self.inside.events } in
-    rw c.as_slice.ensures (ready_known board c.in-Some.name c.self.invariant.0 (first_ready c.ready_once.ensures.first board c.self.inside.ready.items (deque_capacity c.self.inside.ready) c.self.inside.living c.in-Some.name c.pop_front.new.self.items c.self.invariant.0 c.self.invariant.1 c.in-Some.ensures.items))
+    rw c.as_slice.ensures (ready_known c.machine_laws.ensures.machine board c.in-Some.name (first_ready c.machine_laws.ensures.first board c.self.inside.ready.items (deque_capacity c.self.inside.ready) c.self.inside.living c.in-Some.name c.pop_front.new.self.items c.self.invariant.0 c.self.invariant.1 c.in-Some.ensures.items))
 
 -- ---- the first ready block
 
 pub index_mut-requires : goal.index_mut-requires
 index_mut-requires c =
     let board : Board = record { script = c.self.inside.script; history = c.self.inside.events.items; home = c.self.inside.tasks.items; pool = c.self.inside.pool; room = vec_capacity c.self.inside.events } in
-    let known = ready_known board c.in-Some.name c.self.invariant.0 (first_ready c.ready_once.ensures.first board c.self.inside.ready.items (deque_capacity c.self.inside.ready) c.self.inside.living c.in-Some.name c.pop_front.new.self.items c.self.invariant.0 c.self.invariant.1 c.in-Some.ensures.items) in
+    let known = ready_known c.machine_laws.ensures.machine board c.in-Some.name (first_ready c.machine_laws.ensures.first board c.self.inside.ready.items (deque_capacity c.self.inside.ready) c.self.inside.living c.in-Some.name c.pop_front.new.self.items c.self.invariant.0 c.self.invariant.1 c.in-Some.ensures.items) in
     let count = c.self.invariant.0.count in
     omega arith
 
 pub unreachable-requires : goal.unreachable-requires
 unreachable-requires c =
     let board : Board = record { script = c.self.inside.script; history = c.self.inside.events.items; home = c.self.inside.tasks.items; pool = c.self.inside.pool; room = vec_capacity c.self.inside.events } in
-    let ready = first_ready c.ready_once.ensures.first board c.self.inside.ready.items (deque_capacity c.self.inside.ready) c.self.inside.living c.in-Some.name c.pop_front.new.self.items c.self.invariant.0 c.self.invariant.1 c.in-Some.ensures.items in
-    let known = ready_known board c.in-Some.name c.self.invariant.0 ready in
+    let ready = first_ready c.machine_laws.ensures.first board c.self.inside.ready.items (deque_capacity c.self.inside.ready) c.self.inside.living c.in-Some.name c.pop_front.new.self.items c.self.invariant.0 c.self.invariant.1 c.in-Some.ensures.items in
+    let known = ready_known c.machine_laws.ensures.machine board c.in-Some.name ready in
     let count = c.self.invariant.0.count in
-    let home = ready_home board c.in-Some.name c.self.invariant.0 ready in
+    let home = ready_home c.machine_laws.ensures.machine board c.in-Some.name c.self.invariant.0 ready in
     c.in_default-take.not-Some home.0 (c.take.ensures.value ∙ c.index_mut.ensures.value ∙ get_or_default c.self.inside.tasks.items c.in-Some.name c.index_mut.result.now None (omega arith) ∙ home.1)
 
 pub tell-requires : goal.tell-requires
 tell-requires c =
     let board : Board = record { script = c.self.inside.script; history = c.self.inside.events.items; home = c.self.inside.tasks.items; pool = c.self.inside.pool; room = vec_capacity c.self.inside.events } in
-    let both = may_take c.ready_once.ensures.first c.two_numbers.ensures board c.self.inside.ready.items (deque_capacity c.self.inside.ready) c.self.inside.living c.in-Some.name c.pop_front.new.self.items c.args.cpu c.index-as_slice-name.result c.index_mut.result.now c.in-Some-take.task c.args.mark c.start_how-how.result
+    let both = may_take c.machine_laws.ensures board c.self.inside.ready.items (deque_capacity c.self.inside.ready) c.self.inside.living c.in-Some.name c.pop_front.new.self.items c.args.cpu c.index-as_slice-name.result c.index_mut.result.now c.in-Some-take.task c.args.mark c.start_how-how.result
     c.self.invariant.0 c.self.invariant.1 c.in-Some.ensures.items (sym c.take.ensures.value ∙ c.in-Some-take.is) c.index_mut.ensures.value (c.index-as_slice-name.is ∙ ap (λ (blocks : List Block). get_or blocks c.in-Some.name c.index-as_slice-name.result) c.as_slice.ensures)
     (rw (← c.self.view_is) at c.requires.processor) (rw (← c.self.view_is) at c.requires.free) (rw (← c.self.view_is) at c.requires.mark)
     (c.start_how-how.ensures ∙ ap (λ (b : Block). how_of (is_user_kind b.kind) (is_at c.args.mark c.in-Some.name && is_at c.in-Some-take.task.last c.args.cpu)) (sym c.index-as_slice-name.is)) in
-    record { room = start_fits board c.in-Some.name c.args.cpu c.pop_front.new.self.items c.start_how-how.result both.0 }
+    record { room = start_fits c.machine_laws.ensures board c.in-Some.name c.args.cpu c.pop_front.new.self.items c.start_how-how.result both.0 }
 
 -- ---- after its Start
 
@@ -100,7 +112,7 @@ history c = c.tell.new.events.items
 -- the block may start, with its task
 both : (c : goal.After-tell) → MayTake (old c) (t c) c.args.cpu (rest c) (how c) × IsTaskOf (old c) (t c) c.in-Some-take.task
 both c =
-    may_take c.ready_once.ensures.first c.two_numbers.ensures (old c) c.self.inside.ready.items (deque_capacity c.self.inside.ready) c.self.inside.living c.in-Some.name c.pop_front.new.self.items c.args.cpu c.index-as_slice-name.result c.index_mut.result.now c.in-Some-take.task c.args.mark c.start_how-how.result
+    may_take c.machine_laws.ensures (old c) c.self.inside.ready.items (deque_capacity c.self.inside.ready) c.self.inside.living c.in-Some.name c.pop_front.new.self.items c.args.cpu c.index-as_slice-name.result c.index_mut.result.now c.in-Some-take.task c.args.mark c.start_how-how.result
     c.self.invariant.0 c.self.invariant.1 c.in-Some.ensures.items (sym c.take.ensures.value ∙ c.in-Some-take.is) c.index_mut.ensures.value (c.index-as_slice-name.is ∙ ap (λ (blocks : List Block). get_or blocks c.in-Some.name c.index-as_slice-name.result) c.as_slice.ensures)
     (rw (← c.self.view_is) at c.requires.processor) (rw (← c.self.view_is) at c.requires.free) (rw (← c.self.view_is) at c.requires.mark)
     (c.start_how-how.ensures ∙ ap (λ (b : Block). how_of (is_user_kind b.kind) (is_at c.args.mark c.in-Some.name && is_at c.in-Some-take.task.last c.args.cpu)) (sym c.index-as_slice-name.is))
@@ -114,11 +126,11 @@ told c = c.tell.ensures.told
 pub invariant_of-self-2 : goal.invariant_of-self-2
 invariant_of-self-2 c =
     let home = slice_set c.self.inside.tasks.items (t c) c.take.new.self in (
-      board_taken (old c) (history c) (t c) c.args.cpu (rest c) (how c) (both c).0 (told c) home (vec_capacity c.tell.new.events)
+      board_taken c.machine_laws.ensures (old c) (t c) c.args.cpu (rest c) (how c) (both c).0 (history c) (told c) home (vec_capacity c.tell.new.events)
           (length-set c.self.inside.tasks.items (t c) c.take.new.self)
           (λ (u : ℕ) (other : u ≡ t c → ⊥). get_or-set_other c.self.inside.tasks.items (t c) u c.take.new.self None other)
           c.tell.ensures.capacity,
-      beside_taken (old c) (history c) (t c) c.args.cpu (rest c) (how c) (both c).0 (told c) home (vec_capacity c.tell.new.events) (deque_capacity c.pop_front.new.self) c.self.inside.living
+      beside_taken c.machine_laws.ensures (old c) (t c) c.args.cpu (rest c) (how c) (both c).0 (history c) (told c) home (vec_capacity c.tell.new.events) (deque_capacity c.pop_front.new.self) c.self.inside.living
           (subst (λ (list : List ℕ). IsKeptBeside (old c) list (deque_capacity c.pop_front.new.self) c.self.inside.living) c.in-Some.ensures.items
           (subst (λ (capacity : ℕ). IsKeptBeside (old c) c.self.inside.ready.items capacity c.self.inside.living) (sym c.pop_front.ensures.capacity) c.self.invariant.1)),
     )
@@ -150,22 +162,22 @@ pub returns-clause-history : goal.returns-clause-history
 returns-clause-history c = rw (← c.self.view_is) (told c ∙ ap (λ (n : ℕ). (old c).history ++ events.Start n c.args.cpu (how c) None ∷ []) (sym (name_is c)))
 
 pub returns-clause-legal : goal.returns-clause-legal
-returns-clause-legal c = taken_legal (old c) (history c) (t c) c.args.cpu (rest c) (how c) (both c).0 (told c)
+returns-clause-legal c = taken_legal c.machine_laws.ensures (old c) (t c) c.args.cpu (rest c) (how c) (both c).0 (history c) (told c)
 
 pub returns-clause-replay : goal.returns-clause-replay
-returns-clause-replay c = rw (← c.self.view_is) (taken_replay (old c) (history c) (t c) c.args.cpu (rest c) (how c) (both c).0 (told c))
+returns-clause-replay c = rw (← c.self.view_is) (taken_replay c.machine_laws.ensures (old c) (t c) c.args.cpu (rest c) (how c) (both c).0 (history c) (told c))
 
 pub returns-clause-stage : goal.returns-clause-stage
-returns-clause-stage c = subst (λ (n : ℕ). stage_at (machine c.self.inside.script (reverse (history c))).blocks n ≡ stages.Turn c.args.cpu 0) (sym (name_is c)) (taken_stage (old c) (history c) (t c) c.args.cpu (rest c) (how c) (both c).0 (told c))
+returns-clause-stage c = subst (λ (n : ℕ). stage_at (machine c.self.inside.script (reverse (history c))).blocks n ≡ stages.Turn c.args.cpu 0) (sym (name_is c)) (taken_stage c.machine_laws.ensures (old c) (t c) c.args.cpu (rest c) (how c) (both c).0 (history c) (told c))
 
 pub returns-clause-private : goal.returns-clause-private
-returns-clause-private c = rw (← c.self.view_is) (subst (λ (n : ℕ). task_of_state (slice_get (machine c.self.inside.script (reverse (history c))).blocks n) ≡ private_in (old c) n) (sym (name_is c)) (taken_private (old c) (history c) (t c) c.args.cpu (rest c) (how c) (both c).0 (told c)))
+returns-clause-private c = rw (← c.self.view_is) (subst (λ (n : ℕ). task_of_state (slice_get (machine c.self.inside.script (reverse (history c))).blocks n) ≡ private_in (old c) n) (sym (name_is c)) (taken_private c.machine_laws.ensures (old c) (t c) c.args.cpu (rest c) (how c) (both c).0 (history c) (told c)))
 
 pub returns-clause-busy : goal.returns-clause-busy
-returns-clause-busy c = taken_busy (old c) (history c) (t c) c.args.cpu (rest c) (how c) (both c).0 (told c) ∙ ap Some (sym (name_is c))
+returns-clause-busy c = taken_busy c.machine_laws.ensures (old c) (t c) c.args.cpu (rest c) (how c) (both c).0 (history c) (told c) ∙ ap Some (sym (name_is c))
 
 pub returns-clause-others : goal.returns-clause-others
-returns-clause-others c = rw (← c.self.view_is) (λ u other. taken_others (old c) (history c) (t c) c.args.cpu (rest c) (how c) (both c).0 (told c) u (λ (same : u ≡ t c). other (same ∙ sym (name_is c))))
+returns-clause-others c = rw (← c.self.view_is) (λ u other. taken_others c.machine_laws.ensures (old c) (t c) c.args.cpu (rest c) (how c) (both c).0 (history c) (told c) u (λ (same : u ≡ t c). other (same ∙ sym (name_is c))))
 
 pub returns-clause-turns : goal.returns-clause-turns
-returns-clause-turns c = rw (← c.self.view_is) (taken_turns (old c) (history c) (t c) c.args.cpu (rest c) (how c) (both c).0 (told c))
+returns-clause-turns c = rw (← c.self.view_is) (taken_turns c.machine_laws.ensures (old c) (t c) c.args.cpu (rest c) (how c) (both c).0 (history c) (told c))

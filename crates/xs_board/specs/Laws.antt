@@ -1,0 +1,35 @@
+-- The laws of the private machine on which the board rests.
+use Rattle.xs_model.specs.Laws.{LinesFound, TurnsKnown, TurnsApart, TwoNumbers, FirstReady, NobodyReady, NeverStuck, FewEvents, MachineKnown, BuiltBlocks, BuiltEnds, BuiltLines, ForkBears, UnbornUnseen, StartIsStep, LocalIsStep, ForkIsStep, EndIsStep, StartedBlock, RanBlock, ForkedBlock, BornBlock, EndedBlock, StartOthers, LocalOthers, ForkOthers, EndOthers, StartTakes, LocalKeeps, LocalRises, ForkRises}
+
+pub record Laws : Type 0 where
+  pub found : LinesFound
+  pub known : TurnsKnown
+  pub apart : TurnsApart
+  pub numbers : TwoNumbers
+  pub first : FirstReady
+  pub nobody : NobodyReady
+  pub stuck : NeverStuck
+  pub few : FewEvents
+  pub machine : MachineKnown
+  pub blocks : BuiltBlocks
+  pub ends : BuiltEnds
+  pub lines : BuiltLines
+  pub bears : ForkBears
+  pub unseen : UnbornUnseen
+  pub start_is : StartIsStep
+  pub local_is : LocalIsStep
+  pub fork_is : ForkIsStep
+  pub end_is : EndIsStep
+  pub started : StartedBlock
+  pub ran : RanBlock
+  pub forked : ForkedBlock
+  pub born : BornBlock
+  pub ended : EndedBlock
+  pub start_others : StartOthers
+  pub local_others : LocalOthers
+  pub fork_others : ForkOthers
+  pub end_others : EndOthers
+  pub start_ready : StartTakes
+  pub local_keeps : LocalKeeps
+  pub local_rises : LocalRises
+  pub fork_rises : ForkRises
