@@ -1,12 +1,10 @@
 -- An entry that takes a turn from the board.
-use Rattle.std.proofs.Common.{◌≡◌, ℕ, zero, suc, ◌+◌, ◌<◌, ◌≤◌, Bool, true, false, not, ◌&&◌, List, [], ◌∷◌, ◌++◌, length, reverse, Option, Some, None, if◌then◌else◌, slice_get, refl, sym, ap, ◌∙◌, inl, inr, arith, subst}
+use Rattle.std.proofs.Common.{◌≡◌, ℕ, zero, suc, ◌+◌, Bool, true, false, ◌==◌, List, [], ◌∷◌, Option, Some, None, if◌then◌else◌, slice_get, refl, sym, ap, ◌∙◌, inl, inr, arith, subst}
 use Rattle.std.proofs.lemmas.Bool.{cases_eq, cases_Bool, eq-eqb}
-use Rattle.std.proofs.lemmas.List.{reverse-append}
-use Rattle.xs_base.specs.declared.words.How.{How}
-use Rattle.xs_base.specs.declared.words.How.TheVariants as hows
 use Rattle.xs_base.specs.Counts.{after_start}
-use Rattle.xs_base.specs.File.{File, AreSameButPkru}
-use Rattle.xs_base.specs.Task.{PrivateTask, parked}
+use Rattle.xs_base.specs.File.{File, AreSameButPkru, pkru_bytes, pkru_of}
+use Rattle.xs_base.specs.Task.{PrivateTask, start_pkru}
+use Rattle.xs_base.proofs.FileLemmas.{part_other}
 use Rattle.xs_bank.specs.declared.cpu.Cpu.{Cpu}
 use Rattle.xs_bank.specs.Bank as banks
 use Rattle.xs_bank.specs.Bank.{counts_of}
@@ -17,22 +15,21 @@ use Rattle.xs_model.specs.declared.script.Script.{Script}
 use Rattle.xs_model.specs.declared.stage.Stage.TheVariants as stages
 use Rattle.xs_model.specs.Counts as told
 use Rattle.xs_model.specs.Counts.{in_section}
-use Rattle.xs_model.specs.History.{machine_of}
+use Rattle.xs_model.specs.Laws.{HadNoTurn}
 use Rattle.xs_model.specs.Machine.{machine}
 use Rattle.xs_model.specs.Note.{cpu_of, notes_of, mark, mark_after, last, Starts}
 use Rattle.xs_model.specs.Replay.{runner}
 use Rattle.xs_model.specs.Script.{is_user}
 use Rattle.xs_model.specs.State.{BlockState, stage_at, stage_of, turn_cpu, is_on_cpu}
+use Rattle.xs_switch.specs.Pkru.{given_pkru}
 use Rattle.xs_task.specs.declared.task.Task.{Task}
 use Rattle.xs_board.specs.declared.turn.Turn.{Turn}
-use Rattle.xs_board.specs.Board.{Board, past_of, machine_in, private_in, stage_in, turn_on, task_of_state, KeepsOthers, KeepsTurns, IsTaskOf}
-use Rattle.xs_board.specs.Home.{IsHome}
+use Rattle.xs_board.specs.Board.{Board, past_of, machine_in, private_in, stage_in, turn_on, task_of_state, KeepsOthers, KeepsTurns}
 use Rattle.xs_board.specs.Taken.{is_user_how}
-use Rattle.xs_machine.specs.Line.{IsOn, KeepsCpu}
+use Rattle.xs_machine.specs.Line.{IsOn}
 use Rattle.xs_machine.specs.Running.{IsRun, IsTold, IsProcessor, IsTurnHeld, HasTurn, IsAt, LeavesOthers, MayBegin, Begun}
 use Rattle.xs_machine.specs.Turn.{AreRunning, Continues, HasLeft}
-use Rattle.xs_machine.proofs.Histories.{one_event, then_on, counts_here, mark_here, section_here, file_here, mark_user, at_self}
-use Rattle.xs_machine.proofs.Stages.{in_turn}
+use Rattle.xs_machine.proofs.Histories.{one_event, counts_here, mark_here, section_here, file_here, mark_user}
 
 -- ---- boards
 
@@ -76,7 +73,15 @@ remains_none script past d file is some = let none : told.remains script past d 
 
 -- ---- other processors
 
-module _ (script : Script) (i t : ℕ) (old new : Board) (cont : Continues script t i (past_of old) (past_of new)) (keep : KeepsOthers t old new) (turns : KeepsTurns i old new)
+-- Every other block that had a turn is in the state in which it was.
+abbrev pub KeepsSeen : Script → ℕ → Board → Board → Type 0
+KeepsSeen script t old new = (u : ℕ) → (u ≡ t → ⊥) → (HadNoTurn script (past_of old) u → ⊥) → slice_get (machine_in new).blocks u ≡ slice_get (machine_in old).blocks u
+
+-- a block with a last processor had a turn
+pub had_turn : (script : Script) (past : List Event) (d u : ℕ) → last script past u ≡ Some d → HadNoTurn script past u → ⊥
+had_turn script past d u home none = let no : Some d ≡ None = sym home ∙ none.last in absurd (cc no)
+
+module _ (script : Script) (i t : ℕ) (old new : Board) (cont : Continues script t i (past_of old) (past_of new)) (keep : KeepsSeen script t old new) (turns : KeepsTurns i old new)
     (apart : (d u : ℕ) → (d ≡ i → ⊥) → stage_in old u ≡ stages.Turn d 0 → turn_on old d ≡ Some u → u ≡ t → ⊥) where
   pub told_other : (d : ℕ) (bank : banks.Bank) → (d ≡ i → ⊥) → IsTold script old d bank → IsTold script new d bank
   told_other d bank other was = record {
@@ -88,15 +93,16 @@ module _ (script : Script) (i t : ℕ) (old new : Board) (cont : Continues scrip
   held_other d turn cpu bank other was =
       let u = turn.task.name in
       let ne : u ≡ t → ⊥ = apart d u other was.stage was.busy in
+      let same = keep u ne (had_turn script (past_of old) d u was.home) in
       record {
         cpu_is = was.cpu_is;
-        stage = stage_same old new u (keep u ne) ∙ was.stage;
+        stage = stage_same old new u same ∙ was.stage;
         busy = turns d other ∙ was.busy;
         here = cont.cpu u ne ∙ was.here;
         home = cont.last_is u ne ∙ was.home;
-        latest = cont.files d u other ∙ was.latest ∙ ap told.file_of (sym (keep u ne));
+        latest = cont.files d u other ∙ was.latest ∙ ap told.file_of (sym same);
         fresh = cont.section u ne ∙ was.fresh;
-        on = rw (private_same old new u (keep u ne)) was.on;
+        on = rw (private_same old new u same) was.on;
         flag = was.flag;
         own = λ user. cont.mark_is d other ∙ was.own user;
       }
@@ -113,7 +119,9 @@ module _ (script : Script) (i t : ℕ) (old new : Board) (cont : Continues scrip
     mark_is = was.mark_is ∙ sym (cont.mark_is d other);
     holds = λ u is last. elim (cases_eq u t) [
       | inl same ↦ absurd (let e : Some d ≡ Some i = sym (rw same at last) ∙ cont.home in other (cc))
-      | inr ne ↦ rw (private_same old new u (keep u ne)) (was.holds u (sym (cont.mark_is d other) ∙ is) (sym (cont.last_is u ne) ∙ last))
+      | inr ne ↦
+          let there = sym (cont.last_is u ne) ∙ last in
+          rw (private_same old new u (keep u ne (had_turn script (past_of old) d u there))) (was.holds u (sym (cont.mark_is d other) ∙ is) there)
     ];
   }
 
@@ -144,7 +152,7 @@ held_same old new p q file armed same held = rw same (record { file = rw file he
 
 module _ {B : Type 0} (script : Script) (i t : ℕ) (old new : Board) (p : PrivateTask) (task : Task) (cpu : Cpu B) (before bank : banks.Bank) (block : BlockState)
     (left : HasLeft script t i (past_of old) (past_of new) before p task cpu bank)
-    (keep : KeepsOthers t old new) (here : slice_get (machine_in new).blocks t ≡ Some block) (private : private_in new t ≡ parked p)
+    (keep : KeepsSeen script t old new) (here : slice_get (machine_in new).blocks t ≡ Some block) (same_file : (private_in new t).file ≡ p.file) (same_class : (private_in new t).large ≡ p.large)
     (latest : told.file_after script (past_of new) i t ≡ told.file_of (slice_get (machine_in new).blocks t))
     (was : IsTold script old i before)
     (held : (u : ℕ) → mark script (past_of old) i ≡ Some u → last script (past_of old) u ≡ Some i → Holds before (private_in old u)) where
@@ -153,7 +161,7 @@ module _ {B : Type 0} (script : Script) (i t : ℕ) (old new : Board) (p : Priva
     | inl user ↦
         let own = left.own user u is in
         let mine : mark script (past_of new) i ≡ Some t = is ∙ ap Some own.0 in
-        let f : file ≡ p.file = file_known script new i t block file latest here mine some ∙ ap (λ (q : PrivateTask). q.file) private in
+        let f : file ≡ p.file = file_known script new i t block file latest here mine some ∙ same_file in
         rw f own.1.file
     | inr kernel ↦
         let alien = left.alien kernel u is in
@@ -166,12 +174,12 @@ module _ {B : Type 0} (script : Script) (i t : ℕ) (old new : Board) (p : Priva
   holds_home u is last = elim (cases_Bool (is_user script t)) [
     | inl user ↦
         let own = left.own user u is in
-        let same : private_in new u ≡ parked p = ap (private_in new) own.0 ∙ private in
-        rw same (record { file = own.1.file; armed = own.1.armed })
+        rw own.0 (record { file = rw same_file own.1.file; armed = rw (same_file, same_class) own.1.armed })
     | inr kernel ↦
         let alien = left.alien kernel u is in
         let ne = no_mark script (past_of new) i t u kernel is in
-        held_same before bank (private_in old u) (private_in new u) alien.1 alien.2 (private_same old new u (keep u ne)) (held u alien.0 (sym (left.follows.last_is u ne) ∙ last))
+        let there = sym (left.follows.last_is u ne) ∙ last in
+        held_same before bank (private_in old u) (private_in new u) alien.1 alien.2 (private_same old new u (keep u ne (had_turn script (past_of old) i u there))) (held u alien.0 there)
   ]
 
   file_told : (m : Option ℕ) → mark script (past_of new) i ≡ m → (file : File) → told.remains script (past_of new) i ≡ Some file → AreSameButPkru file bank.file
@@ -186,6 +194,16 @@ module _ {B : Type 0} (script : Script) (i t : ℕ) (old new : Board) (p : Priva
   }
 
 -- ---- a turn begins
+
+-- a bank that was given another PKRU
+given_file : (file : File) (old new : banks.Bank) → new ≡ given_pkru old start_pkru → AreSameButPkru file old.file → AreSameButPkru file new.file
+given_file file old new is same = elim (cases_Bool (pkru_of old.file == start_pkru)) [
+  | inl has ↦ rw (is, has) same
+  | inr other ↦ rw (is, other) (record { rows_are = same.rows_are; parts = λ c apart. part_other old.file 9 c (pkru_bytes start_pkru) apart ∙ same.parts c apart; control = same.control })
+]
+
+given_armed : (old new : banks.Bank) → new ≡ given_pkru old start_pkru → new.armed ≡ old.armed
+given_armed old new is = elim (cases_Bool (pkru_of old.file == start_pkru)) [ inl has ↦ rw (is, has) refl | inr other ↦ rw (is, other) refl ]
 
 module _ {B : Type 0} (script : Script) (i : ℕ) (old new : Board) (turn begun_turn : Turn) (cpu new_cpu : Cpu B) (before bank : banks.Bank) (block : BlockState)
     (at : IsAt script old i None cpu before)
@@ -234,7 +252,7 @@ module _ {B : Type 0} (script : Script) (i : ℕ) (old new : Board) (turn begun_
         let ne = no_mark script (past_of new) i turn.task.name u kernel is in
         let was = sym (old_mark kernel) ∙ is in
         let then_file = remains_at script (past_of new) i u is ∙ start_continues.others i u ne ∙ sym (remains_at script (past_of old) i u was) in
-        rw (begun.still (user ∙ kernel)) (at.told_is.file file (sym then_file ∙ some))
+        given_file file before bank (begun.kernel (user ∙ kernel)) (at.told_is.file file (sym then_file ∙ some))
   ]
 
   file_told_begun : (m : Option ℕ) → mark script (past_of new) i ≡ m → (file : File) → told.remains script (past_of new) i ≡ Some file → AreSameButPkru file bank.file
@@ -246,7 +264,9 @@ module _ {B : Type 0} (script : Script) (i : ℕ) (old new : Board) (turn begun_
     | inl known ↦ let e : Some turn.task.name ≡ Some u = sym (own_mark known) ∙ is in let same : turn.task.name ≡ u = cc in rw (sym same) (held_new known)
     | inr kernel ↦
         let ne = no_mark script (past_of new) i turn.task.name u kernel is in
-        rw (private_same old new u (keep u ne), begun.still (user ∙ kernel)) (at.processor.holds u (sym (old_mark kernel) ∙ is) (sym (start_continues.last_is u ne) ∙ last))
+        let same = begun.kernel (user ∙ kernel) in
+        let held = at.processor.holds u (sym (old_mark kernel) ∙ is) (sym (start_continues.last_is u ne) ∙ last) in
+        rw (private_same old new u (keep u ne)) (record { file = given_file (private_in old u).file before bank same held.file; armed = given_armed before bank same ∙ held.armed })
   ]
 
   begun_mark : (b : Bool) → is_user script turn.task.name ≡ b → new_cpu.mark ≡ mark script (past_of new) i

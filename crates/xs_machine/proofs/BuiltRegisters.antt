@@ -1,18 +1,23 @@
 -- The registers that the program has: where they are, what fits them, and that they never trap.
-use Rattle.std.proofs.Common.{◌≡◌, ℕ, ◌+◌, ◌<◌, ◌^◌, Bool, true, false, not, ◌&&◌, ◌||◌, ◌==◌, List, [], ◌∷◌, length, drop, Option, Some, None, if◌then◌else◌, refl, sym, subst, inl, inr, arith}
-use Rattle.std.proofs.lemmas.Bool.{and_parts, eqb-true, ne_eqb, cases_Bool}
+use Rattle.std.proofs.Common.{◌≡◌, ℕ, ◌+◌, ◌-◌, ◌<◌, Bool, true, false, not, ◌&&◌, ◌||◌, ◌==◌, List, [], ◌∷◌, ◌++◌, length, drop, get_or, Some, None, if◌then◌else◌, refl, sym, ap, ◌∙◌, subst, arith}
+use Rattle.std.proofs.lemmas.Bool.{and_parts, eqb-true, ne_eqb, le-ltb}
+use Rattle.std.proofs.lemmas.List.{ext_get_or, length-drop, get_or-drop}
+use Rattle.std.proofs.lemmas.Nat.{le_bytes_4}
 use Rattle.std.specs.Prelude.{slice_index}
-use Rattle.std.specs.Int.{from_le_bytes, w32}
-use Rattle.std.specs.List.{list_all, list_any, AllByRecursion}
+use Rattle.std.specs.Int.{from_le_bytes, to_le_bytes, w32}
+use Rattle.std.specs.List.{list_all, list_any}
 use Rattle.xs_base.specs.declared.component.Row.{Row}
 use Rattle.xs_base.specs.declared.component.Place.{Place}
-use Rattle.xs_base.specs.Bytes.{splice}
-use Rattle.xs_base.specs.File.{File, IsFile, is_mxcsr, part, with_part, write_place}
-use Rattle.xs_base.specs.Register.{IsNamed, IsRegister, place_of}
+use Rattle.xs_base.specs.Bytes.{splice, zeros}
+use Rattle.xs_base.specs.File.{File, IsFile, is_mxcsr, part, with_part, with_pkru, read_place, write_place}
+use Rattle.xs_base.proofs.ComponentLemmas.{length_zeros, zero_at, pkru_size}
+use Rattle.xs_base.proofs.FileLemmas.{part_here}
+use Rattle.xs_base.specs.Register.{IsNamed, IsRegister, place_at, place_of}
 use Rattle.xs_base.specs.Sets.{has}
-use Rattle.xs_base.proofs.Registers.{named_place}
+use Rattle.xs_base.proofs.Registers.{each_register, named_place}
 use Rattle.xs_bank.specs.Bank as banks
 use Rattle.xs_model.specs.declared.script.Command.TheVariants as commands
+use Rattle.xs_model.specs.Counts.{is_pkru}
 use Rattle.xs_model.specs.Script.{IsCommand, IsBuiltName, fits_register, built_components, is_built}
 
 -- ---- places
@@ -24,10 +29,7 @@ built_place reg built = rw (named_place reg built.0 built.1) built.2
 abbrev is_built_in : ℕ → Type 0
 is_built_in component = list_any (λ c. c == component) built_components ≡ true
 
--- so it isn't that of PKRU, of TILECFG or of TILEDATA
-pub built_not_pkru : (place : Place) → is_built place ≡ true → place.comp.0 ≡ 9 → ⊥
-built_not_pkru place built is = cc (subst is_built_in is built)
-
+-- so it isn't that of TILECFG or of TILEDATA
 pub built_not_config : (place : Place) → is_built place ≡ true → place.comp.0 ≡ 17 → ⊥
 built_not_config place built is = cc (subst is_built_in is built)
 
@@ -37,6 +39,18 @@ built_not_tiles place built is = cc (subst is_built_in is built)
 -- the place of a register of the machine
 pub register_of : (rows : List Row) (reg : List ℕ) (place : Place) → IsRegister rows reg place → IsRegister rows reg (place_of reg)
 register_of rows reg place register = let P : Place → Type 0 = λ p. IsRegister rows reg p in subst P (sym (named_place reg place register.0)) register
+
+-- PKRU's component has one register, its first four bytes
+pub pkru_place : (reg : List ℕ) → IsBuiltName reg → is_pkru (place_of reg) ≡ true → place_of reg ≡ place_at 9 0 4
+pkru_place reg built nine =
+    let place : Place = place_of reg in
+    let named : IsNamed reg (place_of reg) = rw (named_place reg built.0 built.1) built.1 in
+    let either = each_register (λ s. not (is_pkru s.place) || ((s.place.offset == 0) && (s.place.len == 4))) reg (place_of reg) refl named in
+    let both = and_parts (place.offset == 0) (place.len == 4) (rw nine at either) in
+    let c = eqb-true place.comp.0 9 nine in
+    let o = eqb-true place.offset 0 both.0 in
+    let n = eqb-true place.len 4 both.1 in
+    rw (c, o, n) refl
 
 -- ---- traps
 
@@ -57,6 +71,30 @@ pub read_passes : (armed : ℕ) (place : Place) → is_built place ≡ true → 
 read_passes armed place built =
     no_trap (has armed 18 && (place.comp.0 == 18)) _ (and_none (has armed 18) (place.comp.0 == 18) (ne_eqb place.comp.0 18 (built_not_tiles place built)))
 
+-- ---- PKRU
+
+-- its four bytes in their component, whose upper ones are zero
+pub pkru_spliced : (bytes old : List ℕ) → length bytes ≡ 4 → ((i : ℕ) → slice_index bytes i < 256) → length old ≡ 8 → ((k : ℕ) → get_or old (4 + k) 0 ≡ 0) → to_le_bytes w32 (from_le_bytes w32 bytes) ++ zeros 4 ≡ splice 0 bytes old
+unfolding splice
+pkru_spliced bytes old len small size clean =
+    let four : to_le_bytes w32 (from_le_bytes w32 bytes) ≡ bytes = le_bytes_4 bytes (from_le_bytes w32 bytes) len small refl in
+    let after : length (drop 4 old) ≡ 4 = length-drop 4 old ∙ ap (λ n. n - 4) size in
+    let rest : zeros 4 ≡ drop 4 old = ext_get_or 0 (zeros 4) (drop 4 old) (length_zeros 4 ∙ sym after) (λ i lt. zero_at 4 i ∙ sym (get_or-drop 4 old i 0 ∙ clean i)) in
+    let behind : 4 ≡ 0 + length bytes = omega (arith, len) in
+    ap (λ (bs : List ℕ). bs ++ zeros 4) four ∙ ap (λ (bs : List ℕ). bytes ++ bs) (rest ∙ ap (λ n. drop n old) behind)
+
+-- a file with this PKRU is the one with these bytes in PKRU's register
+pub pkru_written : (file : File) (reg bytes : List ℕ) → IsFile file → IsBuiltName reg → is_pkru (place_of reg) ≡ true → length bytes ≡ 4 → ((i : ℕ) → slice_index bytes i < 256) → with_pkru file (from_le_bytes w32 bytes) ≡ write_place file (place_of reg) bytes
+pkru_written file reg bytes good built nine len small =
+    rw (pkru_place reg built nine) (ap (λ (bs : List ℕ). with_part file 9 bs)
+    (pkru_spliced bytes (part file 9) len small (good.sizes 9 (omega arith) ∙ pkru_size) (λ k. good.clean 9 (4 + k) (le-ltb (4 + k) 4 (omega arith)))))
+
+-- what is read as PKRU is the register's bytes
+pub pkru_lane : (file : File) (reg : List ℕ) (value : ℕ) → IsFile file → IsBuiltName reg → is_pkru (place_of reg) ≡ true → with_pkru file value ≡ file → to_le_bytes w32 value ≡ read_place file (place_of reg)
+pkru_lane file reg value good built nine own =
+    let here : part file 9 ≡ to_le_bytes w32 value ++ zeros 4 = ap (λ (f : File). part f 9) (sym own) ∙ part_here file 9 (to_le_bytes w32 value ++ zeros 4) (omega (arith, good.count)) in
+    rw (pkru_place reg built nine, here) refl
+
 -- ---- values
 
 -- the value of a command fits its register
@@ -70,12 +108,12 @@ set_length rows reg bytes command =
     let upper : Bool = list_all (λ byte. byte == 0) (drop 2 bytes) in
     eqb-true (length bytes) place.len (and_parts (length bytes == place.len) (not (is_mxcsr place) || upper) (set_fits rows reg bytes command)).0
 
-zero_at : (bytes : List ℕ) → list_all (λ byte. byte == 0) (drop 2 bytes) ≡ true → (slice_index bytes 2 ≡ 0) × (slice_index bytes 3 ≡ 0)
-zero_at [] zero = (refl, refl)
-zero_at (a ∷ []) zero = (refl, refl)
-zero_at (a ∷ (b ∷ [])) zero = (refl, refl)
-zero_at (a ∷ (b ∷ (c ∷ []))) zero = (eqb-true c 0 (and_parts (c == 0) true zero).0, refl)
-zero_at (a ∷ (b ∷ (c ∷ (d ∷ bytes)))) zero =
+upper_at : (bytes : List ℕ) → list_all (λ byte. byte == 0) (drop 2 bytes) ≡ true → (slice_index bytes 2 ≡ 0) × (slice_index bytes 3 ≡ 0)
+upper_at [] zero = (refl, refl)
+upper_at (a ∷ []) zero = (refl, refl)
+upper_at (a ∷ (b ∷ [])) zero = (refl, refl)
+upper_at (a ∷ (b ∷ (c ∷ []))) zero = (eqb-true c 0 (and_parts (c == 0) true zero).0, refl)
+upper_at (a ∷ (b ∷ (c ∷ (d ∷ bytes)))) zero =
     let rest = list_all (λ byte. byte == 0) bytes in
     let parts = and_parts (c == 0) ((d == 0) && rest) zero in
     (eqb-true c 0 parts.0, eqb-true d 0 (and_parts (d == 0) rest parts.1).0)
@@ -84,7 +122,7 @@ upper_zero : (place : Place) (bytes : List ℕ) → fits_register place bytes �
 upper_zero place bytes fits control =
     let upper = list_all (λ byte. byte == 0) (drop 2 bytes) in
     let parts = and_parts (length bytes == place.len) (not (is_mxcsr place) || upper) fits in
-    zero_at bytes (rw control at parts.1)
+    upper_at bytes (rw control at parts.1)
 
 -- and in MXCSR its bytes 2 and 3 are zero
 pub set_control : (rows : List Row) (reg bytes : List ℕ) → IsCommand rows (commands.Set reg bytes) → is_mxcsr (place_of reg) ≡ true → (slice_index bytes 2 ≡ 0) × (slice_index bytes 3 ≡ 0)

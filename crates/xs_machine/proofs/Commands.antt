@@ -1,38 +1,30 @@
 -- A command of a user task whose registers are in the bank.
-use Rattle.std.proofs.Common.{◌≡◌, ℕ, zero, suc, ◌+◌, ◌<◌, ◌^◌, Bool, true, false, ◌&&◌, ◌==◌, List, [], ◌∷◌, length, Option, Some, None, if◌then◌else◌, refl, sym, ap, ◌∙◌, subst, inl, inr, arith}
-use Rattle.std.proofs.lemmas.Bool.{cases_Bool, cases_eq, cases_lt, ne_eqb}
+use Rattle.std.proofs.Common.{◌≡◌, ℕ, zero, suc, ◌+◌, ◌<◌, ◌^◌, false, List, [], ◌∷◌, length, Some, None, if◌then◌else◌, refl, sym, ap, ◌∙◌, inl, inr, arith}
+use Rattle.std.proofs.lemmas.Bool.{cases_Bool, cases_eq, cases_lt}
 use Rattle.std.proofs.lemmas.List.{get_or_past}
 use Rattle.std.proofs.Math.ListN.{length-set}
 use Rattle.std.specs.Prelude.{slice_index, slice_set as set_at}
 use Rattle.std.specs.Int.{from_le_bytes, w32}
 use Rattle.std.specs.List.{AllByRecursion}
-use Rattle.xs_area.specs.declared.area.Lease.{Lease}
 use Rattle.xs_base.specs.declared.component.Row.{Row}
 use Rattle.xs_base.specs.declared.component.Place.{Place}
 use Rattle.xs_base.specs.Bytes.{splice}
-use Rattle.xs_base.specs.Counts.{one_exec, save_if}
-use Rattle.xs_base.specs.File.{File, IsFile, AreSameButPkru, is_mxcsr, part, with_part, read_place, write_place}
-use Rattle.xs_base.specs.Layout.{IsLayout}
+use Rattle.xs_base.specs.File.{File, IsFile, is_mxcsr, part, with_part, write_place}
 use Rattle.xs_base.specs.Register.{IsRegister, place_of}
-use Rattle.xs_base.specs.Task.{PrivateTask, IsFileOf, IsPrivateTask}
+use Rattle.xs_base.specs.Task.{PrivateTask, IsPrivateTask}
 use Rattle.xs_base.specs.Trail.{read_numbers, write_numbers}
 use Rattle.xs_base.proofs.FileLemmas.{part_here, part_other, with_control, write_is_file}
 use Rattle.xs_base.proofs.ByteRangeLemmas.{AreBytes, splice_are}
 use Rattle.xs_bank.specs.Bank as banks
 use Rattle.xs_bank.specs.Bank.{IsReady, counts_of}
 use Rattle.xs_bank.specs.Holds.{Holds}
-use Rattle.xs_model.specs.declared.event.Reply.{Reply}
-use Rattle.xs_model.specs.declared.event.Reply.TheVariants as replies
 use Rattle.xs_model.specs.declared.script.Command.TheVariants as commands
-use Rattle.xs_model.specs.declared.script.Script.{Script}
-use Rattle.xs_model.specs.Counts.{exec_of, numbers_of, is_pkru}
+use Rattle.xs_model.specs.Counts.{exec_of, is_pkru}
 use Rattle.xs_model.specs.Line.{next_line, local_after}
-use Rattle.xs_model.specs.Script.{IsCommand, IsBuiltName, is_built}
-use Rattle.xs_switch.specs.Running.{CanSave, IsRunning, IsSaveable}
+use Rattle.xs_model.specs.Script.{IsCommand, IsBuiltName}
 use Rattle.xs_task.specs.declared.task.Task.{Task}
-use Rattle.xs_task.specs.Private.{private_of}
-use Rattle.xs_machine.specs.Line.{IsUserOn}
-use Rattle.xs_machine.proofs.BuiltRegisters.{built_place, built_not_pkru, built_not_tiles, register_of, set_length, set_control}
+use Rattle.xs_machine.specs.Line.{IsUserOn, after_get, after_set}
+use Rattle.xs_machine.proofs.BuiltRegisters.{built_place, built_not_tiles, pkru_place, pkru_written, register_of, set_length, set_control}
 
 -- ---- the file after a write
 
@@ -99,11 +91,35 @@ module _ (rows : List Row) (task : PrivateTask) (reg bytes : List ℕ) (valid : 
         })
   ]
 
--- ---- the instructions of a line
+-- ---- the instruction of a line
 
--- an instruction on a built register is counted
-pub counted_here : (reg : List ℕ) (numbers : List ℕ) → IsBuiltName reg → (if is_pkru (place_of reg) then None else Some numbers) ≡ Some numbers
-counted_here reg numbers built = rw (ne_eqb (place_of reg).comp.0 9 (built_not_pkru (place_of reg) (built_place reg built))) refl
+-- what the instruction that sets a register leaves
+module _ (old new : banks.Bank) (reg bytes : List ℕ) (after : new ≡ after_set old (place_of reg) bytes) where
+  pub set_rows : new.file.rows ≡ old.file.rows
+  set_rows = elim (cases_Bool (is_pkru (place_of reg))) [ inl nine ↦ rw (after, nine) refl | inr other ↦ rw (after, other) (write_rows old.file (place_of reg) bytes) ]
+
+  set_armed : new.armed ≡ old.armed
+  set_armed = elim (cases_Bool (is_pkru (place_of reg))) [ inl nine ↦ rw (after, nine) refl | inr other ↦ rw (after, other) refl ]
+
+  set_file : IsFile old.file → IsBuiltName reg → length bytes ≡ (place_of reg).len → AreBytes bytes → new.file ≡ write_place old.file (place_of reg) bytes
+  set_file good built len small = elim (cases_Bool (is_pkru (place_of reg))) [
+    | inl nine ↦
+        let four : length bytes ≡ 4 = len ∙ ap (λ (p : Place). p.len) (pkru_place reg built nine) in
+        rw (after, nine) (pkru_written old.file reg bytes good built nine four small)
+    | inr other ↦ rw (after, other) refl
+  ]
+
+  -- that of PKRU isn't counted
+  pub set_counts : counts_of new ≡ exec_of (if is_pkru (place_of reg) then None else Some (write_numbers (place_of reg) bytes)) (counts_of old)
+  set_counts = elim (cases_Bool (is_pkru (place_of reg))) [ inl nine ↦ rw (after, nine) refl | inr other ↦ rw (after, other) refl ]
+
+-- what the instruction that reads a register leaves
+module _ (old new : banks.Bank) (reg bytes : List ℕ) (after : new ≡ after_get old (place_of reg) bytes) where
+  pub get_rows : new.file.rows ≡ old.file.rows
+  get_rows = elim (cases_Bool (is_pkru (place_of reg))) [ inl nine ↦ rw (after, nine) refl | inr other ↦ rw (after, other) refl ]
+
+  pub get_counts : counts_of new ≡ exec_of (if is_pkru (place_of reg) then None else Some (read_numbers (place_of reg) bytes)) (counts_of old)
+  get_counts = elim (cases_Bool (is_pkru (place_of reg))) [ inl nine ↦ rw (after, nine) refl | inr other ↦ rw (after, other) refl ]
 
 -- ---- what a line leaves of the task
 
@@ -124,14 +140,16 @@ next_on rows task bank private new is on =
 
 -- A register of the task in the bank is set.
 module _ (rows : List Row) (task : Task) (old new : banks.Bank) (reg bytes : List ℕ) (known : IsCommand rows (commands.Set reg bytes)) (built : IsBuiltName reg) (loaded : task.need_load ≡ false)
-    (after : new ≡ banks.after_write old (place_of reg) bytes)
+    (after : new ≡ after_set old (place_of reg) bytes)
     (ready : (id m : ℕ) (area : List ℕ) → IsReady old id m area → IsReady new id m area)
     (p : PrivateTask) (on : IsUserOn rows task old (next_line p)) where
   file_is : new.file ≡ write_place p.file (place_of reg) bytes
-  file_is = ap (λ (b : banks.Bank). b.file) after ∙ ap (λ f. write_place f (place_of reg) bytes) (on.running.whole loaded)
+  file_is =
+      let was : old.file ≡ p.file = on.running.whole loaded in
+      set_file old new reg bytes after (rw was on.running.valid.file.is_file) built (set_length rows reg bytes known) (byte_at bytes known.3) ∙ ap (λ f. write_place f (place_of reg) bytes) was
 
   armed_is : new.armed ≡ old.armed
-  armed_is = ap (λ (b : banks.Bank). b.armed) after
+  armed_is = set_armed old new reg bytes after
 
   pub set_on : IsUserOn rows task new (local_after p (commands.Set reg bytes))
   set_on = record {
@@ -154,20 +172,27 @@ module _ (rows : List Row) (task : Task) (old new : banks.Bank) (reg bytes : Lis
 
 -- A register of the task in the bank is read.
 module _ (rows : List Row) (task : Task) (old new : banks.Bank) (reg bytes : List ℕ) (loaded : task.need_load ≡ false)
-    (after : new ≡ banks.after_read old (place_of reg) bytes)
+    (after : new ≡ after_get old (place_of reg) bytes)
     (p : PrivateTask) (on : IsUserOn rows task old (next_line p)) where
   pub read_on : IsUserOn rows task new (next_line p)
-  read_on = rw after (record {
-    whole = on.whole;
-    ready = λ off lease is. record { armed = (on.ready off lease is).armed; ready = (on.ready off lease is).ready };
-    running = record {
-      valid = on.running.valid;
-      form = on.running.form;
-      pkru = on.running.pkru;
-      saved = on.running.saved;
-      whole = on.running.whole;
-    };
-  })
+  read_on = elim (cases_Bool (is_pkru (place_of reg))) [
+    | inl nine ↦ rw (after, nine) on
+    | inr other ↦
+        rw (after, other) (record {
+          whole = on.whole;
+          ready = λ off lease is. record { armed = (on.ready off lease is).armed; ready = (on.ready off lease is).ready };
+          running = record {
+            valid = on.running.valid;
+            form = on.running.form;
+            pkru = on.running.pkru;
+            saved = on.running.saved;
+            whole = on.running.whole;
+          };
+        })
+  ]
 
   pub read_holds : Holds old p → Holds new (next_line p)
-  read_holds holds = rw after (record { file = holds.file; armed = holds.armed })
+  read_holds holds = elim (cases_Bool (is_pkru (place_of reg))) [
+    | inl nine ↦ rw (after, nine) (record { file = holds.file; armed = holds.armed })
+    | inr other ↦ rw (after, other) (record { file = holds.file; armed = holds.armed })
+  ]

@@ -4,7 +4,7 @@ use Rattle.std.proofs.lemmas.Bool.{cases_eq, ne_eqb}
 use Rattle.std.proofs.lemmas.List.{reverse-append}
 use Rattle.xs_base.specs.declared.component.Row.{Row}
 use Rattle.xs_base.specs.declared.words.How.TheVariants as hows
-use Rattle.xs_base.specs.Task.{PrivateTask, parked}
+use Rattle.xs_base.specs.Task.{PrivateTask, child_of, parked}
 use Rattle.xs_bank.specs.declared.cpu.Cpu.{Cpu}
 use Rattle.xs_bank.specs.Bank as banks
 use Rattle.xs_model.specs.declared.event.Event.{Event}
@@ -13,6 +13,7 @@ use Rattle.xs_model.specs.declared.script.Script.{Script}
 use Rattle.xs_model.specs.declared.stage.Stage.TheVariants as stages
 use Rattle.xs_model.specs.Counts as told
 use Rattle.xs_model.specs.History.{IsLegal}
+use Rattle.xs_model.specs.Laws.{HadNoTurn}
 use Rattle.xs_model.specs.Machine.{machine}
 use Rattle.xs_model.specs.Note.{last}
 use Rattle.xs_model.specs.Script.{is_user}
@@ -22,15 +23,15 @@ use Rattle.xs_board.specs.declared.turn.Close.{Close}
 use Rattle.xs_board.specs.declared.turn.Close.TheVariants as closes
 use Rattle.xs_board.specs.declared.turn.Entry.{Entry}
 use Rattle.xs_board.specs.declared.turn.Turn.{Turn}
-use Rattle.xs_board.specs.Board.{Board, past_of, machine_in, stage_in, private_in, private_after, turn_on, KeepsOthers, KeepsTurns}
+use Rattle.xs_board.specs.Board.{Board, past_of, machine_in, stage_in, private_in, private_with, private_after, private_closed, task_of_state, turn_on, KeepsOthers, KeepsOrBears, KeepsTurns}
 use Rattle.xs_board.specs.Home.{IsHome}
 use Rattle.xs_board.specs.Taken.{is_user_how, IsTurnOf}
-use Rattle.xs_board.specs.Turn.{AreLines, task_after, turn_events, stage_closed}
+use Rattle.xs_board.specs.Turn.{AreLines, task_after, task_closed, turn_events, stage_closed}
 use Rattle.xs_machine.specs.Line.{KeepsCpu}
 use Rattle.xs_machine.specs.Processors.{KeepsProcessor}
 use Rattle.xs_machine.specs.Running.{IsRun, IsAt, LeavesOthers, MayBegin, Begun}
 use Rattle.xs_machine.specs.Turn.{Continues, HasLeft, SomeRunning, past_after}
-use Rattle.xs_machine.proofs.BoardLemmas.{private_same, on_cpu, came_home, leaves_others, start_continues, begun_at, start_running}
+use Rattle.xs_machine.proofs.BoardLemmas.{KeepsSeen, private_same, on_cpu, came_home, leaves_others, start_continues, begun_at, start_running}
 use Rattle.xs_machine.proofs.ScriptLemmas.{turn_known}
 use Rattle.xs_machine.proofs.Stages.{InTurn, in_turn}
 
@@ -82,8 +83,33 @@ known_home script board turn cpu bank run at count name is =
 block_there : (o : Option BlockState) (close : Close) → stage_of o ≡ stage_closed close → (block : BlockState) × (o ≡ Some block)
 block_there None closes.Quantum is = absurd (cc)
 block_there None closes.Yield is = absurd (cc)
+block_there None (closes.Outer line) is = absurd (cc)
 block_there None closes.End is = absurd (cc)
 block_there (Some block) close is = (block, refl)
+
+-- what a close leaves of a private task
+closed_file : (close : Close) (p : PrivateTask) → (task_closed close p).file ≡ p.file
+closed_file closes.Quantum p = refl
+closed_file closes.Yield p = refl
+closed_file (closes.Outer line) p = refl
+closed_file closes.End p = refl
+
+closed_class : (close : Close) (p : PrivateTask) → (task_closed close p).large ≡ p.large
+closed_class closes.Quantum p = refl
+closed_class closes.Yield p = refl
+closed_class (closes.Outer line) p = refl
+closed_class closes.End p = refl
+
+closed_outside : (close : Close) (p : PrivateTask) → (task_closed close p).handling ≡ p.handling
+closed_outside closes.Quantum p = refl
+closed_outside closes.Yield p = refl
+closed_outside (closes.Outer line) p = refl
+closed_outside closes.End p = refl
+
+-- no handler runs in a child
+child_outside : (p : PrivateTask) → (child_of p).handling ≡ false
+unfolding child_of
+child_outside p = refl
 
 -- a turn is on one processor
 two_cpus : (d i : ℕ) → stages.Turn d 0 ≡ stages.Turn i 0 → d ≡ i
@@ -111,8 +137,8 @@ module _ {B : Type 0} (script : Script) (old : Board) (turn : Turn) (task : Task
   last_home user = left.last_is (ap (is_user script) (sym left.name) ∙ ap (λ (s : Script). is_user s task.name) (sym run.script_is) ∙ user)
 
   module _ (new : Board) (script_same : new.script ≡ old.script) (history : new.history ≡ old.history ++ turn_events task.name items close) (legal : IsLegal new.script new.history)
-      (stage : stage_in new task.name ≡ stage_closed close) (private : private_in new task.name ≡ private_after old task.name items) (free : turn_on new turn.cpu ≡ None)
-      (others : KeepsOthers task.name old new) (turns : KeepsTurns turn.cpu old new) where
+      (stage : stage_in new task.name ≡ stage_closed close) (private : private_in new task.name ≡ private_closed old task.name items close) (free : turn_on new turn.cpu ≡ None)
+      (others : KeepsOrBears task.name (private_with old task.name items) close old new) (turns : KeepsTurns turn.cpu old new) where
     -- what the board then is
     script_new : new.script ≡ script
     script_new = script_same ∙ run.script_is
@@ -126,15 +152,25 @@ module _ {B : Type 0} (script : Script) (old : Board) (turn : Turn) (task : Task
     left_new : HasLeft script turn.task.name turn.cpu (past_of old) (past_of new) bank (task_after script turn.task.name (private_in old turn.task.name) items) task new_cpu new_bank
     left_new = subst (λ (past : List Event). HasLeft script turn.task.name turn.cpu (past_of old) past bank (task_after script turn.task.name (private_in old turn.task.name) items) task new_cpu new_bank) (sym past_new) left
 
-    keep : KeepsOthers turn.task.name old new
-    keep = subst (λ (u : ℕ). KeepsOthers u old new) left.name others
+    keep : KeepsSeen script turn.task.name old new
+    keep u ne seen = elim (others u (λ e. ne (e ∙ left.name))) [
+      | inl same ↦ same
+      | inr born ↦ absurd (seen (subst (λ (s : Script). HadNoTurn s (past_of old) u) run.script_is born.1.fresh))
+    ]
+
+    -- no handler runs in another block
+    other_outside : (u : ℕ) → (u ≡ turn.task.name → ⊥) → (private_in new u).handling ≡ false
+    other_outside u ne = elim (others u (λ e. ne (e ∙ left.name))) [
+      | inl same ↦ ap (λ (p : PrivateTask). p.handling) (private_same old new u same) ∙ run.outside u
+      | inr born ↦ ap (λ (b : Option BlockState). (task_of_state b).handling) born.1.state ∙ child_outside (private_with old task.name items)
+    ]
 
     -- the block's private task and its state
-    private_new : private_in new turn.task.name ≡ parked (task_after script turn.task.name (private_in old turn.task.name) items)
+    private_new : private_in new turn.task.name ≡ parked (task_closed close (task_after script turn.task.name (private_in old turn.task.name) items))
     private_new =
         ap (private_in new) (sym left.name) ∙ private
-        ∙ ap (λ (s : Script). parked (task_after s task.name (private_in old task.name) items)) run.script_is
-        ∙ ap (λ (u : ℕ). parked (task_after script u (private_in old u) items)) left.name
+        ∙ ap (λ (s : Script). parked (task_closed close (task_after s task.name (private_in old task.name) items))) run.script_is
+        ∙ ap (λ (u : ℕ). parked (task_closed close (task_after script u (private_in old u) items))) left.name
 
     block_new : (block : BlockState) × (slice_get (machine_in new).blocks turn.task.name ≡ Some block)
     block_new = block_there (slice_get (machine_in new).blocks turn.task.name) close (ap (stage_in new) (sym left.name) ∙ stage)
@@ -147,8 +183,8 @@ module _ {B : Type 0} (script : Script) (old : Board) (turn : Turn) (task : Task
       script_is = script_new;
       legal = subst (λ (s : Script). IsLegal s new.history) script_new legal;
       outside = λ u. elim (cases_eq u turn.task.name) [
-        | inl same ↦ ap (λ (v : ℕ). (private_in new v).handling) same ∙ ap (λ (p : PrivateTask). p.handling) private_new ∙ left.outside
-        | inr ne ↦ ap (λ (p : PrivateTask). p.handling) (private_same old new u (keep u ne)) ∙ run.outside u
+        | inl same ↦ ap (λ (v : ℕ). (private_in new v).handling) same ∙ ap (λ (p : PrivateTask). p.handling) private_new ∙ closed_outside close (task_after script turn.task.name (private_in old turn.task.name) items) ∙ left.outside
+        | inr ne ↦ other_outside u ne
       ];
     }
 
@@ -156,7 +192,9 @@ module _ {B : Type 0} (script : Script) (old : Board) (turn : Turn) (task : Task
     pub at_home : IsAt script new turn.cpu None new_cpu new_bank
     at_home =
         came_home script turn.cpu turn.task.name old new (task_after script turn.task.name (private_in old turn.task.name) items) task new_cpu bank new_bank block_new.0
-        left_new keep block_new.1 private_new
+        left_new keep block_new.1
+        (ap (λ (p : PrivateTask). p.file) private_new ∙ closed_file close (task_after script turn.task.name (private_in old turn.task.name) items))
+        (ap (λ (p : PrivateTask). p.large) private_new ∙ closed_class close (task_after script turn.task.name (private_in old turn.task.name) items))
         (left_new.latest ∙ ap (λ (s : Script). told.file_of (slice_get (machine s (past_of new)).blocks turn.task.name)) (sym script_new))
         at.told_is at.processor.holds free
 
@@ -221,4 +259,4 @@ module _ {B : Type 0} (script : Script) (old : Board) (i : ℕ) (turn : Turn) (c
         not_there d i other (ap (λ s. is_on_cpu d (turn_cpu s)) (sym stage) ∙ on)
 
     pub others_begun : (C : Type 0) → LeavesOthers C script i old new
-    others_begun C = leaves_others script i turn.task.name old new continues others turns apart_begun C
+    others_begun C = leaves_others script i turn.task.name old new continues (λ u ne seen. others u ne) turns apart_begun C

@@ -1,14 +1,12 @@
 -- What an event of a block on a processor tells of other blocks and of other processors: nothing.
-use Rattle.std.proofs.Common.{◌≡◌, ℕ, Bool, true, false, not, ◌&&◌, ◌==◌, List, [], ◌∷◌, slice_get, Option, Some, None, if◌then◌else◌, refl, sym, ap, ◌∙◌, inl, inr}
-use Rattle.std.proofs.lemmas.Bool.{cases_Bool, ne_eqb, eq-eqb}
-use Rattle.xs_base.specs.Counts.{Counts}
+use Rattle.std.proofs.Common.{◌≡◌, ℕ, Bool, true, false, ◌&&◌, ◌==◌, List, [], ◌∷◌, slice_get, Option, Some, refl, sym, ◌∙◌}
+use Rattle.std.proofs.lemmas.Bool.{ne_eqb, eq-eqb}
 use Rattle.xs_model.specs.declared.event.Event.{Event}
-use Rattle.xs_model.specs.declared.event.Event.TheVariants as events
 use Rattle.xs_model.specs.declared.script.Script.{Script}
 use Rattle.xs_model.specs.Counts as told
 use Rattle.xs_model.specs.Counts.{in_section, is_event_on, is_section_act, counted_by}
 use Rattle.xs_model.specs.Machine.{machine}
-use Rattle.xs_model.specs.Note.{Act, Starts, Section, Grows, Sets, Plain, task_of, act_of, note_of, notes_of, is_at, start_cpu, cpu_of, is_on, mark, mark_after, last, last_after}
+use Rattle.xs_model.specs.Note.{Act, Starts, Section, Grows, Sets, Plain, task_of, act_of, notes_of, is_at, start_cpu, cpu_of, mark, mark_after, last, last_after}
 use Rattle.xs_model.specs.Script.{is_user}
 use Rattle.xs_machine.specs.Turn.{Continues}
 

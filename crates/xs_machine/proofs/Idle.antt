@@ -1,5 +1,5 @@
 -- A round without an event.
-use Rattle.std.proofs.Common.{◌≡◌, ℕ, zero, suc, ◌+◌, ◌<◌, ◌≤◌, ◌==◌, ◌⊎◌, IsTrue, Bool, true, false, not, ◌&&◌, ◌||◌, List, [], ◌∷◌, length, get_or, drop, Option, Some, None, slice_get, if◌then◌else◌, refl, sym, ap, subst, ◌∙◌, arith, inl, inr, eq-eqb}
+use Rattle.std.proofs.Common.{◌≡◌, ℕ, zero, suc, ◌+◌, ◌<◌, ◌≤◌, ◌⊎◌, IsTrue, Bool, true, false, ◌||◌, List, [], ◌∷◌, length, get_or, drop, Option, Some, None, if◌then◌else◌, refl, sym, ap, subst, ◌∙◌, arith, inl, inr}
 use Rattle.xs_board.specs.Board.{Board, past_of, machine_in, ready_of, turn_on, KeepsTurns}
 use Rattle.xs_model.specs.declared.event.Event.{Event}
 use Rattle.xs_model.specs.declared.script.Script.{Script}
@@ -8,7 +8,6 @@ use Rattle.xs_model.specs.declared.stage.Stage.TheVariants.{Unborn, Ready, Turn,
 use Rattle.xs_model.specs.History.{IsLegal}
 use Rattle.xs_model.specs.Script.{IsValid}
 use Rattle.xs_model.specs.Laws.{NeverStuck, NobodyReady, FreeTells}
-use Rattle.xs_model.specs.Machine.{machine}
 use Rattle.xs_model.specs.Replay.{entry, entries, runner, schedule_of}
 use Rattle.xs_model.specs.State.{BlockState, is_active, is_on_cpu, is_ready, turn_cpu, has_turn, none_lives, stage_at}
 use Rattle.xs_machine.proofs.Rounds.{split}

@@ -1,9 +1,8 @@
 -- A turn after one more of its lines, or after its end.
-use Rattle.std.proofs.Common.{◌≡◌, ℕ, ◌+◌, ◌<◌, Bool, true, false, not, ◌&&◌, List, [], ◌∷◌, ◌++◌, length, map, reverse, Option, Some, None, refl, sym, ap, ◌∙◌, arith, append_assoc, length-append}
+use Rattle.std.proofs.Common.{◌≡◌, ℕ, ◌+◌, ◌<◌, Bool, true, false, not, ◌&&◌, List, [], ◌∷◌, ◌++◌, length, map, reverse, Option, Some, None, refl, sym, ap, ◌∙◌, length-append}
 use Rattle.std.proofs.lemmas.Bool.{and_parts, ltb-true}
 use Rattle.std.proofs.lemmas.List.{map-append, reverse-append}
 use Rattle.std.specs.Option.{MatchOption, IfNone}
-use Rattle.std.specs.Prelude.{slice_get}
 use Rattle.xs_base.specs.declared.component.Row.{Row}
 use Rattle.xs_base.specs.Counts.{save_if}
 use Rattle.xs_base.specs.Task.{PrivateTask}
@@ -13,23 +12,23 @@ use Rattle.xs_bank.specs.Bank.{counts_of}
 use Rattle.xs_model.specs.declared.event.Event.{Event}
 use Rattle.xs_model.specs.declared.event.Event.TheVariants as events
 use Rattle.xs_model.specs.declared.event.Reply.{Reply}
+use Rattle.xs_model.specs.declared.event.Reply.TheVariants as replies
 use Rattle.xs_model.specs.declared.script.Command.{Command}
 use Rattle.xs_model.specs.declared.script.Command.TheVariants as commands
 use Rattle.xs_model.specs.declared.script.Order.{Order}
 use Rattle.xs_model.specs.declared.script.Script.{Script}
-use Rattle.xs_model.specs.declared.script.Block.{Block}
-use Rattle.xs_model.specs.Line.{line_at, local_after, local_reply, next_line}
+use Rattle.xs_model.specs.Line.{local_after, next_line}
 use Rattle.xs_model.specs.Machine.{goes_on, machine}
-use Rattle.xs_model.specs.Script.{IsBuiltCommand, command_at, is_user, is_yield}
+use Rattle.xs_model.specs.Script.{IsBuiltCommand, command_at, is_fork, is_user, is_yield}
 use Rattle.xs_task.specs.declared.task.Task.{Task}
 use Rattle.xs_board.specs.declared.turn.Close.{Close}
-use Rattle.xs_board.specs.declared.turn.Close.TheVariants.{Quantum, Yield, End}
+use Rattle.xs_board.specs.declared.turn.Close.TheVariants.{Outer, End}
 use Rattle.xs_board.specs.declared.turn.Entry.{Entry}
-use Rattle.xs_board.specs.Turn.{AreLines, HaveRun, IsEntry, closed_by, close_events, entry_event, line_of, task_after, turn_events}
+use Rattle.xs_board.specs.Turn.{AreLines, HaveRun, IsEntry, closed_by, entry_event, line_of, past_with, task_after}
 use Rattle.xs_machine.specs.Line.{CameBack, IsOn, Ran, StandsAt}
-use Rattle.xs_machine.specs.Turn.{AfterLine, AreOver, AreRunning, IsTurning, past_after, past_with}
-use Rattle.xs_machine.proofs.ScriptLemmas.{LineAt, line_found, built_inner, built_free, built_whole, turn_known}
-use Rattle.xs_machine.proofs.TurnLemmas.{advanced, line_turned, end_turned}
+use Rattle.xs_machine.specs.Turn.{AfterLine, AreOver, AreRunning, IsTurning, past_after}
+use Rattle.xs_machine.proofs.ScriptLemmas.{built_inner, built_free, built_whole, turn_known}
+use Rattle.xs_machine.proofs.TurnLemmas.{advanced, line_turned, end_turned, fork_turned}
 
 -- ---- pasts
 
@@ -41,6 +40,9 @@ past_more t entries entry first = ap (λ es. reverse es ++ first) (map-append (e
 
 past_end : (t : ℕ) (entries : List Entry) (first : List Event) → past_after t entries End first ≡ events.End t ∷ past_with t entries first
 past_end t entries first = reverse_more (map (entry_event t) entries) first (events.End t)
+
+past_outer : (t line : ℕ) (entries : List Entry) (first : List Event) → past_after t entries (Outer line) first ≡ events.Outer t line replies.Done ∷ past_with t entries first
+past_outer t line entries first = reverse_more (map (entry_event t) entries) first (events.Outer t line replies.Done)
 
 append_none : (xs : List Event) → xs ++ [] ≡ xs
 append_none [] = refl
@@ -57,7 +59,7 @@ past_closed t entries first command = by_yield (is_yield command) refl
 
 place_on : (user : Bool) (rows : List Row) (task : Task) (bank : banks.Bank) (p : PrivateTask) → IsOn user rows task bank p → task.place ≡ p.place
 place_on true rows task bank p on = sym (ap (λ (q : PrivateTask). q.place) on.running.form)
-place_on false rows task bank p on = on.place
+place_on false rows task bank p on = on.home.place
 
 -- The turn's task stands at its line.
 pub stands_at : {B : Type 0} (script : Script) (t c : ℕ) (first past : List Event) (before : banks.Bank) (ran : ℕ) (p : PrivateTask) (task task1 : Task) (cpu cpu1 : Cpu B) (bank bank1 : banks.Bank)
@@ -94,6 +96,13 @@ module _ {B : Type 0} (script : Script) (t c : ℕ) (first : List Event) (before
   body_over lines = record {
     lines = lines;
     turning = rw (past_end t entries first, are.run.task_is) (end_turned script t c first (past_with t entries first) before (length entries) p task cpu bank are.turning task1 cpu1 bank1 back);
+  }
+
+  -- a fork is left to the board
+  pub fork_over : (line : ℕ) (name : List ℕ) → command_at script t line ≡ Some (commands.Fork name) → AreLines script t start 0 entries (Outer line) → AreOver script t c first before start entries (Outer line) task1 cpu1 bank1
+  fork_over line name found lines = record {
+    lines = lines;
+    turning = rw (past_outer t line entries first, are.run.task_is) (fork_turned script t c first (past_with t entries first) before (length entries) p task cpu bank are.turning task1 cpu1 bank1 back line name found);
   }
 
   -- one more line ran
@@ -157,11 +166,11 @@ module _ {B : Type 0} (script : Script) (t c : ℕ) (first : List Event) (before
     pub line_here : (order : Order) → ((q : PrivateTask) → StandsAt task1 q → line_of script task1.name q ≡ Some order) → line_of script t p ≡ Some order
     line_here order at = rw name_here at (at p (record { outside = are.turning.outside; place = place_here }))
 
-    pub entry_here : (order : Order) (reply : Reply) (task2 : Task) (cpu2 : Cpu B) (bank2 : banks.Bank) → line_of script t p ≡ Some order → IsBuiltCommand order.command
+    pub entry_here : (order : Order) (reply : Reply) (task2 : Task) (cpu2 : Cpu B) (bank2 : banks.Bank) → line_of script t p ≡ Some order → IsBuiltCommand order.command → is_fork order.command ≡ false
         → Ran user order.command reply (record task1 { place = task1.place + 1 }) task2 cpu1 cpu2 bank1 bank2 → IsEntry script t p (record { line = order.number; reply = reply }) order
-    entry_here order reply task2 cpu2 bank2 at built done = record {
+    entry_here order reply task2 cpu2 bank2 at built here done = record {
       at = at;
-      inner = built_inner order.command built;
+      inner = built_inner order.command built here;
       free = built_free p order.command built;
       whole = built_whole p order.command built;
       line = refl;

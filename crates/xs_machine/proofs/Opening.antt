@@ -1,14 +1,12 @@
 -- Before the first round, and after the last one.
-use Rattle.std.proofs.Common.{◌≡◌, ℕ, zero, suc, ◌+◌, ◌-◌, ◌<◌, ◌≤◌, false, true, List, [], ◌∷◌, length, get_or, map, reverse, slice_index_or, Option, Some, None, slice_get, refl, sym, ap, subst, ◌∙◌, arith}
+use Rattle.std.proofs.Common.{◌≡◌, ℕ, zero, suc, ◌+◌, ◌-◌, ◌<◌, ◌≤◌, false, true, List, [], ◌∷◌, map, reverse, slice_index_or, Option, Some, None, slice_get, refl, sym, ap, subst, ◌∙◌, arith}
 use Rattle.std.specs.List.{AllByRecursion}
 use Rattle.xs_base.specs.declared.component.Row.{Row}
-use Rattle.xs_base.specs.Counts.{Counts}
-use Rattle.xs_base.specs.File.{File, AreSameButPkru}
+use Rattle.xs_base.specs.File.{File}
 use Rattle.xs_base.specs.Task.{root_task}
 use Rattle.xs_bank.specs.Bank as banks
 use Rattle.xs_bank.specs.Bank.{counts_of}
-use Rattle.xs_bank.specs.Holds.{Holds}
-use Rattle.xs_board.specs.Board.{Board, past_of, machine_in, private_in, task_of_state, turn_on}
+use Rattle.xs_board.specs.Board.{Board, past_of, machine_in, task_of_state, turn_on}
 use Rattle.xs_board.specs.declared.turn.Turn.{Turn}
 use Rattle.xs_machine.specs.declared.proc.Proc.{Proc}
 use Rattle.xs_machine.specs.Processors.{AreSetUp, HasRun, HaveRun}
@@ -140,8 +138,11 @@ replay_over script board history n same run past none = record {
 -- what the history tells of each bank
 pub banks_over : {B : Type 0} (state : B → banks.Bank) (script : Script) (board : Board) (history : List Event) (turns : List (Option Turn)) (procs : List (Proc B)) → history ≡ board.history → AreAt state script board turns procs → HaveRun state script history procs
 banks_over {B} state script board history turns procs same at i proc is =
-    subst (λ (h : List Event). HasRun script h i (state proc.cpu.bank)) (sym same)
-    (ran (compare (IsTold script board i (state proc.cpu.bank)) i script.cpus (λ (below : i < script.cpus). (at.script_has i proc below is).told_is) (λ (above : script.cpus ≤ i). at.beyond i proc above is)))
+    subst (λ (h : List Event). HasRun script h i proc.cpu (state proc.cpu.bank)) (sym same)
+    (compare (HasRun script board.history i proc.cpu (state proc.cpu.bank)) i script.cpus (λ (below : i < script.cpus). mine (at.script_has i proc below is)) (λ (above : script.cpus ≤ i). beyond above (at.beyond i proc above is)))
   where
-    ran : IsTold script board i (state proc.cpu.bank) → HasRun script board.history i (state proc.cpu.bank)
-    ran t = record { counts = sym t.counts; file = t.file }
+    mine : IsAt script board i (slice_index_or turns i None) proc.cpu (state proc.cpu.bank) → HasRun script board.history i proc.cpu (state proc.cpu.bank)
+    mine here = record { counts = sym here.told_is.counts; file = here.told_is.file; mark_is = λ below. here.processor.mark_is }
+
+    beyond : script.cpus ≤ i → IsTold script board i (state proc.cpu.bank) → HasRun script board.history i proc.cpu (state proc.cpu.bank)
+    beyond above here = record { counts = sym here.counts; file = here.file; mark_is = λ below. absurd (omega (arith, above, below)) }

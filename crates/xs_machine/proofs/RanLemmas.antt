@@ -1,33 +1,31 @@
 -- What each command of a user task leaves, as one fact.
-use Rattle.std.proofs.Common.{◌≡◌, ℕ, ◌+◌, Bool, true, false, ◌&&◌, List, Option, Some, None, if◌then◌else◌, refl, sym, ap, ◌∙◌, subst}
+use Rattle.std.proofs.Common.{◌≡◌, ℕ, true, false, List, Option, None, refl, sym, ap, ◌∙◌}
 use Rattle.xs_area.specs.declared.area.Lease.{Lease}
-use Rattle.xs_base.specs.Counts.{one_exec, one_save, one_section, save_if}
+use Rattle.xs_base.specs.Counts.{one_save, one_section}
 use Rattle.xs_base.specs.File.{read_place}
 use Rattle.xs_base.specs.Register.{place_of}
 use Rattle.xs_base.specs.Task.{PrivateTask}
-use Rattle.xs_base.specs.Trail.{read_numbers, write_numbers}
 use Rattle.xs_bank.specs.declared.cpu.Cpu.{Cpu}
 use Rattle.xs_bank.specs.Bank as banks
 use Rattle.xs_bank.specs.Bank.{IsReady, counts_of}
 use Rattle.xs_bank.specs.SetUp.{WasSetUp}
 use Rattle.xs_model.specs.declared.event.Reply.TheVariants as replies
 use Rattle.xs_model.specs.declared.script.Command.TheVariants as commands
-use Rattle.xs_model.specs.Counts.{exec_of}
 use Rattle.xs_model.specs.Line.{next_line}
 use Rattle.xs_model.specs.Script.{IsCommand, IsBuiltName}
 use Rattle.xs_switch.specs.Running.{CanSave, IsRunning}
 use Rattle.xs_task.specs.declared.task.Task.{Task}
 use Rattle.xs_task.specs.TaskArea.{IsTask}
-use Rattle.xs_machine.specs.Line.{IsUserOn, Ran}
-use Rattle.xs_machine.proofs.Commands.{set_on, set_holds, read_on, read_holds, counted_here, write_rows}
+use Rattle.xs_machine.specs.Line.{Ran, after_get, after_set}
+use Rattle.xs_machine.proofs.Commands.{set_on, set_holds, set_rows, set_counts, read_on, read_holds, get_rows, get_counts}
 
 -- A register is set.
 pub set_ran : {B : Type 0} (cpu : Cpu B) (bank : B) (task : Task) (old new : banks.Bank) (reg bytes : List ℕ)
     → WasSetUp cpu.layout old cpu.initial → IsCommand cpu.layout (commands.Set reg bytes) → IsBuiltName reg → task.need_load ≡ false
-    → new ≡ banks.after_write old (place_of reg) bytes → ((id m : ℕ) (area : List ℕ) → IsReady old id m area → IsReady new id m area)
+    → new ≡ after_set old (place_of reg) bytes → ((id m : ℕ) (area : List ℕ) → IsReady old id m area → IsReady new id m area)
     → Ran true (commands.Set reg bytes) replies.Done task task cpu (record cpu { bank = bank }) old new
 set_ran cpu bank task old new reg bytes set_up known built loaded after ready = record {
-  set_up = record { rows_are = ap (λ (b : banks.Bank). b.file.rows) after ∙ write_rows old.file (place_of reg) bytes ∙ set_up.rows_are; initial_is = set_up.initial_is };
+  set_up = record { rows_are = set_rows old new reg bytes after ∙ set_up.rows_are; initial_is = set_up.initial_is };
   cpu = refl;
   mark = refl;
   name = refl;
@@ -35,17 +33,17 @@ set_ran cpu bank task old new reg bytes set_up known built loaded after ready = 
   on = λ p on. set_on cpu.layout task old new reg bytes known built loaded after ready p on;
   reply_is = λ p on. refl;
   holds = λ _ plain p on held. set_holds cpu.layout task old new reg bytes known built loaded after ready p on held;
-  counts = λ script. ap counts_of after ∙ ap (λ numbers. exec_of numbers (counts_of old)) (sym (counted_here reg (write_numbers (place_of reg) bytes) built));
+  counts = λ script. set_counts old new reg bytes after;
   still = λ no. absurd (cc);
 }
 
 -- A register is read.
 pub get_ran : {B : Type 0} (cpu : Cpu B) (bank : B) (task : Task) (old new : banks.Bank) (reg bytes : List ℕ)
     → WasSetUp cpu.layout old cpu.initial → IsBuiltName reg → task.need_load ≡ false
-    → bytes ≡ read_place old.file (place_of reg) → new ≡ banks.after_read old (place_of reg) bytes
+    → bytes ≡ read_place old.file (place_of reg) → new ≡ after_get old (place_of reg) bytes
     → Ran true (commands.Get reg) (replies.Bytes bytes) task task cpu (record cpu { bank = bank }) old new
 get_ran cpu bank task old new reg bytes set_up built loaded lane after = record {
-  set_up = record { rows_are = ap (λ (b : banks.Bank). b.file.rows) after ∙ set_up.rows_are; initial_is = set_up.initial_is };
+  set_up = record { rows_are = get_rows old new reg bytes after ∙ set_up.rows_are; initial_is = set_up.initial_is };
   cpu = refl;
   mark = refl;
   name = refl;
@@ -53,7 +51,7 @@ get_ran cpu bank task old new reg bytes set_up built loaded lane after = record 
   on = λ p on. read_on cpu.layout task old new reg bytes loaded after p on;
   reply_is = λ p on. ap replies.Bytes (lane ∙ ap (λ f. read_place f (place_of reg)) (on.running.whole loaded));
   holds = λ _ plain p on held. read_holds cpu.layout task old new reg bytes loaded after p on held;
-  counts = λ script. ap counts_of after ∙ ap (λ numbers. exec_of numbers (counts_of old)) (sym (counted_here reg (read_numbers (place_of reg) bytes) built));
+  counts = λ script. get_counts old new reg bytes after;
   still = λ no. absurd (cc);
 }
 

@@ -1,8 +1,7 @@
 -- The lines of a script that is valid and built.
-use Rattle.std.proofs.Common.{◌≡◌, ℕ, zero, suc, ◌+◌, ◌<◌, ◌≤◌, ◌^◌, Bool, true, false, not, ◌&&◌, ◌||◌, ◌==◌, List, [], ◌∷◌, ◌++◌, length, map, Option, Some, None, slice_get, refl, sym, ap, ◌∙◌, subst, arith}
+use Rattle.std.proofs.Common.{◌≡◌, ℕ, zero, suc, ◌+◌, ◌<◌, ◌^◌, Bool, true, false, not, ◌&&◌, ◌==◌, List, [], ◌∷◌, ◌++◌, length, map, Option, Some, None, slice_get, refl, sym, subst, arith}
 use Rattle.std.proofs.lemmas.Bool.{and_parts, ne_eqb}
 use Rattle.std.specs.List.{list_all, AllByRecursion}
-use Rattle.xs_base.specs.declared.component.Row.{Row}
 use Rattle.xs_base.specs.Layout.{has_row}
 use Rattle.xs_base.specs.Register.{place_of}
 use Rattle.xs_base.specs.Task.{PrivateTask}
@@ -17,7 +16,7 @@ use Rattle.xs_model.specs.declared.script.Script.{Script}
 use Rattle.xs_model.specs.declared.stage.Stage.TheVariants as stages
 use Rattle.xs_model.specs.Line.{line_at, traps, refusal}
 use Rattle.xs_model.specs.Machine.{machine}
-use Rattle.xs_model.specs.Script.{AreRising, order_numbers, IsBody, IsValid, IsBuilt, IsCommand, IsBuiltCommand, command_at, fits_kind, is_kernel_command, is_outer, is_user, is_user_kind}
+use Rattle.xs_model.specs.Script.{AreRising, order_numbers, IsBody, IsValid, IsBuilt, IsCommand, IsBuiltCommand, fits_kind, is_fork, is_kernel_command, is_outer, is_user, is_user_kind}
 use Rattle.xs_model.specs.State.{stage_at}
 use Rattle.xs_board.specs.Turn.{line_of, line_in}
 use Rattle.xs_machine.proofs.BuiltRegisters.{built_place, built_not_config, built_not_tiles}
@@ -126,20 +125,27 @@ module _ (script : Script) (valid : IsValid script) (built : IsBuilt script) (t 
       let small : order.number < 2 ^ 32 = order.in_range in
       omega arith
 
--- ---- a built line runs in its own task
+-- a line that forks names whom
+pub forked_name : (command : Command) → is_fork command ≡ true → (name : List ℕ) × (command ≡ commands.Fork name)
+forked_name (commands.Fork name) forks = (name, refl)
+forked_name other forks = absurd (cc)
 
-pub built_inner : (command : Command) → IsBuiltCommand command → is_outer command ≡ false
-built_inner (commands.Set reg bytes) built = refl
-built_inner (commands.Get reg) built = refl
-built_inner (commands.Ksec byte) built = refl
-built_inner commands.Yield built = refl
-built_inner other built = absurd built
+-- ---- a built line that forks nobody runs in its own task
+
+pub built_inner : (command : Command) → IsBuiltCommand command → is_fork command ≡ false → is_outer command ≡ false
+built_inner (commands.Set reg bytes) built here = refl
+built_inner (commands.Get reg) built here = refl
+built_inner (commands.Ksec byte) built here = refl
+built_inner commands.Yield built here = refl
+built_inner (commands.Fork name) built here = absurd (cc)
+built_inner other built here = absurd built
 
 pub built_whole : (p : PrivateTask) (command : Command) → IsBuiltCommand command → refusal p command ≡ None
 built_whole p (commands.Set reg bytes) built = refl
 built_whole p (commands.Get reg) built = refl
 built_whole p (commands.Ksec byte) built = refl
 built_whole p commands.Yield built = refl
+built_whole p (commands.Fork name) built = refl
 built_whole p other built = absurd built
 
 pub built_free : (p : PrivateTask) (command : Command) → IsBuiltCommand command → traps p command ≡ false
@@ -147,4 +153,5 @@ built_free p (commands.Set reg bytes) built = rw (ne_eqb (place_of reg).comp.0 1
 built_free p (commands.Get reg) built = rw (ne_eqb (place_of reg).comp.0 18 (built_not_tiles (place_of reg) (built_place reg built))) (and_no (has_row p.file.rows 18 && not p.large))
 built_free p (commands.Ksec byte) built = refl
 built_free p commands.Yield built = refl
+built_free p (commands.Fork name) built = refl
 built_free p other built = absurd built

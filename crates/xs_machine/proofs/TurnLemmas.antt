@@ -1,25 +1,24 @@
 -- A turn goes on by a line, or comes to its end.
-use Rattle.std.proofs.Common.{◌≡◌, ℕ, ◌+◌, Bool, true, false, not, ◌&&◌, ◌||◌, List, [], ◌∷◌, Option, Some, None, if◌then◌else◌, refl, sym, ap, ◌∙◌, inl, inr}
-use Rattle.std.proofs.lemmas.Bool.{cases_Bool}
+use Rattle.std.proofs.Common.{◌≡◌, ℕ, ◌+◌, Bool, true, false, not, ◌&&◌, ◌||◌, List, ◌∷◌, Option, Some, None, if◌then◌else◌, refl, sym, ap, ◌∙◌}
 use Rattle.xs_base.specs.declared.component.Row.{Row}
-use Rattle.xs_base.specs.Counts.{Counts, one_save, one_exec, load_if, save_if}
+use Rattle.xs_base.specs.Counts.{Counts, one_save, load_if, save_if}
 use Rattle.xs_base.specs.Task.{PrivateTask}
 use Rattle.xs_bank.specs.declared.cpu.Cpu.{Cpu}
 use Rattle.xs_bank.specs.Bank as banks
 use Rattle.xs_bank.specs.Bank.{counts_of}
-use Rattle.xs_bank.specs.Holds.{Holds}
 use Rattle.xs_bank.specs.SetUp.{WasSetUp}
 use Rattle.xs_model.specs.declared.event.Event.{Event}
 use Rattle.xs_model.specs.declared.event.Event.TheVariants as events
 use Rattle.xs_model.specs.declared.event.Reply.{Reply}
+use Rattle.xs_model.specs.declared.event.Reply.TheVariants as replies
 use Rattle.xs_model.specs.declared.script.Command.{Command}
 use Rattle.xs_model.specs.declared.script.Command.TheVariants as commands
 use Rattle.xs_model.specs.declared.script.Script.{Script}
 use Rattle.xs_model.specs.Counts as told
-use Rattle.xs_model.specs.Counts.{in_section, exec_of, numbers_of, reloads, saves, is_return_line, is_section_act, ends_turn}
+use Rattle.xs_model.specs.Counts.{in_section, exec_of, numbers_of, reloads, saves, counted_by, is_return_line, is_section_act, ends_turn}
 use Rattle.xs_model.specs.Line.{local_after, next_line}
-use Rattle.xs_model.specs.Machine.{goes_on, machine}
-use Rattle.xs_model.specs.Note.{Act, Section, Plain, act_of, cpu_of, notes_of, is_section, mark, mark_after, last, last_after, start_cpu}
+use Rattle.xs_model.specs.Machine.{goes_on}
+use Rattle.xs_model.specs.Note.{Section, Plain, act_of, task_of, cpu_of, notes_of, is_section, set_act, set_target, mark, mark_after, last, last_after, start_cpu}
 use Rattle.xs_model.specs.Script.{IsBuiltCommand, command_at, is_user, is_return}
 use Rattle.xs_base.specs.Task.{parked}
 use Rattle.xs_base.specs.File.{pkru_of}
@@ -29,11 +28,11 @@ use Rattle.xs_task.specs.declared.task.Task.{Task}
 use Rattle.xs_task.specs.Parked.{IsParked}
 use Rattle.xs_task.specs.TaskArea.{IsTask}
 use Rattle.xs_board.specs.Home.{IsHome}
-use Rattle.xs_machine.specs.Line.{IsOn, IsUserOn, CameBack, Ran, KeepsCpu}
+use Rattle.xs_machine.specs.Line.{IsOn, CameBack, Ran}
 use Rattle.xs_machine.specs.Turn.{IsTurning, HasLeft}
 use Rattle.xs_machine.proofs.Commands.{next_on}
 use Rattle.xs_machine.proofs.Histories.{one_event, then_on, counts_here, mark_here, section_here, file_here, is_quiet}
-use Rattle.xs_machine.proofs.Stages.{line_stage, line_ends, end_ends}
+use Rattle.xs_machine.proofs.Stages.{line_stage, line_ends, end_ends, fork_ends}
 
 -- ---- acts
 
@@ -64,6 +63,7 @@ outside_stays p (commands.Set reg bytes) built outside = outside
 outside_stays p (commands.Get reg) built outside = outside
 outside_stays p (commands.Ksec byte) built outside = outside
 outside_stays p commands.Yield built outside = outside
+outside_stays p (commands.Fork name) built outside = outside
 outside_stays p other built outside = absurd built
 
 no_return : (command : Command) → IsBuiltCommand command → is_return command ≡ false
@@ -71,6 +71,7 @@ no_return (commands.Set reg bytes) built = refl
 no_return (commands.Get reg) built = refl
 no_return (commands.Ksec byte) built = refl
 no_return commands.Yield built = refl
+no_return (commands.Fork name) built = refl
 no_return other built = absurd built
 
 -- ---- tasks
@@ -78,7 +79,7 @@ no_return other built = absurd built
 -- the task behind its line
 pub advanced : (user : Bool) (rows : List Row) (task : Task) (bank : banks.Bank) (p : PrivateTask) → IsOn user rows task bank p → IsOn user rows (record task { place = task.place + 1 }) bank (next_line p)
 advanced true rows task bank p on = next_on rows task bank p (record task { place = task.place + 1 }) refl on
-advanced false rows task bank p on = record { lease = on.lease; frame = on.frame; buffer = on.buffer; place = ap (λ n. n + 1) on.place }
+advanced false rows task bank p on = record { home = record { lease = on.home.lease; frame = on.home.frame; buffer = on.home.buffer; place = ap (λ n. n + 1) on.home.place }; pkru = on.pkru }
 
 -- ---- counts
 
@@ -222,42 +223,67 @@ module _ {B : Type 0} (script : Script) (t c : ℕ) (first past : List Event) (b
       counts = counts_is;
     }
 
-  -- ---- the end of the body
+  -- ---- an event that closes the turn
 
-  end_section : in_section script (events.End t ∷ past) t ≡ false
-  end_section = section_here script past (events.End t) t c refl turn.follows.here
+  module _ (event : Event) (is : task_of event ≡ t) (plain : act_of script event ≡ Plain) (ends : ends_turn script past event ≡ true)
+      (counted : (n : Counts) → counted_by script past event n ≡ save_if (saves script past event) (load_if (reloads script past t) n)) where
+    close_at : start_cpu (act_of script event) (cpu_of (notes_of script past) t) ≡ Some c
+    close_at = ap (λ a. start_cpu a (cpu_of (notes_of script past) t)) plain ∙ turn.follows.here
 
-  end_mark : mark script (events.End t ∷ past) c ≡ mark_after (is_user script t) t Plain (mark script past c)
-  end_mark = mark_here script past (events.End t) t c refl turn.follows.here
+    close_home : last script (event ∷ past) t ≡ Some c
+    close_home = ap (λ a. last_after (task_of event) a t (last script past t)) plain ∙ turn.follows.home
 
-  end_counts_is : told.counts_of script (events.End t ∷ past) c ≡ save_if (true && is_user script t && not task1.need_load) (counts_of bank1)
-  end_counts_is =
-      counts_here script past (events.End t) t c refl turn.follows.here
-      ∙ ap (λ o. save_if (is_user script t && (false || o)) (load_if (is_user script t && in_section script past t) (told.counts_of script past c))) (end_ends script past t c ran (turn.stage refl))
-      ∙ ap (save_if (is_user script t && (false || true))) (sym counts1)
-      ∙ end_counts (is_user script t) task1.need_load (counts_of bank1) back.loaded
+    close_section : in_section script (event ∷ past) t ≡ false
+    close_section = section_here script past event t c is close_at ∙ ap is_section_act plain
 
+    close_mark : mark script (event ∷ past) c ≡ mark_after (is_user script t) t Plain (mark script past c)
+    close_mark = mark_here script past event t c is close_at ∙ ap (λ a. mark_after (is_user script t) t a (mark script past c)) plain
+
+    close_saves : saves script past event ≡ (is_user script t && (false || true))
+    close_saves =
+        ap (λ u. is_user script u && (is_section_act (act_of script event) || ends_turn script past event)) is
+        ∙ ap (λ a. is_user script t && (is_section_act a || ends_turn script past event)) plain
+        ∙ ap (λ e. is_user script t && (false || e)) ends
+
+    close_counts : told.counts_of script (event ∷ past) c ≡ save_if (true && is_user script t && not task1.need_load) (counts_of bank1)
+    close_counts =
+        counts_here script past event t c is close_at
+        ∙ counted (told.counts_of script past c)
+        ∙ ap (λ b. save_if b (load_if (is_user script t && in_section script past t) (told.counts_of script past c))) close_saves
+        ∙ ap (save_if (is_user script t && (false || true))) (sym counts1)
+        ∙ end_counts (is_user script t) task1.need_load (counts_of bank1) back.loaded
+
+    close_turned : IsTurning script t c first (event ∷ past) before true 0 p task1 cpu1 bank1
+    close_turned = record {
+      follows = then_on script t c first past (event ∷ past) turn.follows (one_event script past event t c is close_at (ap is_quiet plain) close_home);
+      stage = λ no. absurd (cc);
+      number = ap (λ (x : Cpu B). x.number) back.cpu ∙ turn.number;
+      layout = cpu1_layout;
+      set_up = rw turn.layout at back.set_up;
+      name = back.name ∙ turn.name;
+      on = on1;
+      outside = turn.outside;
+      flag = λ user. back.loaded user ∙ sym close_section;
+      mark_is = mark1 ∙ mark_ran (is_user script t) false task.need_load t (mark script past c) need ∙ sym close_mark;
+      own = λ user. close_mark ∙ ap (λ u. mark_after u t Plain (mark script past c)) user ∙ ap (λ b. if b then None else Some t) (sym close_section);
+      holds = λ user plain_past. back.holds user p (rw turn.layout turn.on);
+      alien = λ kernel v at.
+          let m = sym (ap (λ u. mark_after u t Plain (mark script past c)) kernel) ∙ sym close_mark ∙ at in
+          let old = turn.alien kernel v m in
+          (old.0, ap (λ (b : banks.Bank). b.file) (back.still kernel) ∙ old.1, ap (λ (b : banks.Bank). b.armed) (back.still kernel) ∙ old.2);
+      latest = file_here script past event t c is close_at;
+      counts = close_counts;
+    }
+
+  -- the end of the body
   pub end_turned : IsTurning script t c first (events.End t ∷ past) before true 0 p task1 cpu1 bank1
-  end_turned = record {
-    follows = then_on script t c first past (events.End t ∷ past) turn.follows (one_event script past (events.End t) t c refl turn.follows.here refl turn.follows.home);
-    stage = λ no. absurd (cc);
-    number = ap (λ (x : Cpu B). x.number) back.cpu ∙ turn.number;
-    layout = cpu1_layout;
-    set_up = rw turn.layout at back.set_up;
-    name = back.name ∙ turn.name;
-    on = on1;
-    outside = turn.outside;
-    flag = λ user. back.loaded user ∙ sym end_section;
-    mark_is = mark1 ∙ mark_ran (is_user script t) false task.need_load t (mark script past c) need ∙ sym end_mark;
-    own = λ user. end_mark ∙ ap (λ u. mark_after u t Plain (mark script past c)) user ∙ ap (λ b. if b then None else Some t) (sym end_section);
-    holds = λ user plain. back.holds user p (rw turn.layout turn.on);
-    alien = λ kernel v is.
-        let m = sym (ap (λ u. mark_after u t Plain (mark script past c)) kernel) ∙ sym end_mark ∙ is in
-        let old = turn.alien kernel v m in
-        (old.0, ap (λ (b : banks.Bank). b.file) (back.still kernel) ∙ old.1, ap (λ (b : banks.Bank). b.armed) (back.still kernel) ∙ old.2);
-    latest = file_here script past (events.End t) t c refl turn.follows.here;
-    counts = end_counts_is;
-  }
+  end_turned = close_turned (events.End t) refl refl (end_ends script past t c ran (turn.stage refl)) (λ n. refl)
+
+  -- a fork
+  pub fork_turned : (line : ℕ) (name : List ℕ) → command_at script t line ≡ Some (commands.Fork name) → IsTurning script t c first (events.Outer t line replies.Done ∷ past) before true 0 p task1 cpu1 bank1
+  fork_turned line name found =
+      let plain : act_of script (events.Outer t line replies.Done) ≡ Plain = ap (λ (k : Option Command). set_act (set_target script k) false) found in
+      close_turned (events.Outer t line replies.Done) refl plain (fork_ends script past t c ran line replies.Done name found (turn.stage refl)) (λ n. refl)
 
 -- ---- after the turn
 
@@ -268,6 +294,10 @@ home_on false rows task bank p is on = absurd (cc)
 home_user : (user : Bool) (rows : List Row) (task : Task) (p : PrivateTask) → user ≡ true → IsTask rows task → IsParked rows task p → IsHome user rows task p
 home_user true rows task p is whole parked = record { whole = whole; parked = parked }
 home_user false rows task p is whole parked = absurd (cc)
+
+home_thread : (user : Bool) (rows : List Row) (task : Task) (bank : banks.Bank) (p : PrivateTask) → user ≡ false → IsOn user rows task bank p → IsHome user rows task (parked p)
+home_thread true rows task bank p is on = absurd (cc)
+home_thread false rows task bank p is on = record { lease = on.home.lease; frame = on.home.frame; buffer = on.home.buffer; place = on.home.place }
 
 mark_left : (section : Bool) (t u : ℕ) (mark : Option ℕ) → mark ≡ (if section then None else Some t) → mark ≡ Some u → (section ≡ false) × (u ≡ t)
 mark_left true t u mark is known = absurd (cc)
@@ -307,4 +337,25 @@ user_left {B} script t c first past before p task new_task cpu new_cpu bank new 
       alien = λ kernel u is. let old = turn.alien kernel u is in (old.0, file ∙ old.1, armed ∙ old.2);
       latest = turn.latest;
       counts = turn.counts ∙ last_save (is_user script t) task.need_load (counts_of bank) user ∙ sym counts;
+    }
+
+-- A kernel thread has nothing to save.
+pub thread_left : {B : Type 0} (script : Script) (t c : ℕ) (first past : List Event) (before : banks.Bank) (p : PrivateTask) (task : Task) (cpu : Cpu B) (bank : banks.Bank)
+    → IsTurning script t c first past before true 0 p task cpu bank → is_user script task.name ≡ false → HasLeft script t c first past before p task cpu bank
+thread_left script t c first past before p task cpu bank turn known =
+    let kernel : is_user script t ≡ false = ap (is_user script) (sym turn.name) ∙ known in
+    record {
+      follows = turn.follows;
+      number = turn.number;
+      layout = turn.layout;
+      set_up = turn.set_up;
+      name = turn.name;
+      home = home_thread (is_user script t) script.layout task bank p kernel turn.on;
+      last_is = λ user. absurd (cc);
+      outside = turn.outside;
+      mark_is = turn.mark_is;
+      own = λ user. absurd (cc);
+      alien = turn.alien;
+      latest = turn.latest;
+      counts = turn.counts ∙ ap (λ u. save_if (true && u && not task.need_load) (counts_of bank)) kernel;
     }

@@ -1,8 +1,12 @@
 -- What a line does to the task in a turn and to its processor. Both a user task and a kernel thread may be the task.
-use Rattle.std.specs.Prelude.{◌≡◌, ℕ, Bool, true, false, ◌&&◌, List, Option, Some, None, if◌then◌else◌}
+use Rattle.std.specs.Prelude.{◌≡◌, ℕ, Bool, true, false, ◌&&◌, List, Some, None, if◌then◌else◌}
+use Rattle.std.specs.Int.{from_le_bytes, w32}
+use Rattle.xs_base.specs.declared.component.Place.{Place}
 use Rattle.xs_base.specs.declared.component.Row.{Row}
 use Rattle.xs_base.specs.Counts.{load_if, save_if}
-use Rattle.xs_base.specs.Task.{PrivateTask}
+use Rattle.xs_base.specs.Component.{pkru_number}
+use Rattle.xs_base.specs.File.{part, pkru_bytes}
+use Rattle.xs_base.specs.Task.{PrivateTask, start_pkru}
 use Rattle.xs_bank.specs.declared.cpu.Cpu.{Cpu}
 use Rattle.xs_bank.specs.Bank as banks
 use Rattle.xs_bank.specs.Bank.{counts_of}
@@ -11,7 +15,7 @@ use Rattle.xs_bank.specs.SetUp.{WasSetUp}
 use Rattle.xs_model.specs.declared.event.Reply.{Reply}
 use Rattle.xs_model.specs.declared.script.Command.{Command}
 use Rattle.xs_model.specs.declared.script.Script.{Script}
-use Rattle.xs_model.specs.Counts.{exec_of, numbers_of}
+use Rattle.xs_model.specs.Counts.{exec_of, numbers_of, is_pkru}
 use Rattle.xs_model.specs.Line.{local_after, local_reply, next_line}
 use Rattle.xs_model.specs.Note.{is_section}
 use Rattle.xs_task.specs.declared.task.Task.{Task}
@@ -19,16 +23,28 @@ use Rattle.xs_task.specs.TaskArea.{IsTask}
 use Rattle.xs_switch.specs.Running.{CanSave, IsRunning}
 use Rattle.xs_board.specs.Home.{IsThreadHome}
 
+-- The bank after a task set a register, and after it read one. Of PKRU that's WRPKRU and RDPKRU (SDM volume 2), which aren't counted.
+abbrev pub after_set : banks.Bank → Place → List ℕ → banks.Bank
+after_set bank place bytes = if is_pkru place then banks.after_wrpkru bank (from_le_bytes w32 bytes) else banks.after_write bank place bytes
+
+abbrev pub after_get : banks.Bank → Place → List ℕ → banks.Bank
+after_get bank place bytes = if is_pkru place then bank else banks.after_read bank place bytes
+
 -- A user task in a turn: it is whole, and it is this private task.
 pub record IsUserOn (rows : List Row) (task : Task) (bank : banks.Bank) (private : PrivateTask) : Type 0 where
   pub whole : IsTask rows task
   pub ready : CanSave rows task bank
   pub running : IsRunning rows task bank private
 
+-- A kernel thread in a turn: it has its place, and the bank has the PKRU of kernel threads, which is that of a task's start.
+pub record IsThreadOn (task : Task) (bank : banks.Bank) (private : PrivateTask) : Type 0 where
+  pub home : IsThreadHome task private
+  pub pkru : part bank.file pkru_number ≡ pkru_bytes start_pkru
+
 -- The task of a user block, or else of a kernel thread, stands for the private task in a turn.
 abbrev pub IsOn : Bool → List Row → Task → banks.Bank → PrivateTask → Type 0
 IsOn true rows task bank private = IsUserOn rows task bank private
-IsOn false rows task bank private = IsThreadHome task private
+IsOn false rows task bank private = IsThreadOn task bank private
 
 -- The processor is the same one but for its bank and its mark.
 abbrev pub KeepsCpu : {B : Type 0} → Cpu B → Cpu B → Type 0

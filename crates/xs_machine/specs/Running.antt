@@ -1,10 +1,10 @@
 -- A run between two entries of its schedule.
-use Rattle.std.specs.Prelude.{get_or, length, ◌≡◌, ℕ, ◌+◌, ◌<◌, ◌≤◌, Bool, true, false, List, [], slice_get, slice_index_or, ◌⊎◌, Option, Some, None, if◌then◌else◌}
+use Rattle.std.specs.Prelude.{get_or, length, ◌≡◌, ℕ, ◌<◌, ◌≤◌, true, false, List, [], slice_get, slice_index_or, ◌⊎◌, Option, Some, None, if◌then◌else◌}
 use Rattle.xs_base.specs.declared.component.Row.{Row}
 use Rattle.xs_base.specs.declared.words.How.TheVariants as hows
 use Rattle.xs_base.specs.Counts.{after_start}
 use Rattle.xs_base.specs.File.{File, AreSameButPkru}
-use Rattle.xs_base.specs.Task.{PrivateTask}
+use Rattle.xs_base.specs.Task.{PrivateTask, start_pkru}
 use Rattle.xs_bank.specs.declared.cpu.Cpu.{Cpu}
 use Rattle.xs_bank.specs.Bank as banks
 use Rattle.xs_bank.specs.Bank.{counts_of}
@@ -19,6 +19,7 @@ use Rattle.xs_model.specs.Note.{cpu_of, notes_of, mark, last}
 use Rattle.xs_model.specs.Replay.{schedule_of}
 use Rattle.xs_model.specs.Script.{IsValid, IsBuilt, is_user}
 use Rattle.xs_model.specs.State.{none_lives}
+use Rattle.xs_switch.specs.Pkru.{given_pkru}
 use Rattle.xs_board.specs.declared.turn.Turn.{Turn}
 use Rattle.xs_board.specs.Board.{Board, past_of, machine_in, ready_of, stage_in, private_in, turn_on}
 use Rattle.xs_board.specs.Home.{IsHome}
@@ -98,7 +99,7 @@ pub record MayBegin (rows : List Row) (turn : Turn) (bank : banks.Bank) (private
   pub home : IsHome (is_user_how turn.how) rows turn.task private
   pub held : turn.how ≡ hows.Skip → Holds bank private
 
--- The turn's registers came to the bank, if it is a user task's.
+-- The turn's registers came to the bank, if it is a user task's. A kernel thread has its PKRU alone, which is that of a task's start.
 pub record Begun {B : Type 0} (old new : Turn) (before after : Cpu B) (bank_before bank_after : banks.Bank) : Type 0 where
   pub set_up : WasSetUp before.layout bank_after after.initial
   pub cpu : KeepsCpu before after
@@ -109,4 +110,4 @@ pub record Begun {B : Type 0} (old new : Turn) (before after : Cpu B) (bank_befo
   pub on : (p : PrivateTask) → MayBegin before.layout old bank_before p → IsOn (is_user_how old.how) before.layout new.task bank_after p
   pub holds : is_user_how old.how ≡ true → (p : PrivateTask) → MayBegin before.layout old bank_before p → Holds bank_after p
   pub counts : counts_of bank_after ≡ after_start old.how (counts_of bank_before)
-  pub still : is_user_how old.how ≡ false → bank_after ≡ bank_before
+  pub kernel : is_user_how old.how ≡ false → bank_after ≡ given_pkru bank_before start_pkru

@@ -1,5 +1,5 @@
 -- The turn of a task on its processor, event by event. A past has its latest event first.
-use Rattle.std.specs.Prelude.{◌≡◌, ℕ, ◌+◌, Bool, true, false, not, ◌&&◌, List, [], ◌∷◌, ◌++◌, length, map, reverse, slice_get, ◌<◌, Option, Some, None, if◌then◌else◌}
+use Rattle.std.specs.Prelude.{◌≡◌, ℕ, Bool, true, false, not, ◌&&◌, List, ◌++◌, length, reverse, slice_get, ◌<◌, Option, Some, None, if◌then◌else◌}
 use Rattle.xs_base.specs.Counts.{save_if}
 use Rattle.xs_base.specs.Task.{PrivateTask, parked}
 use Rattle.xs_bank.specs.declared.cpu.Cpu.{Cpu}
@@ -20,7 +20,7 @@ use Rattle.xs_task.specs.declared.task.Task.{Task}
 use Rattle.xs_board.specs.declared.turn.Entry.{Entry}
 use Rattle.xs_board.specs.declared.turn.Close.{Close}
 use Rattle.xs_board.specs.Home.{IsHome}
-use Rattle.xs_board.specs.Turn.{AreLines, HaveRun, task_after, turn_events, close_events, entry_event}
+use Rattle.xs_board.specs.Turn.{AreLines, HaveRun, past_with, task_after, turn_events}
 use Rattle.xs_machine.specs.Line.{IsOn}
 
 -- The new past is the old one and events of block t on processor c. Nothing is told by them of another processor, or of another
@@ -60,17 +60,13 @@ pub record IsTurning {B : Type 0} (script : Script) (t c : ℕ) (first past : Li
 abbrev pub past_after : ℕ → List Entry → Close → List Event → List Event
 past_after t entries close past = reverse (turn_events t entries close) ++ past
 
--- the past after the lines of these entries
-abbrev pub past_with : ℕ → List Entry → List Event → List Event
-past_with t entries past = reverse (map (entry_event t) entries) ++ past
-
 -- So many lines ran from the Start on, and the turn goes on.
 pub record AreRunning {B : Type 0} (script : Script) (t c : ℕ) (first : List Event) (before : banks.Bank) (start : PrivateTask) (entries : List Entry) (private : PrivateTask) (task : Task) (cpu : Cpu B) (bank : banks.Bank) : Type 0 where
   pub run : HaveRun script t start entries private (length entries)
   pub few : length entries < script.quantum
   pub turning : IsTurning script t c first (past_with t entries first) before false (length entries) private task cpu bank
 
--- The turn is over by its lines and this close.
+-- The turn is over by its lines and this close. An outer line is still before the task.
 pub record AreOver {B : Type 0} (script : Script) (t c : ℕ) (first : List Event) (before : banks.Bank) (start : PrivateTask) (entries : List Entry) (close : Close) (task : Task) (cpu : Cpu B) (bank : banks.Bank) : Type 0 where
   pub lines : AreLines script t start 0 entries close
   pub turning : IsTurning script t c first (past_after t entries close first) before true 0 (task_after script t start entries) task cpu bank

@@ -1,6 +1,6 @@
 //! One entry of the schedule.
 
-ghost use Rattle.std.specs.Prelude.{◌≡◌, ◌<◌, IsTrue, length, Some, None};
+ghost use Rattle.std.specs.Prelude.{◌≡◌, ◌<◌, IsTrue, [], length, Some, None};
 ghost use Rattle.xs_base.specs.declared.words.How.TheVariants as hows;
 ghost use Rattle.xs_base.specs.Task.{PrivateTask};
 ghost use Rattle.xs_bank.specs.SetUp.{WasSetUp};
@@ -14,21 +14,24 @@ use xs_bank::{Bank, Cpu};
 use xs_base::How;
 use xs_board::{Board, Entries, Taken, Turn};
 use xs_model::{Script, machine_known};
-use xs_switch::switch_in;
+use xs_switch::{switch_in, to_kernel};
 
-/// One entry of the schedule on a processor: it takes a turn where it has none, and else runs its turn and brings it back. Answers
-/// whether an event was made.
+/// One entry of the schedule on a processor: it takes a turn where it has none, and else runs its turn and brings it back. The list
+/// of lines is empty between turns. Answers whether an event was made.
 pub fn run_entry<B: Bank>(
     script: &Script,
     board: &mut Board,
     cpu: &mut Cpu<B>,
     slot: &mut Option<Turn>,
     number: u32,
+    lines: &mut Entries,
 ) -> bool
     requires run { IsRun script.now board.old }
+    requires none { lines.old.items ≡ [] }
     requires known { number < script.now.cpus }
     requires at { IsAt script.now board.old number slot.old cpu.old (B.state cpu.old.bank) }
     ensures run { IsRun script.now board.new }
+    ensures none { lines.new.items ≡ [] }
     ensures at { IsAt script.now board.new number slot.new cpu.new (B.state cpu.new.bank) }
     ensures others { LeavesOthers B script.now number board.old board.new }
     ensures turns { KeepsTurns number board.old board.new }
@@ -39,7 +42,7 @@ pub fn run_entry<B: Bank>(
 {
     match slot.take() {
         Some(turn) => {
-            finish_turn(script, board, cpu, turn);
+            finish_turn(script, board, cpu, turn, lines);
             true
         }
         None => match board.take(number, cpu.mark) {
@@ -52,7 +55,7 @@ pub fn run_entry<B: Bank>(
     }
 }
 
-/// Begins a turn that the board handed out: the registers of a user task come to the bank. A kernel thread has none.
+/// Begins a turn that the board handed out: the registers of a user task come to the bank. A kernel thread has none but its PKRU.
 fn begin_turn<B: Bank>(cpu: &mut Cpu<B>, turn: Turn) -> Turn
     requires set_up { WasSetUp cpu.old.layout (B.state cpu.old.bank) cpu.old.initial }
     requires home { (p : PrivateTask) × MayBegin cpu.old.layout turn (B.state cpu.old.bank) p }
@@ -60,17 +63,29 @@ fn begin_turn<B: Bank>(cpu: &mut Cpu<B>, turn: Turn) -> Turn
     ensures { Begun turn result cpu.old cpu.new (B.state cpu.old.bank) (B.state cpu.new.bank) }
 {
     let mut turn = turn;
-    if turn.how != How::Kern {
+    if turn.how == How::Kern {
+        // The bank has a file of its machine.
+        let _ = cpu.bank.loads();
+        to_kernel(cpu);
+    } else {
         switch_in(&mut turn.task, cpu, turn.how);
     }
     turn
 }
 
 /// Runs the lines of a turn and brings it back to the board.
-fn finish_turn<B: Bank>(script: &Script, board: &mut Board, cpu: &mut Cpu<B>, turn: Turn)
+fn finish_turn<B: Bank>(
+    script: &Script,
+    board: &mut Board,
+    cpu: &mut Cpu<B>,
+    turn: Turn,
+    lines: &mut Entries,
+)
     requires run { IsRun script.now board.old }
+    requires none { lines.old.items ≡ [] }
     requires at { IsAt script.now board.old turn.cpu (Some turn) cpu.old (B.state cpu.old.bank) }
     ensures run { IsRun script.now board.new }
+    ensures none { lines.new.items ≡ [] }
     ensures at { IsAt script.now board.new turn.cpu None cpu.new (B.state cpu.new.bank) }
     ensures others { LeavesOthers B script.now turn.cpu board.old board.new }
     ensures turns { KeepsTurns turn.cpu board.old board.new }
@@ -80,8 +95,8 @@ fn finish_turn<B: Bank>(script: &Script, board: &mut Board, cpu: &mut Cpu<B>, tu
 {
     machine_known();
     let mut turn = turn;
-    let mut entries = Entries::new();
-    let close = run_lines(script, cpu, &mut turn.task, &mut entries);
+    let close = run_lines(script, cpu, &mut turn.task, lines);
     leave(script, cpu, &mut turn.task);
-    board.commit(turn, &entries, close);
+    board.commit(turn, lines, close);
+    lines.clear();
 }

@@ -4,7 +4,7 @@ ghost use Rattle.std.specs.Prelude.{◌≡◌, ◌<◌, ◌^◌, true, false};
 ghost use Rattle.xs_base.specs.Task.{PrivateTask};
 ghost use Rattle.xs_bank.specs.SetUp.{WasSetUp};
 ghost use Rattle.xs_model.specs.Line.{next_line};
-ghost use Rattle.xs_model.specs.Script.{IsCommand, IsBuiltCommand, is_kernel_command};
+ghost use Rattle.xs_model.specs.Script.{IsCommand, IsBuiltCommand, is_fork, is_kernel_command};
 ghost use Rattle.xs_base.specs.Layout.{IsLayout};
 ghost use Rattle.xs_machine.specs.Line.{CameBack, IsOn, Ran};
 
@@ -25,8 +25,8 @@ pub fn come_back<B: Bank>(cpu: &mut Cpu<B>, task: &mut Task, user: bool)
     }
 }
 
-/// Runs a command of the task, whose place is behind the command's line, and answers its reply. A user task's registers are in the
-/// bank.
+/// Runs a command of the task that is no fork, and answers its reply. The task's place is behind the command's line, and a user
+/// task's registers are in the bank.
 pub fn run_command<B: Bank>(
     cpu: &mut Cpu<B>,
     task: &mut Task,
@@ -39,6 +39,7 @@ pub fn run_command<B: Bank>(
     requires loaded { user ≡ true → task.old.need_load ≡ false }
     requires known { IsCommand cpu.old.layout command.now }
     requires built { IsBuiltCommand command.now }
+    requires inner { is_fork command.now ≡ false }
     requires kind { user ≡ false → is_kernel_command command.now ≡ true }
     ensures { Ran user command.now result task.old task.new cpu.old cpu.new (B.state cpu.old.bank) (B.state cpu.new.bank) }
 {
@@ -57,6 +58,7 @@ fn run_user_command<B: Bank>(cpu: &mut Cpu<B>, task: &mut Task, command: &Comman
     requires loaded { task.old.need_load ≡ false }
     requires known { IsCommand cpu.old.layout command.now }
     requires built { IsBuiltCommand command.now }
+    requires inner { is_fork command.now ≡ false }
     ensures { Ran true command.now result task.old task.new cpu.old cpu.new (B.state cpu.old.bank) (B.state cpu.new.bank) }
 {
     match command {

@@ -1,6 +1,6 @@
 //! A round of the schedule.
 
-ghost use Rattle.std.specs.Prelude.{◌≡◌, ◌<◌, ◌≤◌, IsTrue, length, drop, true};
+ghost use Rattle.std.specs.Prelude.{◌≡◌, ◌<◌, ◌≤◌, IsTrue, [], length, drop, true};
 ghost use Rattle.xs_board.specs.Board.{past_of, machine_in, KeepsTurns};
 ghost use Rattle.xs_model.specs.Replay.{entry, entries, schedule_of};
 ghost use Rattle.xs_model.specs.State.{none_lives};
@@ -11,7 +11,7 @@ use crate::entry::run_entry;
 use crate::proc::Proc;
 use crate::script::{entries, entry_at};
 use xs_bank::Bank;
-use xs_board::{Board, Turn};
+use xs_board::{Board, Entries, Turn};
 use xs_model::{Script, free_processors_known, never_stuck, ready_once};
 
 /// One round of the schedule, from its first entry to its last. Answers whether an event was made: where none was, no block lives.
@@ -20,12 +20,15 @@ pub fn run_round<B: Bank>(
     board: &mut Board,
     turns: &mut [Option<Turn>],
     procs: &mut [Proc<B>],
+    lines: &mut Entries,
 ) -> bool
+    requires none { lines.old.items ≡ [] }
     requires run { IsRun script.now board.old }
     requires many { script.now.cpus ≤ length procs.old }
     requires room { script.now.cpus ≤ length turns.old }
     requires at { AreAt B.state script.now board.old turns.old procs.old }
     requires schedule { KeepsToSchedule script.now board.old }
+    ensures none { lines.new.items ≡ [] }
     ensures run { IsRun script.now board.new }
     ensures at { AreAt B.state script.now board.new turns.new procs.new }
     ensures schedule { KeepsToSchedule script.now board.new }
@@ -42,7 +45,7 @@ pub fn run_round<B: Bank>(
     free_processors_known();
     let mut moved = false;
     'entries: for at in 0..entries(script) {
-        let made = run_at(script, board, turns, procs, entry_at(script, at));
+        let made = run_at(script, board, turns, procs, entry_at(script, at), lines);
         moved = moved || made;
     }
     moved
@@ -55,12 +58,15 @@ fn run_at<B: Bank>(
     turns: &mut [Option<Turn>],
     procs: &mut [Proc<B>],
     number: u32,
+    lines: &mut Entries,
 ) -> bool
+    requires none { lines.old.items ≡ [] }
     requires run { IsRun script.now board.old }
     requires known { number < script.now.cpus }
     requires many { script.now.cpus ≤ length procs.old }
     requires room { script.now.cpus ≤ length turns.old }
     requires at { AreAt B.state script.now board.old turns.old procs.old }
+    ensures none { lines.new.items ≡ [] }
     ensures run { IsRun script.now board.new }
     ensures at { AreAt B.state script.now board.new turns.new procs.new }
     ensures turns { KeepsTurns number board.old board.new }
@@ -79,5 +85,6 @@ fn run_at<B: Bank>(
         &mut procs[index].cpu,
         &mut turns[index],
         number,
+        lines,
     )
 }

@@ -9,7 +9,7 @@ ghost use Rattle.xs_machine.specs.Processors.{AreSetUp, HaveRun, KeepProcessors}
 use crate::proc::Proc;
 use crate::round::run_round;
 use xs_bank::Bank;
-use xs_board::{Board, Turn};
+use xs_board::{Board, Entries, Turn};
 use xs_model::{History, Script, few_events};
 
 /// Runs a script by its schedule on its processors, which are the first ones of `procs`. At each entry of the schedule the
@@ -17,7 +17,8 @@ use xs_model::{History, Script, few_events};
 /// lives. Takes no memory.
 ///
 /// The history is the script's replay, and it's whole. Each bank has counted what the history says, and holds the file that it
-/// says, whatever banks these are. Processors past those of the script don't change.
+/// says, whatever banks these are; each processor has the owner mark that the history gives it. Processors past those of the
+/// script don't change.
 pub fn run_schedule<B: Bank>(script: &Script, board: Board, procs: &mut [Proc<B>]) -> History
     requires valid { IsValid script.now }
     requires built { IsBuilt script.now }
@@ -37,6 +38,7 @@ pub fn run_schedule<B: Bank>(script: &Script, board: Board, procs: &mut [Proc<B>
         None, None, None, None, None, None, None, None, None, None, None, None, None, None, None,
         None,
     ];
-    'rounds: while run_round(script, &mut board, &mut turns, procs) {}
+    let mut lines = Entries::new();
+    'rounds: while run_round(script, &mut board, &mut turns, procs, &mut lines) {}
     board.into_history()
 }

@@ -4,7 +4,7 @@ ghost use Rattle.std.specs.Prelude.{◌≡◌, ◌<◌, length, slice_index, tru
 ghost use Rattle.xs_board.specs.Turn.{line_of, closed_by};
 ghost use Rattle.xs_model.specs.Machine.{goes_on};
 ghost use Rattle.xs_model.specs.Replay.{schedule_of};
-ghost use Rattle.xs_model.specs.Script.{IsValid, is_user};
+ghost use Rattle.xs_model.specs.Script.{IsValid, is_fork, is_user};
 ghost use Rattle.xs_base.specs.Task.{PrivateTask};
 ghost use Rattle.xs_machine.specs.Line.{StandsAt};
 
@@ -27,6 +27,13 @@ pub fn line_of<'a>(script: &'a Script, task: &Task) -> Option<&'a Order>
 {
     let body = script.blocks.as_slice()[task.name as usize].body.as_slice();
     body.get(task.place as usize)
+}
+
+/// Whether the command forks a block.
+pub fn is_fork(command: &Command) -> bool
+    ensures { result ≡ is_fork command.now }
+{
+    matches!(command, Command::Fork { .. })
 }
 
 /// How the turn is over after a line, where it doesn't go on: `ran` Local events came before the line.

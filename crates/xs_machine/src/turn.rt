@@ -10,7 +10,7 @@ ghost use Rattle.xs_machine.specs.Processors.{KeepsProcessor};
 ghost use Rattle.xs_machine.specs.Turn.{AfterLine, AreOver, AreRunning, HasLeft, IsTurning, SomeOver, SomeRunning};
 
 use crate::lines::{come_back, run_command};
-use crate::script::{close_after, is_user, line_of};
+use crate::script::{close_after, is_fork, is_user, line_of};
 use xs_bank::{Bank, Cpu};
 use xs_board::{Close, Entries, Entry, lines_follow};
 use xs_model::{Script, lines_found, machine_known};
@@ -38,8 +38,8 @@ pub fn run_lines<B: Bank>(
     }
 }
 
-/// Runs the next line of a turn, which joins the entries, and answers how the turn is over where it doesn't go on. Without a line
-/// the turn closes with the body's end.
+/// Runs the next line of a turn, which joins the entries, and answers how the turn is over where it doesn't go on. A fork is left to
+/// the board, and without a line the turn closes with the body's end.
 fn run_line<B: Bank>(
     script: &Script,
     cpu: &mut Cpu<B>,
@@ -62,6 +62,9 @@ fn run_line<B: Bank>(
     let Some(order) = line_of(script, task) else {
         return Some(Close::End);
     };
+    if is_fork(&order.command) {
+        return Some(Close::Outer(order.number));
+    }
     task.place += 1;
     let reply = run_command(cpu, task, &order.command, user);
     entries.push(Entry {

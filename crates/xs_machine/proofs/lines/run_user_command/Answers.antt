@@ -2,7 +2,7 @@
 use Rattle.std.proofs.Common.{ℕ, List, ap, ◌∙◌}
 use Rattle.xs_base.specs.File.{read_place}
 use Rattle.xs_base.specs.Register.{place_of}
-use Rattle.xs_bank.specs.Bank as banks
+use Rattle.xs_machine.specs.Line.{after_get, after_set}
 use Rattle.xs_machine.proofs.RanLemmas.{set_ran, get_ran, section_ran}
 use Rattle.xs_machine.proofs.lines.run_user_command.Goals as goal
 
@@ -17,7 +17,7 @@ returns-in-Set g c =
     let old = g.B.Bank.state c.args.cpu.now.bank in
     let known = rw c.in-Set.is at c.requires.known in
     let built = rw c.in-Set.is at c.requires.built in
-    let after = c.write_register.ensures.after ∙ ap (λ (name : List ℕ). banks.after_write old (place_of name) c.in-Set.bytes) c.as_slice.ensures.bytes in
+    let after = c.write_register.ensures.after ∙ ap (λ (name : List ℕ). after_set old (place_of name) c.in-Set.bytes) c.as_slice.ensures.bytes in
     rw c.in-Set.is (set_ran c.args.cpu.now c.write_register.new.bank c.args.task.now old (g.B.Bank.state c.write_register.new.bank) c.in-Set.reg c.in-Set.bytes c.requires.set_up known built c.requires.loaded after c.write_register.ensures.ready)
 
 pub returns-in-Get : goal.returns-in-Get
@@ -25,7 +25,7 @@ returns-in-Get g c =
     let old = g.B.Bank.state c.args.cpu.now.bank in
     let built = rw c.in-Get.is at c.requires.built in
     let lane = c.read_register.ensures.lane ∙ ap (λ (name : List ℕ). read_place old.file (place_of name)) c.as_slice-in-Get.ensures.bytes in
-    let after = c.read_register.ensures.after ∙ ap (λ (name : List ℕ). banks.after_read old (place_of name) c.read_register.result) c.as_slice-in-Get.ensures.bytes in
+    let after = c.read_register.ensures.after ∙ ap (λ (name : List ℕ). after_get old (place_of name) c.read_register.result) c.as_slice-in-Get.ensures.bytes in
     rw c.in-Get.is (get_ran c.args.cpu.now c.read_register.new.bank c.args.task.now old (g.B.Bank.state c.read_register.new.bank) c.in-Get.reg c.read_register.result c.requires.set_up built c.requires.loaded lane after)
 
 pub returns-in-Ksec : goal.returns-in-Ksec

@@ -15,6 +15,7 @@ entries-preserved g c =
     let here : c.entry_at.result ≡ processor_at script c.entries.at = c.entry_at.ensures.is in
     let more : length c.entries.board.history ≤ length c.run_at-made.new.board.history = entry_adds script c.entry_at.result c.entries.board c.run_at-made.new.board c.run_at-made.result now.grows now.idle in
     record {
+      none = now.none;
       run = now.run;
       at = now.at;
       schedule = schedule_kept script c.entries.at c.entry_at.result c.entries.board c.run_at-made.new.board within here now.turns before.schedule;

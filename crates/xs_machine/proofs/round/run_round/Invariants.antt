@@ -1,4 +1,4 @@
-use Rattle.std.proofs.Common.{◌≡◌, ◌<◌, ◌≤◌, IsTrue, length, drop}
+use Rattle.std.proofs.Common.{◌≡◌, ◌<◌, ◌≤◌, IsTrue, [], length, drop}
 use Rattle.xs_board.specs.Board.{past_of}
 use Rattle.xs_model.specs.Replay.{entries, schedule_of}
 use Rattle.xs_machine.specs.Processors.{KeepProcessors}
@@ -8,6 +8,7 @@ use Rattle.xs_machine.proofs.round.run_round.Given as goal
 
 abbrev pub invariant-entries : goal.invariant-entries
 invariant-entries g l = record {
+  none : l.lines.items ≡ [];
   run : IsRun l.script l.board;
   at : AreAt g.B.Bank.state l.script l.board l.turns l.procs;
   schedule : KeepsToSchedule l.script l.board;

@@ -1,5 +1,5 @@
 -- The rounds from the opening to the last one.
-use Rattle.std.proofs.Common.{◌≡◌, ℕ, suc, ◌≤◌, IsTrue, List, length, refl, sym, ap, ◌∙◌, arith}
+use Rattle.std.proofs.Common.{◌≡◌, suc, ◌≤◌, IsTrue, List, length, refl, ap, ◌∙◌, arith}
 use Rattle.std.proofs.lemmas.List.{length-reverse}
 use Rattle.xs_board.specs.Board.{past_of}
 use Rattle.xs_model.specs.Bound.{most_events}
@@ -13,6 +13,7 @@ pub rounds-init : goal.rounds-init
 rounds-init g c =
     let script = c.args.script.now in
     record {
+      none = c.new-lines.ensures;
       run = run_opened script c.args.board c.requires.script c.requires.new c.requires.valid c.requires.built;
       at = at_opened script c.args.board c.requires.script c.requires.new g.B.Bank.state _ c.args.procs.now (refl, (refl, (refl, (refl, (refl, (refl, (refl, (refl, (refl, (refl, (refl, (refl, (refl, (refl, (refl, (refl, tt)))))))))))))))) c.requires.set_up;
       schedule = schedule_opened script c.args.board c.requires.script c.requires.new;
@@ -36,6 +37,7 @@ rounds-preserved g c =
     let now = c.run_round.ensures in
     let before = c.rounds.invariant in
     record {
+      none = now.none;
       run = now.run;
       at = now.at;
       schedule = now.schedule;
@@ -51,12 +53,12 @@ returns-clause-replay g c =
     let script = c.args.script.now in
     let now = c.run_round.ensures in
     let before = c.rounds.invariant in
-    replay_over script c.run_round.new.board c.into_history.result (suc before.replay.0) c.into_history.ensures now.run
+    replay_over script c.run_round.new.board c.into_history.result (suc before.replay.0) c.into_history.ensures.events now.run
     (now.replay ∙ ap (λ (p : List Event). entries script p (schedule_of script.cpus script.sched)) before.replay.1 ∙ rounds_more script before.replay.0)
     (now.ended (λ (moved : IsTrue c.run_round.result). absurd (cc (moved, c.rounds-test.false))))
 
 pub returns-clause-banks : goal.returns-clause-banks
-returns-clause-banks g c = banks_over g.B.Bank.state c.args.script.now c.run_round.new.board c.into_history.result c.run_round.new.turns c.run_round.new.procs c.into_history.ensures c.run_round.ensures.at
+returns-clause-banks g c = banks_over g.B.Bank.state c.args.script.now c.run_round.new.board c.into_history.result c.run_round.new.turns c.run_round.new.procs c.into_history.ensures.events c.run_round.ensures.at
 
 pub returns-clause-kept : goal.returns-clause-kept
 returns-clause-kept g c = kept_twice c.args.procs.now c.rounds.procs c.run_round.new.procs c.rounds.invariant.many c.rounds.invariant.kept c.run_round.ensures.kept

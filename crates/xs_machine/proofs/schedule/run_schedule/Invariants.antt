@@ -1,4 +1,4 @@
-use Rattle.std.proofs.Common.{◌≡◌, ℕ, ◌≤◌, ◌-◌, length, drop}
+use Rattle.std.proofs.Common.{◌≡◌, ℕ, ◌-◌, [], length, drop}
 use Rattle.xs_board.specs.Board.{past_of}
 use Rattle.xs_model.specs.Bound.{most_events}
 use Rattle.xs_model.specs.Replay.{rounds}
@@ -8,6 +8,7 @@ use Rattle.xs_machine.proofs.schedule.run_schedule.Given as goal
 
 abbrev pub invariant-rounds : goal.invariant-rounds
 invariant-rounds g l = record {
+  none : l.lines.items ≡ [];
   run : IsRun l.script l.board;
   at : AreAt g.B.Bank.state l.script l.board l.turns l.procs;
   schedule : KeepsToSchedule l.script l.board;

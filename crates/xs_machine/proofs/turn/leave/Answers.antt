@@ -1,6 +1,6 @@
 -- A user task is switched out.
 use Rattle.std.proofs.Common.{sym, ◌∙◌}
-use Rattle.xs_machine.proofs.TurnLemmas.{user_left}
+use Rattle.xs_machine.proofs.TurnLemmas.{thread_left, user_left}
 use Rattle.xs_machine.proofs.EntryLemmas.{keeps_bank}
 use Rattle.xs_machine.proofs.turn.leave.Goals as goal
 
@@ -11,3 +11,7 @@ returns-then-is_user-clause-left g c = λ t cpu first past before p turn.
 
 pub returns-then-is_user-clause-kept : goal.returns-then-is_user-clause-kept
 returns-then-is_user-clause-kept g c = keeps_bank c.args.cpu.now c.switch_out.new.cpu c.switch_out.ensures.cpu
+
+pub returns-else-is_user-clause-left : goal.returns-else-is_user-clause-left
+returns-else-is_user-clause-left g c = λ t cpu first past before p turn.
+    thread_left c.args.script.now t cpu first past before p c.args.task.now c.args.cpu.now (g.B.Bank.state c.args.cpu.now.bank) turn (sym c.is_user.ensures ∙ c.if-is_user.false)

@@ -1,9 +1,9 @@
 -- The line is one of a turn that runs.
-use Rattle.std.proofs.Common.{◌≡◌, length, refl, sym, ap, ◌∙◌, arith}
+use Rattle.std.proofs.Common.{◌≡◌, Some, length, refl, sym, ap, ◌∙◌, arith}
 use Rattle.xs_model.specs.Script.{is_user}
 use Rattle.xs_board.specs.declared.turn.Entry.{Entry}
-use Rattle.xs_machine.proofs.LineLemmas.{block_known, back_here, place_here, layout_here, on_here, none_here, line_here, entry_here, body_over, after_line, if_longer}
-use Rattle.xs_machine.proofs.ScriptLemmas.{line_found, known_line, built_line, kernel_line, place_fits}
+use Rattle.xs_machine.proofs.LineLemmas.{block_known, back_here, place_here, layout_here, on_here, none_here, line_here, entry_here, body_over, fork_over, after_line, if_longer}
+use Rattle.xs_machine.proofs.ScriptLemmas.{forked_name, line_found, known_line, built_line, kernel_line, place_fits}
 use Rattle.xs_machine.proofs.EntryLemmas.{keeps_more, keeps_cpu}
 use Rattle.xs_machine.proofs.turn.run_line.Goals as goal
 
@@ -29,6 +29,27 @@ returns-in_default-clause-after g c = λ t cpu first before start p are.
     body_over script t cpu first before start items p c.args.task.now c.come_back.new.task c.args.cpu.now c.come_back.new.cpu bank bank1 are
     (back_here script t cpu first before start items p c.args.task.now c.args.cpu.now bank are c.come_back.new.task c.come_back.new.cpu bank1 user same c.come_back.ensures)
     (c.lines_follow.ensures.end script t start items p (length items) are.run none are.turning.outside)
+
+pub returns-then-is_fork-clause-after : goal.returns-then-is_fork-clause-after
+returns-then-is_fork-clause-after g c = λ t cpu first before start p are.
+    let script = c.args.script.now in
+    let items = c.args.entries.now.items in
+    let bank = g.B.Bank.state c.args.cpu.now.bank in
+    let bank1 = g.B.Bank.state c.come_back.new.cpu.bank in
+    let user = c.is_user-user.result in
+    let order = c.in-Some.order.now in
+    let same : user ≡ is_user script t = c.is_user-user.ensures ∙ ap (is_user script) are.turning.name in
+    let back = back_here script t cpu first before start items p c.args.task.now c.args.cpu.now bank are c.come_back.new.task c.come_back.new.cpu bank1 user same c.come_back.ensures in
+    let at = line_here script t cpu first before start items p c.args.task.now c.args.cpu.now bank are c.come_back.new.task c.come_back.new.cpu bank1 user same c.come_back.ensures order c.in-Some.ensures in
+    let l = line_found script t p order at in
+    let found = c.lines_found.ensures script t l.lines p order c.requires.valid l.known l.at in
+    let name = forked_name order.command (sym c.is_fork.ensures ∙ c.if-is_fork.true) in
+    fork_over script t cpu first before start items p c.args.task.now c.come_back.new.task c.args.cpu.now c.come_back.new.cpu bank bank1 are back
+    order.number name.0 (found ∙ ap Some name.1)
+    (c.lines_follow.ensures.outer script t start items p (length items) order.number order are.run (record { at = at; number = refl; name = name.0; forks = name.1 }))
+
+pub returns-then-is_fork-clause-kept : goal.returns-then-is_fork-clause-kept
+returns-then-is_fork-clause-kept g c = keeps_cpu c.args.cpu.now c.come_back.new.cpu c.come_back.ensures.cpu
 
 pub overflow_add-task : goal.overflow_add-task
 overflow_add-task g c =
@@ -103,7 +124,7 @@ returns-clause-after g c = λ t cpu first before start p are.
     let l = line_found script t p order at in
     let found = c.lines_found.ensures script t l.lines p order c.requires.valid l.known l.at in
     let built = built_line script c.requires.valid c.requires.built t p order are.turning.outside at in
-    let entry = entry_here script t cpu first before start items p c.args.task.now c.args.cpu.now bank are c.come_back.new.task c.come_back.new.cpu bank1 user same c.come_back.ensures order reply c.run_command-reply.new.task c.run_command-reply.new.cpu bank2 at built c.run_command-reply.ensures in
+    let entry = entry_here script t cpu first before start items p c.args.task.now c.args.cpu.now bank are c.come_back.new.task c.come_back.new.cpu bank1 user same c.come_back.ensures order reply c.run_command-reply.new.task c.run_command-reply.new.cpu bank2 at built (sym c.is_fork.ensures ∙ c.if-is_fork.false) c.run_command-reply.ensures in
     let e : Entry = record { line = order.number; reply = reply } in
     let back = back_here script t cpu first before start items p c.args.task.now c.args.cpu.now bank are c.come_back.new.task c.come_back.new.cpu bank1 user same c.come_back.ensures in
     let done = rw same at c.run_command-reply.ensures in
