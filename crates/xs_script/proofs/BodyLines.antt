@@ -1,6 +1,6 @@
--- One line more of the blocks.
+-- One line more of the blocks, and names among others.
 use Rattle.std.proofs.Common.{◌≡◌, ℕ, ◌+◌, ◌<◌, Bool, true, false, ◌||◌, ◌==◌, nat_le, List, [], ◌∷◌, ◌++◌, length, Option, Some, None, Ok, Err, refl, sym, ◌∙◌, ap, subst, arith, length-append}
-use Rattle.std.proofs.lemmas.Bool.{lt-leb, and_parts}
+use Rattle.std.proofs.lemmas.Bool.{lt-leb, and_parts, or_from, false_from_ne_true}
 use Rattle.std.proofs.lemmas.List.{append_assoc, append-nil, map-append, length-map}
 use Rattle.std.proofs.lemmas.Slice.Eq.{bytes_eq-Decides}
 use Rattle.std.specs.List.{AllByRecursion, flat_map, list_any, list_all}
@@ -15,17 +15,10 @@ use Rattle.xs_script.specs.declared.line.Line.{Line}
 use Rattle.xs_script.specs.declared.line.Line.TheVariants as lines
 use Rattle.xs_script.specs.declared.body.Body.{Body}
 use Rattle.xs_script.specs.declared.refusal.Kind.TheVariants.{BadLine, Repeated}
-use Rattle.xs_script.specs.declared.refusal.ScriptError.{ScriptError}
-use Rattle.xs_script.specs.declared.refusal.ScriptError.TheVariants as errors
 use Rattle.xs_script.specs.Grammar.{order_lines, block_lines}
-use Rattle.xs_script.specs.LineOrder.{AtBlock, InBlock, takes_sched, may_have, next, may_end}
+use Rattle.xs_script.specs.LineOrder.{InBlock, takes_sched, may_have, next, may_end}
 use Rattle.xs_script.specs.Refusal.{Early, table_fault, Fails, Here}
-use Rattle.xs_script.specs.ScriptLine.{kept_line}
-use Rattle.xs_script.specs.Front.{IsKeptFront, IsNext, ExplainsLine, ExplainsNext}
-use Rattle.xs_script.specs.Body.{names_of, begun_stand, body_stand, begun_lines, lines_of_body, IsPlainBlock, TakesLine, ReadsLine}
-use Rattle.xs_script.proofs.Fronts.{front_push}
-use Rattle.xs_script.proofs.KeptOrder.{kept_next}
-use Rattle.xs_script.proofs.HeadSteps.{next_fails}
+use Rattle.xs_script.specs.Body.{names_of, begun_stand, body_stand, begun_lines, IsPlainBlock, TakesLine}
 
 -- ---- lists
 
@@ -38,6 +31,11 @@ all_push P (y ∷ xs) x h p = (h.0, all_push P xs x h.1 p)
 all_replace : {A : Type 0} (P : A → Type 0) (xs : List A) (x y : A) → (P x → P y) → AllByRecursion P (xs ++ x ∷ []) → AllByRecursion P (xs ++ y ∷ [])
 all_replace P [] x y f h = (f h.0, tt)
 all_replace P (z ∷ xs) x y f h = (h.0, all_replace P xs x y f h.1)
+
+-- what holds of two parts
+pub all_parts : {A : Type 0} (P : A → Type 0) (xs ys : List A) → AllByRecursion P (xs ++ ys) → AllByRecursion P xs × AllByRecursion P ys
+all_parts P [] ys h = (tt, h)
+all_parts P (x ∷ xs) ys h = let r = all_parts P xs ys h.1 in ((h.0, r.0), r.1)
 
 parts_or : (a b : Bool) → (a || b) ≡ false → (a ≡ false) × (b ≡ false)
 parts_or true b h = cc h
@@ -54,6 +52,18 @@ distinct_push [] name h none = (tt, tt)
 distinct_push (n ∷ names) name h none =
     let parts = parts_or (bytes_eq n name) (list_any (λ other. bytes_eq other name) names) none in
     (all_push (λ other. other ≡ n → ⊥) names name h.0 (λ e. let t = (bytes_eq-Decides n name).1 (sym e) in cc (sym t ∙ parts.0)), distinct_push names name h.1 parts.1)
+
+-- and a name after others is another
+pub another : (names rest : List (List ℕ)) (name : List ℕ) → AreDistinct (names ++ name ∷ rest) → list_any (λ other. bytes_eq other name) names ≡ false
+another [] rest name h = refl
+another (n ∷ names) rest name h =
+    let here = (all_parts (λ other. other ≡ n → ⊥) names (name ∷ rest) h.0).1 in
+    or_from (bytes_eq n name) (list_any (λ other. bytes_eq other name) names) (false_from_ne_true (bytes_eq n name) (λ t. here.0 (sym ((bytes_eq-Decides n name).0 t)))) (another names rest name h.1)
+
+-- the first of distinct names are distinct
+pub distinct_front : (names rest : List (List ℕ)) → AreDistinct (names ++ rest) → AreDistinct names
+distinct_front [] rest h = tt
+distinct_front (n ∷ names) rest h = ((all_parts (λ other. other ≡ n → ⊥) names rest h.0).0, distinct_front names rest h.1)
 
 -- ---- names and numbers
 
@@ -195,22 +205,3 @@ none_early blocks (Some b) h none = cc h
 pub none_begun : (begun : Option Block) → is_some begun ≡ false → begun ≡ None
 none_begun None h = refl
 none_begun (Some b) h = cc h
-
--- what the line that is kept is refused with
-pub next_explains : (body : Body) (number : ℕ) (text : List ℕ) (kept : Line) (rest : List ℕ) (e : ScriptError) → IsNext text kept rest → ExplainsNext (next (body_stand body) kept) number e → ExplainsLine (body_stand body) number text e
-next_explains body number text kept rest (errors.Refused line kind) first h =
-    subst (λ (n : ℕ). Fails (body_stand body) number text n kind) (sym h.0) (next_fails (body_stand body) number text kept rest kind (no_table body.blocks body.begun text) first h.1)
-next_explains body number text kept rest errors.Memory first h = tt
-
--- ---- the lines so far
-
--- one line more
-pub body_goes_on : (number : ℕ) (text left rest : List ℕ) (body after : Body) → IsKeptFront (AtBlock []) text (lines_of_body body) (body_stand body) left → ReadsLine number body left after rest → IsKeptFront (AtBlock []) text (lines_of_body after) (body_stand after) rest
-body_goes_on number text left rest body after h step = record {
-  lines = h.lines ++ step.line ∷ [];
-  front = front_push (AtBlock []) (body_stand body) (body_stand after) text left rest h.lines step.line h.front step.fits step.spelled (sym (kept_next (body_stand body) step.line) ∙ step.taken.leads);
-  kept_is = step.taken.came ∙ ap (λ (ls : List Line). ls ++ kept_line step.line ∷ []) h.kept_is ∙ sym (map-append kept_line h.lines (step.line ∷ []));
-}
-
-pub body_counts : (first number : ℕ) (left rest : List ℕ) (body after : Body) → number ≡ first + length (lines_of_body body) → ReadsLine number body left after rest → number + 1 ≡ first + length (lines_of_body after)
-body_counts first number left rest body after at step = rw step.taken.came (rw length-append (omega arith))

@@ -9,6 +9,7 @@ use Rattle.xs_base.specs.Register.{IsRegister}
 use Rattle.xs_base.proofs.Registers.{place_length}
 use Rattle.xs_model.specs.declared.script.Command.{Command}
 use Rattle.xs_model.specs.Script.{fits_register}
+use Rattle.xs_script.specs.declared.commands.Scope.{Scope}
 use Rattle.xs_script.specs.declared.refusal.Kind.{Kind}
 use Rattle.xs_script.specs.Refusal.{register_of, CommandFails, Unknown, Unbuilt}
 use Rattle.xs_script.specs.ScriptLine.{kept_bytes}
@@ -16,9 +17,9 @@ use Rattle.xs_script.specs.Commands.{RegisterFails, NoRegister, Unready}
 use Rattle.xs_script.proofs.Kept.{kept_same_bytes, kept_long}
 
 -- A command fails by its register.
-pub register_fails : (rows : List Row) (command : Command) (reg : List ℕ) (kind : Kind) → register_of command ≡ Some reg → RegisterFails rows reg kind → CommandFails rows command kind
-register_fails rows command reg _ named (NoRegister none) = Unknown command reg named none
-register_fails rows command reg _ named (Unready place here unready) = Unbuilt command reg place named here unready
+pub register_fails : (scope : Scope) (forked : List (List ℕ)) (command : Command) (reg : List ℕ) (kind : Kind) → register_of command ≡ Some reg → RegisterFails scope.layout reg kind → CommandFails scope forked command kind
+register_fails scope forked command reg _ named (NoRegister none) = Unknown command reg named none
+register_fails scope forked command reg _ named (Unready place here unready) = Unbuilt command reg place named here unready
 
 -- bytes that fit a register are as many as it has
 pub fits_length : (place : Place) (bytes : List ℕ) → fits_register place bytes ≡ true → length bytes ≡ place.len

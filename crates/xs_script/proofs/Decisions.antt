@@ -249,10 +249,12 @@ record IsOther (bytes : List ℕ) : Type 0 where
   large : IsTextOf ℕ IsNumber (λ n. codes "large " ++ decimal n) bytes → ⊥
   sched : IsTextOf (List ℕ) AreNumbers (λ x. codes "sched" ++ entries_text x) bytes → ⊥
   task : IsTextOf (List ℕ) (λ x. is_name x ≡ true) (λ x. codes "task " ++ x) bytes → ⊥
+  child : IsTextOf (List ℕ) (λ x. is_name x ≡ true) (λ x. codes "child " ++ x) bytes → ⊥
   kthread : IsTextOf (List ℕ) (λ x. is_name x ≡ true) (λ x. codes "kthread " ++ x) bytes → ⊥
   set : IsTextOf (List ℕ × List ℕ) (λ p. (is_register_word p.0 ≡ true) × IsValue p.1) (λ p. codes "set " ++ (p.0 ++ 32 ∷ encode_lower p.1)) bytes → ⊥
   get : IsTextOf (List ℕ) (λ x. is_register_word x ≡ true) (λ x. codes "get " ++ x) bytes → ⊥
   ksec : IsTextOf ℕ (λ n. n < 256) (λ n. codes "ksec " ++ encode_lower (n ∷ [])) bytes → ⊥
+  fork : IsTextOf (List ℕ) (λ x. is_name x ≡ true) (λ x. codes "fork " ++ x) bytes → ⊥
   yields : bytes ≡ codes "yield" → ⊥
   last : bytes ≡ codes "end" → ⊥
 
@@ -266,12 +268,13 @@ no_line_of bytes o (lines.Quantum n) fits e = o.quantum (n, fits, e)
 no_line_of bytes o (lines.Large n) fits e = o.large (n, fits, e)
 no_line_of bytes o (lines.Sched entries) fits e = o.sched (entries, fits, e)
 no_line_of bytes o (lines.Begin blocks.Task name) fits e = o.task (name, fits.1, e)
-no_line_of bytes o (lines.Begin blocks.Child name) fits e = cc fits.0
+no_line_of bytes o (lines.Begin blocks.Child name) fits e = o.child (name, fits.1, e)
 no_line_of bytes o (lines.Begin blocks.Kthread name) fits e = o.kthread (name, fits.1, e)
 no_line_of bytes o (lines.Order (commands.Set reg value)) fits e = o.set ((reg, value), (fits.0, (fits.1, fits.2)), e)
 no_line_of bytes o (lines.Order (commands.Get reg)) fits e = o.get (reg, fits, e)
 no_line_of bytes o (lines.Order (commands.Ksec byte)) fits e = o.ksec (byte, fits, e)
 no_line_of bytes o (lines.Order commands.Yield) fits e = o.yields e
+no_line_of bytes o (lines.Order (commands.Fork name)) fits e = o.fork (name, fits, e)
 no_line_of bytes o (lines.Order other) fits e = absurd fits
 no_line_of bytes o lines.End fits e = o.last e
 
@@ -286,13 +289,15 @@ line_or_none bytes =
     or_else _ _ (word_and (codes "large ") ℕ IsNumber decimal number_or_none bytes) (λ h. (lines.Large h.0, h.1, h.2)) (λ large.
     or_else _ _ (word_and (codes "sched") (List ℕ) AreNumbers entries_text (λ rest. entries_or_none (suc (length rest)) rest (omega arith)) bytes) (λ h. (lines.Sched h.0, h.1, h.2)) (λ sched.
     or_else _ _ (word_and (codes "task ") (List ℕ) (λ x. is_name x ≡ true) (λ x. x) (passing_or_not is_name) bytes) (λ h. (lines.Begin blocks.Task h.0, (refl, h.1), h.2)) (λ task.
+    or_else _ _ (word_and (codes "child ") (List ℕ) (λ x. is_name x ≡ true) (λ x. x) (passing_or_not is_name) bytes) (λ h. (lines.Begin blocks.Child h.0, (refl, h.1), h.2)) (λ child.
     or_else _ _ (word_and (codes "kthread ") (List ℕ) (λ x. is_name x ≡ true) (λ x. x) (passing_or_not is_name) bytes) (λ h. (lines.Begin blocks.Kthread h.0, (refl, h.1), h.2)) (λ kthread.
     or_else _ _ (word_and (codes "set ") (List ℕ × List ℕ) (λ p. (is_register_word p.0 ≡ true) × IsValue p.1) (λ p. p.0 ++ 32 ∷ encode_lower p.1) set_or_none bytes) (λ h. (lines.Order (commands.Set h.0.0 h.0.1), (h.1.0, h.1.1.0, h.1.1.1), h.2)) (λ set.
     or_else _ _ (word_and (codes "get ") (List ℕ) (λ x. is_register_word x ≡ true) (λ x. x) (passing_or_not is_register_word) bytes) (λ h. (lines.Order (commands.Get h.0), h.1, h.2)) (λ get.
     or_else _ _ (word_and (codes "ksec ") ℕ (λ n. n < 256) (λ n. encode_lower (n ∷ [])) byte_or_none bytes) (λ h. (lines.Order (commands.Ksec h.0), h.1, h.2)) (λ ksec.
+    or_else _ _ (word_and (codes "fork ") (List ℕ) (λ x. is_name x ≡ true) (λ x. x) (passing_or_not is_name) bytes) (λ h. (lines.Order (commands.Fork h.0), h.1, h.2)) (λ fork.
     or_else _ _ (same_bytes bytes (codes "yield")) (λ e. (lines.Order commands.Yield, tt, e)) (λ yields.
     or_else _ _ (same_bytes bytes (codes "end")) (λ e. (lines.End, tt, e)) (λ last.
-    inr (λ h. no_line_of bytes (record { version = version; machine = machine; row = row; cpus = cpus; quantum = quantum; large = large; sched = sched; task = task; kthread = kthread; set = set; get = get; ksec = ksec; yields = yields; last = last }) h.0 h.1 h.2)))))))))))))))
+    inr (λ h. no_line_of bytes (record { version = version; machine = machine; row = row; cpus = cpus; quantum = quantum; large = large; sched = sched; task = task; child = child; kthread = kthread; set = set; get = get; ksec = ksec; fork = fork; yields = yields; last = last }) h.0 h.1 h.2)))))))))))))))))
   where
     set_or_none : (rest : List ℕ) → IsDecided (IsTextOf (List ℕ × List ℕ) (λ p. (is_register_word p.0 ≡ true) × IsValue p.1) (λ p. p.0 ++ 32 ∷ encode_lower p.1) rest)
     set_or_none = two_and (List ℕ) (List ℕ) (λ x. is_register_word x ≡ true) IsValue (λ x. x) encode_lower (λ x fits. Lacks-register 32 x refl fits) (passing_or_not is_register_word) value_or_none

@@ -11,26 +11,30 @@ use Rattle.xs_model.specs.declared.script.Command.TheVariants as commands
 use Rattle.xs_model.specs.declared.script.Named.{Named}
 use Rattle.xs_model.specs.declared.script.Block.{Block}
 use Rattle.xs_model.specs.declared.script.Script.{Script}
-use Rattle.xs_model.specs.Script.{AreBlocksNumbered, fits_register, is_built}
+use Rattle.xs_model.specs.Names.{forked_name, all_forked_names}
+use Rattle.xs_model.specs.Script.{AreDistinct, AreBlocksNumbered, fits_register, is_built}
+use Rattle.xs_script.specs.declared.commands.Scope.{Scope}
 use Rattle.xs_script.specs.declared.line.Line.{Line}
 use Rattle.xs_script.specs.declared.line.Line.TheVariants as lines
 use Rattle.xs_script.specs.declared.refusal.Kind.{Kind}
-use Rattle.xs_script.specs.declared.refusal.Kind.TheVariants.{NotBuilt, BadLine, Layout, UnknownName}
+use Rattle.xs_script.specs.declared.refusal.Kind.TheVariants.{NotBuilt, BadLine, Layout, Repeated, UnknownName}
 use Rattle.xs_script.specs.ScriptLine.{IsLine, IsCommandLine, line_text}
 use Rattle.xs_script.specs.Grammar.{lines_text, block_lines, row_lines, head_lines, sched_lines, script_lines, Spells}
 use Rattle.xs_script.specs.LineOrder.{Stand, AtVersion, AtBlock, may_end, next}
 use Rattle.xs_script.specs.Body.{names_of}
 use Rattle.xs_script.specs.Refusal as refusals
-use Rattle.xs_script.specs.Refusal.{AreLines, Early, Misspelled, Misplaced, Fails, Table, Here, table_fault, is_unbuilt, RefusesLine, Passes, table_of, IsKnown, IsKnownCommand, CommandFails, Refuses, ByLine, ByCommand}
+use Rattle.xs_script.specs.Refusal.{AreLines, Early, Misspelled, Misplaced, Fails, Table, Here, table_fault, is_unbuilt, RefusesLine, Passes, table_of, children_of, fork_of_line, forks_of, scope_of, is_among, IsKnown, IsKnownCommand, AreKnown, CommandFails, Refuses, ByLine, ByCommand}
 use Rattle.xs_script.specs.Front.{IsFront}
 use Rattle.xs_script.proofs.Fronts.{front_push, front_none}
 use Rattle.xs_script.proofs.Decisions.{first_or_none}
 use Rattle.xs_script.proofs.Places.{place_or_none}
-use Rattle.xs_script.proofs.BodyLines.{all_push}
+use Rattle.xs_script.proofs.BodyLines.{all_push, all_parts, distinct_push}
+use Rattle.xs_script.proofs.Children.{child_names, forks_push, no_children, no_forks, front_no_names, blocks_forks, blocks_named}
+use Rattle.xs_script.proofs.EventBound.{few_events}
 use Rattle.xs_script.proofs.Numbering.{blocks_rise}
-use Rattle.xs_script.proofs.KnownLines.{all_parts, names_fit, kinds_built, plain_handlers, blocks_known}
+use Rattle.xs_script.proofs.KnownLines.{names_fit, kinds_built, plain_handlers, blocks_known}
 use Rattle.xs_script.proofs.EntryTests.{joined}
-use Rattle.xs_script.proofs.WholeScripts.{blocks_no_rows, sched_no_rows, no_rows_table, table_of_lines}
+use Rattle.xs_script.proofs.WholeScripts.{blocks_no_rows, sched_no_rows, no_rows_table, table_of_lines, same_scope}
 use Rattle.xs_script.proofs.ReadScripts.{AreLater, IsMachine, blocks_read, script_read}
 
 -- ---- the first pass
@@ -89,58 +93,71 @@ passes_or_not text = walk _ text (suc (length text)) text [] AtVersion (omega ar
 
 -- ---- the second pass
 
+-- what forks no child leaves those that were forked
+same_names : (forked : List (List ℕ)) → AreDistinct forked → AreDistinct (forked ++ [])
+same_names forked d = subst AreDistinct (sym (append-nil forked)) d
+
 -- what follows from each case
 module _ (A : Type 0) where
   -- a value fits its register or fails
-  step_value : (rows : List Row) (reg bytes : List ℕ) (place : Place) (b : Bool) → fits_register place bytes ≡ b → IsRegister rows reg place → is_built place ≡ true → AllByRecursion (λ byte. byte < 256) bytes → (IsKnownCommand rows (commands.Set reg bytes) → A) → ((kind : Kind) → CommandFails rows (commands.Set reg bytes) kind → A) → A
-  step_value rows reg bytes place true is here built small known fails = known ((place, here, is, small), (place, here.0, built))
-  step_value rows reg bytes place false is here built small known fails = fails BadLine (refusals.Misfit reg bytes place here built is)
+  step_value : (scope : Scope) (forked : List (List ℕ)) (reg bytes : List ℕ) (place : Place) (b : Bool) → fits_register place bytes ≡ b → IsRegister scope.layout reg place → is_built place ≡ true → AllByRecursion (λ byte. byte < 256) bytes → (IsKnownCommand scope (commands.Set reg bytes) → A) → ((kind : Kind) → CommandFails scope forked (commands.Set reg bytes) kind → A) → A
+  step_value scope forked reg bytes place true is here built small known fails = known ((place, here, is, small), (place, here.0, built), tt)
+  step_value scope forked reg bytes place false is here built small known fails = fails BadLine (refusals.Misfit reg bytes place here built is)
 
   -- a place is one that is built, or the command fails
-  step_place : (rows : List Row) (command : Command) (place : Place) (b : Bool) → is_built place ≡ b → ((kind : Kind) → CommandFails rows command kind → A) → ((is_built place ≡ false) → CommandFails rows command NotBuilt) → (is_built place ≡ true → A) → A
-  step_place rows command place true is fails unbuilt go = go is
-  step_place rows command place false is fails unbuilt go = fails NotBuilt (unbuilt is)
+  step_place : (scope : Scope) (forked : List (List ℕ)) (command : Command) (place : Place) (b : Bool) → is_built place ≡ b → ((kind : Kind) → CommandFails scope forked command kind → A) → ((is_built place ≡ false) → CommandFails scope forked command NotBuilt) → (is_built place ≡ true → A) → A
+  step_place scope forked command place true is fails unbuilt go = go is
+  step_place scope forked command place false is fails unbuilt go = fails NotBuilt (unbuilt is)
 
-  -- A command is known or fails.
-  known_or_fails : (rows : List Row) (command : Command) → IsCommandLine command → (IsKnownCommand rows command → A) → ((kind : Kind) → CommandFails rows command kind → A) → A
-  known_or_fails rows (commands.Set reg bytes) fits known fails = elim (place_or_none rows reg) [
+  -- a fork names a child that none before it forks, or fails
+  step_fork : (scope : Scope) (forked : List (List ℕ)) (name : List ℕ) (b c : Bool) → is_among name scope.children ≡ b → is_among name forked ≡ c → (is_among name scope.children ≡ true → is_among name forked ≡ false → A) → ((kind : Kind) → CommandFails scope forked (commands.Fork name) kind → A) → A
+  step_fork scope forked name false c child again known fails = fails UnknownName (refusals.NoChild name child)
+  step_fork scope forked name true true child again known fails = fails Repeated (refusals.Again name child again)
+  step_fork scope forked name true false child again known fails = known child again
+
+  -- A command is known and forks no child again, or it fails.
+  known_or_fails : (scope : Scope) (forked : List (List ℕ)) (command : Command) → IsCommandLine command → (IsKnownCommand scope command → (AreDistinct forked → AreDistinct (forked ++ forked_name command)) → A) → ((kind : Kind) → CommandFails scope forked command kind → A) → A
+  known_or_fails scope forked (commands.Set reg bytes) fits known fails = elim (place_or_none scope.layout reg) [
     | inr none ↦ fails UnknownName (refusals.Unknown (commands.Set reg bytes) reg refl none)
     | inl p ↦
-        step_place rows (commands.Set reg bytes) p.0 (is_built p.0) refl fails (refusals.Unbuilt (commands.Set reg bytes) reg p.0 refl p.1) (λ built.
-        step_value rows reg bytes p.0 (fits_register p.0 bytes) refl p.1 built fits.2 known fails)
+        step_place scope forked (commands.Set reg bytes) p.0 (is_built p.0) refl fails (refusals.Unbuilt (commands.Set reg bytes) reg p.0 refl p.1) (λ built.
+        step_value scope forked reg bytes p.0 (fits_register p.0 bytes) refl p.1 built fits.2 (λ k. known k (same_names forked)) fails)
   ]
-  known_or_fails rows (commands.Get reg) fits known fails = elim (place_or_none rows reg) [
+  known_or_fails scope forked (commands.Get reg) fits known fails = elim (place_or_none scope.layout reg) [
     | inr none ↦ fails UnknownName (refusals.Unknown (commands.Get reg) reg refl none)
     | inl p ↦
-        step_place rows (commands.Get reg) p.0 (is_built p.0) refl fails (refusals.Unbuilt (commands.Get reg) reg p.0 refl p.1) (λ built.
-        known ((p.0, p.1), (p.0, p.1.0, built)))
+        step_place scope forked (commands.Get reg) p.0 (is_built p.0) refl fails (refusals.Unbuilt (commands.Get reg) reg p.0 refl p.1) (λ built.
+        known ((p.0, p.1), (p.0, p.1.0, built), tt) (same_names forked))
   ]
-  known_or_fails rows (commands.Ksec byte) fits known fails = known (fits, tt)
-  known_or_fails rows commands.Yield fits known fails = known (tt, tt)
-  known_or_fails rows other fits known fails = absurd fits
+  known_or_fails scope forked (commands.Ksec byte) fits known fails = known (fits, tt, tt) (same_names forked)
+  known_or_fails scope forked commands.Yield fits known fails = known (tt, tt, tt) (same_names forked)
+  known_or_fails scope forked (commands.Fork name) fits known fails =
+      step_fork scope forked name (is_among name scope.children) (is_among name forked) refl refl (λ child new. known (tt, tt, child) (λ d. distinct_push forked name d new)) fails
+  known_or_fails scope forked other fits known fails = absurd fits
 
   -- so a line is known, or is a command that fails
-  line_known_or_fails : (rows : List Row) (l : Line) → IsLine l → (IsKnown rows l → A) → ((command : Command) (kind : Kind) → l ≡ lines.Order command → CommandFails rows command kind → A) → A
-  line_known_or_fails rows lines.Version fits known fails = known tt
-  line_known_or_fails rows (lines.Machine named) fits known fails = known tt
-  line_known_or_fails rows (lines.Row r) fits known fails = known tt
-  line_known_or_fails rows (lines.Cpus n) fits known fails = known tt
-  line_known_or_fails rows (lines.Quantum n) fits known fails = known tt
-  line_known_or_fails rows (lines.Large n) fits known fails = known tt
-  line_known_or_fails rows (lines.Sched entries) fits known fails = known tt
-  line_known_or_fails rows (lines.Begin kind name) fits known fails = known tt
-  line_known_or_fails rows (lines.Order command) fits known fails = known_or_fails rows command fits known (λ kind f. fails command kind refl f)
-  line_known_or_fails rows lines.End fits known fails = known tt
+  line_known_or_fails : (scope : Scope) (forked : List (List ℕ)) (l : Line) → IsLine l → (IsKnown scope l → (AreDistinct forked → AreDistinct (forked ++ fork_of_line l)) → A) → ((command : Command) (kind : Kind) → l ≡ lines.Order command → CommandFails scope forked command kind → A) → A
+  line_known_or_fails scope forked lines.Version fits known fails = known tt (same_names forked)
+  line_known_or_fails scope forked (lines.Machine named) fits known fails = known tt (same_names forked)
+  line_known_or_fails scope forked (lines.Row r) fits known fails = known tt (same_names forked)
+  line_known_or_fails scope forked (lines.Cpus n) fits known fails = known tt (same_names forked)
+  line_known_or_fails scope forked (lines.Quantum n) fits known fails = known tt (same_names forked)
+  line_known_or_fails scope forked (lines.Large n) fits known fails = known tt (same_names forked)
+  line_known_or_fails scope forked (lines.Sched entries) fits known fails = known tt (same_names forked)
+  line_known_or_fails scope forked (lines.Begin kind name) fits known fails = known tt (same_names forked)
+  line_known_or_fails scope forked (lines.Order command) fits known fails = known_or_fails scope forked command fits known (λ kind f. fails command kind refl f)
+  line_known_or_fails scope forked lines.End fits known fails = known tt (same_names forked)
 
   -- Lines are known, or one of them is the first command that fails.
-  pub lines_known_or_fail : (rows : List Row) (done ls : List Line) → AllByRecursion (IsKnown rows) done → AreLines ls → (AllByRecursion (IsKnown rows) (done ++ ls) → A) → ((d : List Line) (command : Command) (later : List Line) (kind : Kind) → done ++ ls ≡ d ++ lines.Order command ∷ later → AllByRecursion (IsKnown rows) d → CommandFails rows command kind → A) → A
-  lines_known_or_fail rows done [] before fits known fails = known (subst (λ (xs : List Line). AllByRecursion (IsKnown rows) xs) (sym (append-nil done)) before)
-  lines_known_or_fail rows done (l ∷ ls) before fits known fails =
-      line_known_or_fails rows l fits.0
-      (λ here.
+  pub lines_known_or_fail : (scope : Scope) (done ls : List Line) → AreKnown scope done → AreLines ls → (AreKnown scope (done ++ ls) → A) → ((d : List Line) (command : Command) (later : List Line) (kind : Kind) → done ++ ls ≡ d ++ lines.Order command ∷ later → AreKnown scope d → CommandFails scope (forks_of d) command kind → A) → A
+  lines_known_or_fail scope done [] before fits known fails = known (subst (λ (xs : List Line). AreKnown scope xs) (sym (append-nil done)) before)
+  lines_known_or_fail scope done (l ∷ ls) before fits known fails =
+      line_known_or_fails scope (forks_of done) l fits.0
+      (λ here once.
       let same : (done ++ l ∷ []) ++ ls ≡ done ++ l ∷ ls = append_assoc done (l ∷ []) ls in
-      lines_known_or_fail rows (done ++ l ∷ []) ls (all_push (IsKnown rows) done l before here) fits.1
-      (λ all. known (subst (λ (xs : List Line). AllByRecursion (IsKnown rows) xs) same all))
+      let so_far : AreKnown scope (done ++ l ∷ []) = record { each = all_push (IsKnown scope) done l before.each here; once = subst AreDistinct (sym (forks_push done l)) (once before.once) } in
+      lines_known_or_fail scope (done ++ l ∷ []) ls so_far fits.1
+      (λ all. known (subst (λ (xs : List Line). AreKnown scope xs) same all))
       (λ d command later kind e front f. fails d command later kind (sym same ∙ e) front f))
       (λ command kind is f. fails done command ls kind (ap (λ (x : Line). done ++ x ∷ ls) is) before f)
 
@@ -186,20 +203,28 @@ groups_some [] h = tt
 groups_some (g ∷ groups) h = (h.0.0, groups_some groups h.1)
 
 -- A text that passes spells the script of its machine, its schedule and its blocks, where the lines are known.
-blocks_spell : (text : List ℕ) (ls : List Line) (p : Passes text ls) (m : IsMachine ls p.stand) (blocks : List Block) → m.numbers.sched.later ≡ flat_map block_lines blocks → AreBlocksNumbered (length (front_of ls p.stand m) + length m.numbers.sched.groups + 1) blocks → AreLater [] blocks p.stand → AllByRecursion (IsKnown (table_of ls)) ls → Spells text (whole_of ls p.stand m blocks)
-blocks_spell text ls p m blocks is numbered h known =
+blocks_spell : (text : List ℕ) (ls : List Line) → length text ≤ 1048576 → (p : Passes text ls) (m : IsMachine ls p.stand) (blocks : List Block) → m.numbers.sched.later ≡ flat_map block_lines blocks → AreBlocksNumbered (length (front_of ls p.stand m) + length m.numbers.sched.groups + 1) blocks → AreLater [] blocks p.stand → AreKnown (scope_of ls) ls → Spells text (whole_of ls p.stand m blocks)
+blocks_spell text ls short p m blocks is numbered h known =
     let script = whole_of ls p.stand m blocks in
     let front = front_of ls p.stand m in
     let groups = m.numbers.sched.groups in
-    let later = sched_lines groups ++ flat_map block_lines blocks in
+    let bodies = flat_map block_lines blocks in
+    let later = sched_lines groups ++ bodies in
+    let before = front ++ sched_lines groups in
     let lines_are : ls ≡ script_lines script groups = front_split ls p.stand m ∙ ap (λ (xs : List Line). front ++ (sched_lines groups ++ xs)) is in
-    let table : table_of ls ≡ m.layout = ap table_of lines_are ∙ table_of_lines script later m.is_table (no_rows_table later (sched_no_rows groups (flat_map block_lines blocks) (blocks_no_rows blocks))) in
-    let all = subst (λ (xs : List Line). AllByRecursion (IsKnown m.layout) xs) lines_are (subst (λ (rows : List Row). AllByRecursion (IsKnown rows) ls) table known) in
-    let later_known = (all_parts (IsKnown m.layout) front later all).1 in
-    let commands = blocks_known m.layout blocks h.plain (all_parts (IsKnown m.layout) (sched_lines groups) (flat_map block_lines blocks) later_known).1 in
+    let parted : ls ≡ before ++ bodies = lines_are ∙ sym (append_assoc front (sched_lines groups) bodies) in
+    let table : table_of ls ≡ m.layout = ap table_of lines_are ∙ table_of_lines script later m.is_table (no_rows_table later (sched_no_rows groups bodies (blocks_no_rows blocks))) in
+    let bare = front_no_names script groups in
+    let names : children_of ls ≡ child_names blocks = ap children_of parted ∙ no_children before bodies bare in
+    let forks : forks_of ls ≡ all_forked_names blocks = ap forks_of parted ∙ no_forks before bodies bare ∙ blocks_forks blocks in
+    let scope : Scope = record { layout = m.layout; children = child_names blocks } in
+    let scope_is : scope_of ls ≡ scope = same_scope (table_of ls) m.layout (children_of ls) (child_names blocks) table names in
+    let all = subst (λ (xs : List Line). AllByRecursion (IsKnown scope) xs) parted (subst (λ (x : Scope). AllByRecursion (IsKnown x) ls) scope_is known.each) in
+    let commands = blocks_known scope blocks h.plain (all_parts (IsKnown scope) before bodies all).1 in
     let later_fits = (all_parts IsLine front later (subst AreLines lines_are p.lines_fit)).1 in
-    let fit = all_parts IsLine (sched_lines groups) (flat_map block_lines blocks) later_fits in
+    let fit = all_parts IsLine (sched_lines groups) bodies later_fits in
     let handlers = plain_handlers blocks h.plain in
+    let few = few_blocks blocks p.stand h in
     record {
       valid = record {
         layout = m.layout_fits;
@@ -210,20 +235,23 @@ blocks_spell text ls p m blocks is numbered h known =
         entries = m.numbers.sched.below;
         schedule = omega (arith, m.numbers.sched.few);
         some = some_block blocks p.stand h.ends p.whole;
-        few = few_blocks blocks p.stand h;
+        few = few;
         names = names_fit blocks fit.1;
         distinct = h.distinct tt;
         rising = blocks_rise 0 (length front + length groups + 1) blocks (omega arith) handlers numbered;
-        bodies = commands.0;
+        bodies = commands.bodies;
+        named = blocks_named blocks blocks (h.distinct tt) commands.built commands.named;
+        forked = subst AreDistinct forks known.once;
+        events = few_events text before script short (p.spelled ∙ ap lines_text parted) few commands.built;
       };
-      built = record { kinds = kinds_built blocks fit.1 handlers; commands = commands.1 };
+      built = record { kinds = kinds_built blocks fit.1 handlers; commands = commands.built };
       groups = groups;
       grouped = record { some = groups_some groups fit.0; joined = refl };
       numbered = numbered;
       spelled = p.spelled ∙ ap lines_text lines_are;
     }
 
-machine_spells : (text : List ℕ) (ls : List Line) → length text ≤ 1048576 → (p : Passes text ls) → IsMachine ls p.stand → AllByRecursion (IsKnown (table_of ls)) ls → (script : Script) × Spells text script
+machine_spells : (text : List ℕ) (ls : List Line) → length text ≤ 1048576 → (p : Passes text ls) → IsMachine ls p.stand → AreKnown (scope_of ls) ls → (script : Script) × Spells text script
 machine_spells text ls short p m known =
     let few : length ls ≤ length text = rw p.spelled (lines_short ls) in
     let sched = m.numbers.sched in
@@ -233,20 +261,20 @@ machine_spells text ls short p m known =
     let groups : length (sched_lines sched.groups) ≡ length sched.groups = length-map sched.groups lines.Sched in
     let room : length front + length sched.groups + 1 + length sched.later < 2 ^ 32 = omega (arith, short, few, long, parts, groups) in
     let (blocks, is, numbered, h) = blocks_read (AtBlock []) sched.later p.stand (length front + length sched.groups + 1) room sched.leads p.whole in
-    (whole_of ls p.stand m blocks, blocks_spell text ls p m blocks is numbered h known)
+    (whole_of ls p.stand m blocks, blocks_spell text ls short p m blocks is numbered h known)
 
 -- Such a text spells a script.
-known_spells : (text : List ℕ) (ls : List Line) → length text ≤ 1048576 → Passes text ls → AllByRecursion (IsKnown (table_of ls)) ls → (script : Script) × Spells text script
+known_spells : (text : List ℕ) (ls : List Line) → length text ≤ 1048576 → Passes text ls → AreKnown (scope_of ls) ls → (script : Script) × Spells text script
 known_spells text ls short p known = machine_spells text ls short p (script_read ls p.stand p.leads p.whole) known
 
 -- A text within the limit spells a script or is refused.
 pub every_text : (text : List ℕ) → length text ≤ 1048576 → ((script : Script) × Spells text script) ⊎ ((number : ℕ) × (kind : Kind) × Refuses text number kind)
 every_text text short = elim (passes_or_not text) [
   | inl r ↦ inr (r.0, r.1, ByLine r.2)
-  | inr p ↦ lines_known_or_fail _ (table_of p.0) [] p.0 tt p.1.lines_fit
+  | inr p ↦ lines_known_or_fail _ (scope_of p.0) [] p.0 (record { each = tt; once = tt }) p.1.lines_fit
       (λ known. inl (known_spells text p.0 short p.1 known))
       (λ d command later kind e front f.
-      let table : table_of p.0 ≡ table_of (d ++ lines.Order command ∷ later) = ap table_of e in
+      let scope : scope_of p.0 ≡ scope_of (d ++ lines.Order command ∷ later) = ap scope_of e in
       inr (
         length d + 1,
         kind,
@@ -255,8 +283,8 @@ every_text text short = elim (passes_or_not text) [
           command = command;
           later = later;
           passes = subst (λ (xs : List Line). Passes text xs) e p.1;
-          known = subst (λ (rows : List Row). AllByRecursion (IsKnown rows) d) table front;
-          fails = subst (λ (rows : List Row). CommandFails rows command kind) table f;
+          known = subst (λ (x : Scope). AreKnown x d) scope front;
+          fails = subst (λ (x : Scope). CommandFails x (forks_of d) command kind) scope f;
           number_is = refl;
         }),
       ))

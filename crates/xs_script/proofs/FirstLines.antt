@@ -44,6 +44,7 @@ row_word (lines.Order (commands.Set reg bytes)) = refl
 row_word (lines.Order (commands.Get reg)) = refl
 row_word (lines.Order (commands.Ksec byte)) = refl
 row_word (lines.Order commands.Yield) = refl
+row_word (lines.Order (commands.Fork name)) = refl
 row_word (lines.Order other) = refl
 row_word lines.End = refl
 
@@ -72,12 +73,13 @@ built_line (lines.Quantum n) fits = refl
 built_line (lines.Large n) fits = refl
 built_line (lines.Sched entries) fits = built_sched entries fits
 built_line (lines.Begin blocks.Task name) fits = refl
-built_line (lines.Begin blocks.Child name) fits = absurd (cc fits.0)
+built_line (lines.Begin blocks.Child name) fits = refl
 built_line (lines.Begin blocks.Kthread name) fits = refl
 built_line (lines.Order (commands.Set reg bytes)) fits = refl
 built_line (lines.Order (commands.Get reg)) fits = refl
 built_line (lines.Order (commands.Ksec byte)) fits = refl
 built_line (lines.Order commands.Yield) fits = refl
+built_line (lines.Order (commands.Fork name)) fits = refl
 built_line (lines.Order other) fits = absurd fits
 built_line lines.End fits = refl
 

@@ -26,9 +26,17 @@ pub no_ksec : (words : List ℕ) → ((byte : ℕ) → byte < 256 → words ≡ 
 no_ksec words none (lines.Order (commands.Ksec byte)) fits e = none byte fits (append_cancel_left (codes "ksec ") words (encode_lower (byte ∷ [])) e)
 no_ksec words none l fits e = let k = ap kind_of e ∙ kind_is l in omega arith
 
+pub no_fork : (words : List ℕ) → ((name : List ℕ) → is_name name ≡ true → words ≡ name → ⊥) → (l : Line) → IsBlockLine l → codes "fork " ++ words ≡ line_text l → ⊥
+no_fork words none (lines.Order (commands.Fork name)) fits e = none name fits (append_cancel_left (codes "fork ") words name e)
+no_fork words none l fits e = let k = ap kind_of e ∙ kind_is l in omega arith
+
 no_task : (words : List ℕ) → ((name : List ℕ) → is_name name ≡ true → words ≡ name → ⊥) → (l : Line) → IsBlockLine l → codes "task " ++ words ≡ line_text l → ⊥
 no_task words none (lines.Begin blocks.Task name) fits e = none name fits.1 (append_cancel_left (codes "task ") words name e)
 no_task words none l fits e = let k = ap kind_of e ∙ kind_is l in omega arith
+
+no_child : (words : List ℕ) → ((name : List ℕ) → is_name name ≡ true → words ≡ name → ⊥) → (l : Line) → IsBlockLine l → codes "child " ++ words ≡ line_text l → ⊥
+no_child words none (lines.Begin blocks.Child name) fits e = none name fits.1 (append_cancel_left (codes "child ") words name e)
+no_child words none l fits e = let k = ap kind_of e ∙ kind_is l in omega arith
 
 no_kthread : (words : List ℕ) → ((name : List ℕ) → is_name name ≡ true → words ≡ name → ⊥) → (l : Line) → IsBlockLine l → codes "kthread " ++ words ≡ line_text l → ⊥
 no_kthread words none (lines.Begin blocks.Kthread name) fits e = none name fits.1 (append_cancel_left (codes "kthread ") words name e)
@@ -36,7 +44,7 @@ no_kthread words none l fits e = let k = ap kind_of e ∙ kind_is l in omega ari
 
 pub no_begin : (kind : BlockKind) (words : List ℕ) → is_built_kind kind ≡ true → ((name : List ℕ) → is_name name ≡ true → words ≡ name → ⊥) → (l : Line) → IsBlockLine l → block_word kind ++ words ≡ line_text l → ⊥
 no_begin blocks.Task words built none l fits e = no_task words none l fits e
-no_begin blocks.Child words built none l fits e = absurd (cc built)
+no_begin blocks.Child words built none l fits e = no_child words none l fits e
 no_begin blocks.Kthread words built none l fits e = no_kthread words none l fits e
 
 pub no_sched : (words : List ℕ) → ((entries : List ℕ) → IsLine (lines.Sched entries) → 32 ∷ words ≡ entries_text entries → ⊥) → (l : Line) → IsLine l → codes "sched " ++ words ≡ line_text l → ⊥

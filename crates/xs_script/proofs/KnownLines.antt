@@ -8,40 +8,37 @@ use Rattle.xs_model.specs.declared.script.Order.{Order}
 use Rattle.xs_model.specs.declared.script.Block.{Block}
 use Rattle.xs_model.specs.Script.{is_name, fits_register, IsCommand, is_return, IsBody, IsBuiltCommand, is_built_kind}
 use Rattle.xs_script.specs.declared.line.Line.TheVariants as lines
+use Rattle.xs_script.specs.declared.commands.Scope.{Scope}
 use Rattle.xs_script.specs.declared.refusal.Kind.{Kind}
 use Rattle.xs_script.specs.ScriptLine.{IsLine, IsCommandLine, kept_command}
 use Rattle.xs_script.specs.Grammar.{order_lines, block_lines}
-use Rattle.xs_script.specs.Refusal.{AreLines, IsKnown, IsKnownCommand, CommandFails, Unknown, Unbuilt, Misfit}
+use Rattle.xs_script.specs.Refusal.{AreLines, NamesChild, IsKnown, IsKnownCommand, CommandFails, Unknown, Unbuilt, Misfit}
 use Rattle.xs_script.specs.Commands.{PassesCommand}
 use Rattle.xs_script.specs.Body.{IsPlainBlock}
 use Rattle.xs_script.proofs.CommandFaults.{kept_whole, kept_misfit}
-
--- ---- lists
-
-pub all_parts : {A : Type 0} (P : A → Type 0) (xs ys : List A) → AllByRecursion P (xs ++ ys) → AllByRecursion P xs × AllByRecursion P ys
-all_parts P [] ys h = (tt, h)
-all_parts P (x ∷ xs) ys h = let r = all_parts P xs ys h.1 in ((h.0, r.0), r.1)
+use Rattle.xs_script.proofs.BodyLines.{all_parts}
 
 -- ---- one line
 
 -- what is kept of a command with nothing wrong is the command
-pub known_command : (rows : List Row) (command : Command) → IsCommandLine command → PassesCommand rows (kept_command command) → (kept_command command ≡ command) × IsKnownCommand rows command
-known_command rows (commands.Set reg bytes) spelled (place, found, fits) =
-    let whole = kept_whole rows reg bytes place found.here fits in
-    (ap (λ (bs : List ℕ). commands.Set reg bs) whole, ((place, found.here, subst (λ (bs : List ℕ). fits_register place bs ≡ true) whole fits, spelled.2), (place, found.here.0, found.built)))
-known_command rows (commands.Get reg) spelled (place, found) = (refl, ((place, found.here), (place, found.here.0, found.built)))
-known_command rows (commands.Ksec byte) spelled found = (refl, (spelled, tt))
-known_command rows commands.Yield spelled found = (refl, (tt, tt))
-known_command rows other spelled found = absurd spelled
+pub known_command : (scope : Scope) (forked : List (List ℕ)) (command : Command) → IsCommandLine command → PassesCommand scope forked (kept_command command) → (kept_command command ≡ command) × IsKnownCommand scope command
+known_command scope forked (commands.Set reg bytes) spelled (place, found, fits) =
+    let whole = kept_whole scope.layout reg bytes place found.here fits in
+    (ap (λ (bs : List ℕ). commands.Set reg bs) whole, ((place, found.here, subst (λ (bs : List ℕ). fits_register place bs ≡ true) whole fits, spelled.2), (place, found.here.0, found.built), tt))
+known_command scope forked (commands.Get reg) spelled (place, found) = (refl, ((place, found.here), (place, found.here.0, found.built), tt))
+known_command scope forked (commands.Ksec byte) spelled found = (refl, (spelled, tt, tt))
+known_command scope forked commands.Yield spelled found = (refl, (tt, tt, tt))
+known_command scope forked (commands.Fork name) spelled found = (refl, (tt, tt, found.0))
+known_command scope forked other spelled found = absurd spelled
 
 -- a command that fails by what was kept of it fails
-pub kept_fails : (rows : List Row) (command : Command) (kind : Kind) → CommandFails rows (kept_command command) kind → CommandFails rows command kind
-kept_fails rows (commands.Set reg bytes) _ (Unknown _ word named none) = Unknown (commands.Set reg bytes) word named none
-kept_fails rows (commands.Set reg bytes) _ (Unbuilt _ word place named here unready) = Unbuilt (commands.Set reg bytes) word place named here unready
-kept_fails rows (commands.Set reg bytes) _ (Misfit _ _ place here built wrong) = Misfit reg bytes place here built (kept_misfit rows reg bytes place here wrong)
-kept_fails rows (commands.Get reg) _ (Unknown _ word named none) = Unknown (commands.Get reg) word named none
-kept_fails rows (commands.Get reg) _ (Unbuilt _ word place named here unready) = Unbuilt (commands.Get reg) word place named here unready
-kept_fails rows other kind fails = fails
+pub kept_fails : (scope : Scope) (forked : List (List ℕ)) (command : Command) (kind : Kind) → CommandFails scope forked (kept_command command) kind → CommandFails scope forked command kind
+kept_fails scope forked (commands.Set reg bytes) _ (Unknown _ word named none) = Unknown (commands.Set reg bytes) word named none
+kept_fails scope forked (commands.Set reg bytes) _ (Unbuilt _ word place named here unready) = Unbuilt (commands.Set reg bytes) word place named here unready
+kept_fails scope forked (commands.Set reg bytes) _ (Misfit _ _ place here built wrong) = Misfit reg bytes place here built (kept_misfit scope.layout reg bytes place here wrong)
+kept_fails scope forked (commands.Get reg) _ (Unknown _ word named none) = Unknown (commands.Get reg) word named none
+kept_fails scope forked (commands.Get reg) _ (Unbuilt _ word place named here unready) = Unbuilt (commands.Get reg) word place named here unready
+kept_fails scope forked other kind fails = fails
 
 -- ---- lines of blocks
 
@@ -59,9 +56,17 @@ pub plain_handlers : (blocks : List Block) → AllByRecursion IsPlainBlock block
 plain_handlers [] h = tt
 plain_handlers (b ∷ blocks) h = (h.0.handler, plain_handlers blocks h.1)
 
-orders_known : (rows : List Row) (orders : List Order) → AllByRecursion (IsKnown rows) (order_lines orders) → AllByRecursion (λ (order : Order). IsCommand rows order.command) orders × AllByRecursion (λ (order : Order). IsBuiltCommand order.command) orders
-orders_known rows [] h = (tt, tt)
-orders_known rows (o ∷ orders) h = let r = orders_known rows orders h.1 in ((h.0.0, r.0), (h.0.1, r.1))
+-- of each order what a script asks of it
+pub record AreKnownOrders (scope : Scope) (orders : List Order) : Type 0 where
+  pub commands : AllByRecursion (λ (order : Order). IsCommand scope.layout order.command) orders
+  pub built : AllByRecursion (λ (order : Order). IsBuiltCommand order.command) orders
+  pub named : AllByRecursion (λ (order : Order). NamesChild scope.children order.command) orders
+
+orders_known : (scope : Scope) (orders : List Order) → AllByRecursion (IsKnown scope) (order_lines orders) → AreKnownOrders scope orders
+orders_known scope [] h = record { commands = tt; built = tt; named = tt }
+orders_known scope (o ∷ orders) h =
+    let r = orders_known scope orders h.1 in
+    record { commands = (h.0.0, r.commands); built = (h.0.1, r.built); named = (h.0.2, r.named) }
 
 -- a built command is no return from a handler
 no_return : (command : Command) → IsBuiltCommand command → not (is_return command) ≡ true
@@ -82,10 +87,16 @@ known_body rows b plain fits built = record {
   kind = plain.fits;
 }
 
-pub blocks_known : (rows : List Row) (blocks : List Block) → AllByRecursion IsPlainBlock blocks → AllByRecursion (IsKnown rows) (flat_map block_lines blocks) → AllByRecursion (λ (block : Block). IsBody rows block) blocks × AllByRecursion (λ (block : Block). AllByRecursion (λ (order : Order). IsBuiltCommand order.command) block.body) blocks
-blocks_known rows [] plain h = (tt, tt)
-blocks_known rows (b ∷ blocks) plain h =
-    let parts = all_parts (IsKnown rows) (order_lines b.body ++ lines.End ∷ []) (flat_map block_lines blocks) h.1 in
-    let body = orders_known rows b.body (all_parts (IsKnown rows) (order_lines b.body) (lines.End ∷ []) parts.0).0 in
-    let rest = blocks_known rows blocks plain.1 parts.1 in
-    ((known_body rows b plain.0 body.0 body.1, rest.0), (body.1, rest.1))
+-- of each block what a script asks of it
+pub record AreKnownBlocks (scope : Scope) (blocks : List Block) : Type 0 where
+  pub bodies : AllByRecursion (λ (block : Block). IsBody scope.layout block) blocks
+  pub built : AllByRecursion (λ (block : Block). AllByRecursion (λ (order : Order). IsBuiltCommand order.command) block.body) blocks
+  pub named : AllByRecursion (λ (block : Block). AllByRecursion (λ (order : Order). NamesChild scope.children order.command) block.body) blocks
+
+pub blocks_known : (scope : Scope) (blocks : List Block) → AllByRecursion IsPlainBlock blocks → AllByRecursion (IsKnown scope) (flat_map block_lines blocks) → AreKnownBlocks scope blocks
+blocks_known scope [] plain h = record { bodies = tt; built = tt; named = tt }
+blocks_known scope (b ∷ blocks) plain h =
+    let parts = all_parts (IsKnown scope) (order_lines b.body ++ lines.End ∷ []) (flat_map block_lines blocks) h.1 in
+    let body = orders_known scope b.body (all_parts (IsKnown scope) (order_lines b.body) (lines.End ∷ []) parts.0).0 in
+    let rest = blocks_known scope blocks plain.1 parts.1 in
+    record { bodies = (known_body scope.layout b plain.0 body.commands body.built, rest.bodies); built = (body.built, rest.built); named = (body.named, rest.named) }

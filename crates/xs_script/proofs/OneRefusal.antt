@@ -2,7 +2,7 @@
 use Rattle.std.proofs.Common.{◌≡◌, ℕ, ◌+◌, true, false, List, [], ◌∷◌, ◌++◌, length, Option, Some, None, Ok, codes, refl, sym, ◌∙◌, ap, subst, arith}
 use Rattle.std.specs.Prelude.{bytes_eq}
 use Rattle.std.specs.List.{AllByRecursion}
-use Rattle.std.proofs.lemmas.List.{append-nil}
+use Rattle.std.proofs.lemmas.List.{append_assoc, append-nil}
 use Rattle.xs_base.specs.declared.component.Row.{Row}
 use Rattle.xs_base.specs.declared.component.Place.{Place}
 use Rattle.xs_base.specs.declared.layout_error.LayoutError.{LayoutError}
@@ -11,23 +11,26 @@ use Rattle.xs_base.specs.Register.{IsNamed, IsRegister}
 use Rattle.xs_base.proofs.Registers.{one_place}
 use Rattle.xs_model.specs.declared.script.Command.{Command}
 use Rattle.xs_model.specs.declared.script.Command.TheVariants as commands
-use Rattle.xs_model.specs.Script.{fits_register, is_built}
+use Rattle.xs_model.specs.Names.{forked_name}
+use Rattle.xs_model.specs.Script.{AreDistinct, fits_register, is_built}
+use Rattle.xs_script.specs.declared.commands.Scope.{Scope}
 use Rattle.xs_script.specs.declared.line.Line.{Line}
 use Rattle.xs_script.specs.declared.line.Line.TheVariants as lines
 use Rattle.xs_script.specs.declared.refusal.Kind.{Kind}
 use Rattle.xs_script.specs.ScriptLine.{line_text, IsLine}
 use Rattle.xs_script.specs.Grammar.{lines_text}
 use Rattle.xs_script.specs.LineOrder.{Stand, AtVersion, AtMachine, AtRow, AtCpus, AtQuantum, AtLarge, AtSched, AtBlock, InBlock, next, may_end, after_rows, Leads}
-use Rattle.xs_script.specs.Refusal.{AreLines, first_word, is_unbuilt, unbuilt_words, table_fault, LineFails, Early, Unbuilt, Misspelled, Misplaced, Fails, Table, Here, RefusesLine, Passes, table_of, IsKnown, IsKnownCommand, register_of, CommandFails, RefusesCommand, Refuses, ByLine, ByCommand}
+use Rattle.xs_script.specs.Refusal.{AreLines, first_word, is_unbuilt, unbuilt_words, table_fault, LineFails, Early, Unbuilt, Misspelled, Misplaced, Fails, Table, Here, RefusesLine, Passes, fork_of_line, forks_of, scope_of, IsKnown, IsKnownCommand, register_of, CommandFails, RefusesCommand, Refuses, ByLine, ByCommand}
 use Rattle.xs_script.specs.Refusal as refusals
 use Rattle.xs_script.proofs.FirstLines.{row_begins, not_unbuilt, is_row_line}
 use Rattle.xs_script.proofs.Spellings.{one_first_line}
 use Rattle.xs_script.proofs.Fronts.{lines_more}
+use Rattle.xs_script.proofs.BodyLines.{another, distinct_front}
 
 -- ---- one line
 
 -- where a line is next, the text isn't over
-not_over : (l : Line) (text rest : List ℕ) → text ≡ line_text l ++ 10 ∷ rest → text ≡ [] → ⊥
+pub not_over : (l : Line) (text rest : List ℕ) → text ≡ line_text l ++ 10 ∷ rest → text ≡ [] → ⊥
 not_over l text rest e none = some (line_text l) rest (sym e ∙ none)
   where
     some : (xs ys : List ℕ) → xs ++ 10 ∷ ys ≡ [] → ⊥
@@ -205,64 +208,88 @@ same_place rows command a b p q h g here there =
     one_place b p q (subst (λ (reg : List ℕ). IsNamed reg p) same here.0) there.0
 
 -- a known command has its register, which is built
-known_register : (rows : List Row) (command : Command) (reg : List ℕ) → register_of command ≡ Some reg → IsKnownCommand rows command → (place : Place) × IsRegister rows reg place × (is_built place ≡ true)
-known_register rows (commands.Set word bytes) reg named ((place, here, fits, bytes_are), (other, is, built)) =
+known_register : (scope : Scope) (command : Command) (reg : List ℕ) → register_of command ≡ Some reg → IsKnownCommand scope command → (place : Place) × IsRegister scope.layout reg place × (is_built place ≡ true)
+known_register scope (commands.Set word bytes) reg named ((place, here, fits, bytes_are), (other, is, built), child) =
     let same : word ≡ reg = cc named in
-    (place, subst (λ (r : List ℕ). IsRegister rows r place) same here, ap is_built (one_place word place other here.0 is) ∙ built)
-known_register rows (commands.Get word) reg named ((place, here), (other, is, built)) =
+    (place, subst (λ (r : List ℕ). IsRegister scope.layout r place) same here, ap is_built (one_place word place other here.0 is) ∙ built)
+known_register scope (commands.Get word) reg named ((place, here), (other, is, built), child) =
     let same : word ≡ reg = cc named in
-    (place, subst (λ (r : List ℕ). IsRegister rows r place) same here, ap is_built (one_place word place other here.0 is) ∙ built)
-known_register rows other reg named known = absurd (cc named)
+    (place, subst (λ (r : List ℕ). IsRegister scope.layout r place) same here, ap is_built (one_place word place other here.0 is) ∙ built)
+known_register scope other reg named known = absurd (cc named)
 
 -- a value fits its register, where both are known
-known_fits : (rows : List Row) (reg bytes : List ℕ) (q : Place) → IsKnownCommand rows (commands.Set reg bytes) → IsRegister rows reg q → fits_register q bytes ≡ false → ⊥
-known_fits rows reg bytes q ((place, here, fits, bytes_are), built) there wrong =
+known_fits : (scope : Scope) (reg bytes : List ℕ) (q : Place) → IsKnownCommand scope (commands.Set reg bytes) → IsRegister scope.layout reg q → fits_register q bytes ≡ false → ⊥
+known_fits scope reg bytes q ((place, here, fits, bytes_are), built, child) there wrong =
     cc (sym fits ∙ ap (λ (p : Place). fits_register p bytes) (one_place reg place q here.0 there.0) ∙ wrong)
 
--- a known command doesn't fail
-pub known_not_fails : (rows : List Row) (command : Command) (kind : Kind) → IsKnownCommand rows command → CommandFails rows command kind → ⊥
-known_not_fails rows command _ known (refusals.Unknown _ reg named none) =
-    let h = known_register rows command reg named known in
+-- a known command that forks no child again doesn't fail
+pub known_not_fails : (scope : Scope) (forked : List (List ℕ)) (command : Command) (kind : Kind) → IsKnownCommand scope command → AreDistinct (forked ++ forked_name command) → CommandFails scope forked command kind → ⊥
+known_not_fails scope forked command _ known once (refusals.Unknown _ reg named none) =
+    let h = known_register scope command reg named known in
     none h.0 h.1
-known_not_fails rows command _ known (refusals.Unbuilt _ reg q named there unready) =
-    let (place, here, built) = known_register rows command reg named known in
+known_not_fails scope forked command _ known once (refusals.Unbuilt _ reg q named there unready) =
+    let (place, here, built) = known_register scope command reg named known in
     cc (sym built ∙ ap is_built (one_place reg place q here.0 there.0) ∙ unready)
-known_not_fails rows _ _ known (refusals.Misfit reg bytes q there ready wrong) = known_fits rows reg bytes q known there wrong
+known_not_fails scope forked _ _ known once (refusals.Misfit reg bytes q there ready wrong) = known_fits scope reg bytes q known there wrong
+known_not_fails scope forked _ _ known once (refusals.NoChild name none) = cc (sym known.2 ∙ none)
+known_not_fails scope forked _ _ known once (refusals.Again name child again) = cc (sym again ∙ another forked [] name once)
 
 -- a command fails with one kind
-one_command_cause : (rows : List Row) (command : Command) (k j : Kind) → CommandFails rows command k → CommandFails rows command j → k ≡ j
-one_command_cause rows command _ _ (refusals.Unknown _ reg named none) (refusals.Unknown _ reg' named' none') = refl
-one_command_cause rows command _ _ (refusals.Unknown _ reg named none) (refusals.Unbuilt _ reg' q named' there unready) =
-    absurd (none q (subst (λ (r : List ℕ). IsRegister rows r q) (one_register command reg' reg named' named) there))
-one_command_cause rows command _ _ (refusals.Unknown _ reg named none) (refusals.Misfit reg' bytes q there ready wrong) =
-    absurd (none q (subst (λ (r : List ℕ). IsRegister rows r q) (one_register (commands.Set reg' bytes) reg' reg refl named) there))
-one_command_cause rows command _ _ (refusals.Unbuilt _ reg p named here unready) (refusals.Unknown _ reg' named' none) =
-    absurd (none p (subst (λ (r : List ℕ). IsRegister rows r p) (one_register command reg reg' named named') here))
-one_command_cause rows command _ _ (refusals.Unbuilt _ reg p named here unready) (refusals.Unbuilt _ reg' q named' there unready') = refl
-one_command_cause rows command _ _ (refusals.Unbuilt _ reg p named here unready) (refusals.Misfit reg' bytes q there ready wrong) =
-    let same = same_place rows (commands.Set reg' bytes) reg reg' p q named refl here there in
+one_command_cause : (scope : Scope) (forked : List (List ℕ)) (command : Command) (k j : Kind) → CommandFails scope forked command k → CommandFails scope forked command j → k ≡ j
+one_command_cause scope forked command _ _ (refusals.Unknown _ reg named none) (refusals.Unknown _ reg' named' none') = refl
+one_command_cause scope forked command _ _ (refusals.Unknown _ reg named none) (refusals.Unbuilt _ reg' q named' there unready) =
+    absurd (none q (subst (λ (r : List ℕ). IsRegister scope.layout r q) (one_register command reg' reg named' named) there))
+one_command_cause scope forked command _ _ (refusals.Unknown _ reg named none) (refusals.Misfit reg' bytes q there ready wrong) =
+    absurd (none q (subst (λ (r : List ℕ). IsRegister scope.layout r q) (one_register (commands.Set reg' bytes) reg' reg refl named) there))
+one_command_cause scope forked command _ _ (refusals.Unbuilt _ reg p named here unready) (refusals.Unknown _ reg' named' none) =
+    absurd (none p (subst (λ (r : List ℕ). IsRegister scope.layout r p) (one_register command reg reg' named named') here))
+one_command_cause scope forked command _ _ (refusals.Unbuilt _ reg p named here unready) (refusals.Unbuilt _ reg' q named' there unready') = refl
+one_command_cause scope forked command _ _ (refusals.Unbuilt _ reg p named here unready) (refusals.Misfit reg' bytes q there ready wrong) =
+    let same = same_place scope.layout (commands.Set reg' bytes) reg reg' p q named refl here there in
     absurd (cc (sym ready ∙ ap is_built (sym same) ∙ unready))
-one_command_cause rows command _ _ (refusals.Misfit reg bytes p here ready wrong) (refusals.Unknown _ reg' named' none) =
-    absurd (none p (subst (λ (r : List ℕ). IsRegister rows r p) (one_register (commands.Set reg bytes) reg reg' refl named') here))
-one_command_cause rows command _ _ (refusals.Misfit reg bytes p here ready wrong) (refusals.Unbuilt _ reg' q named' there unready) =
-    let same = same_place rows (commands.Set reg bytes) reg reg' p q refl named' here there in
+one_command_cause scope forked command _ _ (refusals.Misfit reg bytes p here ready wrong) (refusals.Unknown _ reg' named' none) =
+    absurd (none p (subst (λ (r : List ℕ). IsRegister scope.layout r p) (one_register (commands.Set reg bytes) reg reg' refl named') here))
+one_command_cause scope forked command _ _ (refusals.Misfit reg bytes p here ready wrong) (refusals.Unbuilt _ reg' q named' there unready) =
+    let same = same_place scope.layout (commands.Set reg bytes) reg reg' p q refl named' here there in
     absurd (cc (sym ready ∙ ap is_built same ∙ unready))
-one_command_cause rows command _ _ (refusals.Misfit reg bytes p here ready wrong) (refusals.Misfit _ _ q there ready' wrong') = refl
+one_command_cause scope forked command _ _ (refusals.Misfit reg bytes p here ready wrong) (refusals.Misfit _ _ q there ready' wrong') = refl
+one_command_cause scope forked command _ _ (refusals.Unknown _ reg named none) (refusals.NoChild name none') = refl
+one_command_cause scope forked command _ _ (refusals.Unknown _ reg named none) (refusals.Again name child again) = absurd (cc named)
+one_command_cause scope forked command _ _ (refusals.Unbuilt _ reg p named here unready) (refusals.NoChild name none) = absurd (cc named)
+one_command_cause scope forked command _ _ (refusals.Unbuilt _ reg p named here unready) (refusals.Again name child again) = absurd (cc named)
+one_command_cause scope forked command _ _ (refusals.NoChild name none) (refusals.Unknown _ reg named none') = refl
+one_command_cause scope forked command _ _ (refusals.NoChild name none) (refusals.Unbuilt _ reg p named here unready) = absurd (cc named)
+one_command_cause scope forked command _ _ (refusals.NoChild name none) (refusals.NoChild _ none') = refl
+one_command_cause scope forked command _ _ (refusals.NoChild name none) (refusals.Again _ child again) = absurd (cc (sym none ∙ child))
+one_command_cause scope forked command _ _ (refusals.Again name child again) (refusals.Unknown _ reg named none) = absurd (cc named)
+one_command_cause scope forked command _ _ (refusals.Again name child again) (refusals.Unbuilt _ reg p named here unready) = absurd (cc named)
+one_command_cause scope forked command _ _ (refusals.Again name child again) (refusals.NoChild _ none) = absurd (cc (sym none ∙ child))
+one_command_cause scope forked command _ _ (refusals.Again name child again) (refusals.Again _ child' again') = refl
+
+-- where lines fork no child again, the first of them doesn't
+first_once : (forked : List (List ℕ)) (l : Line) (ls : List Line) (command : Command) → l ≡ lines.Order command → AreDistinct (forked ++ forks_of (l ∷ ls)) → AreDistinct (forked ++ forked_name command)
+first_once forked l ls command same h =
+    let here : forks_of (l ∷ ls) ≡ forked_name command ++ forks_of ls = ap (λ (x : Line). fork_of_line x ++ forks_of ls) same in
+    distinct_front (forked ++ forked_name command) (forks_of ls) (subst AreDistinct (ap (λ (names : List (List ℕ)). forked ++ names) here ∙ sym (append_assoc forked (forked_name command) (forks_of ls))) h)
 
 -- among lines the first command that fails is one
-first_command : (rows : List Row) (a b la lb : List Line) (c d : Command) (k j : Kind) → a ++ lines.Order c ∷ la ≡ b ++ lines.Order d ∷ lb → AllByRecursion (IsKnown rows) a → AllByRecursion (IsKnown rows) b → CommandFails rows c k → CommandFails rows d j → (length a ≡ length b) × (k ≡ j)
-first_command rows [] [] la lb c d k j e ha hb fc fd =
+first_command : (scope : Scope) (forked : List (List ℕ)) (a b la lb : List Line) (c d : Command) (k j : Kind) → a ++ lines.Order c ∷ la ≡ b ++ lines.Order d ∷ lb → AllByRecursion (IsKnown scope) a → AllByRecursion (IsKnown scope) b → AreDistinct (forked ++ forks_of a) → AreDistinct (forked ++ forks_of b) → CommandFails scope (forked ++ forks_of a) c k → CommandFails scope (forked ++ forks_of b) d j → (length a ≡ length b) × (k ≡ j)
+first_command scope forked [] [] la lb c d k j e ha hb oa ob fc fd =
     let same : d ≡ c = cc e in
-    (refl, one_command_cause rows c k j fc (subst (λ (x : Command). CommandFails rows x j) same fd))
-first_command rows [] (l ∷ b) la lb c d k j e ha hb fc fd =
+    (refl, one_command_cause scope (forked ++ []) c k j fc (subst (λ (x : Command). CommandFails scope (forked ++ []) x j) same fd))
+first_command scope forked [] (l ∷ b) la lb c d k j e ha hb oa ob fc fd =
     let same : l ≡ lines.Order c = cc e in
-    absurd (known_not_fails rows c k (subst (IsKnown rows) same hb.0) fc)
-first_command rows (l ∷ a) [] la lb c d k j e ha hb fc fd =
+    absurd (known_not_fails scope forked c k (subst (IsKnown scope) same hb.0) (first_once forked l b c same ob) (subst (λ (names : List (List ℕ)). CommandFails scope names c k) (append-nil forked) fc))
+first_command scope forked (l ∷ a) [] la lb c d k j e ha hb oa ob fc fd =
     let same : l ≡ lines.Order d = cc e in
-    absurd (known_not_fails rows d j (subst (IsKnown rows) same ha.0) fd)
-first_command rows (l ∷ a) (l' ∷ b) la lb c d k j e ha hb fc fd =
+    absurd (known_not_fails scope forked d j (subst (IsKnown scope) same ha.0) (first_once forked l a d same oa) (subst (λ (names : List (List ℕ)). CommandFails scope names d j) (append-nil forked) fd))
+first_command scope forked (l ∷ a) (l' ∷ b) la lb c d k j e ha hb oa ob fc fd =
+    let same : l' ≡ l = cc e in
     let rest : a ++ lines.Order c ∷ la ≡ b ++ lines.Order d ∷ lb = cc e in
-    let r = first_command rows a b la lb c d k j rest ha.1 hb.1 fc fd in
+    let more = forked ++ fork_of_line l in
+    let mine : forked ++ forks_of (l ∷ a) ≡ more ++ forks_of a = sym (append_assoc forked (fork_of_line l) (forks_of a)) in
+    let yours : forked ++ forks_of (l' ∷ b) ≡ more ++ forks_of b = ap (λ (x : Line). forked ++ (fork_of_line x ++ forks_of b)) same ∙ sym (append_assoc forked (fork_of_line l) (forks_of b)) in
+    let r = first_command scope more a b la lb c d k j rest ha.1 hb.1 (subst AreDistinct mine oa) (subst AreDistinct yours ob) (subst (λ (names : List (List ℕ)). CommandFails scope names c k) mine fc) (subst (λ (names : List (List ℕ)). CommandFails scope names d j) yours fd) in
     (omega (arith, r.0), r.1)
 
 one_command_refusal : (text : List ℕ) (m n : ℕ) (k j : Kind) → RefusesCommand text m k → RefusesCommand text n j → (m ≡ n) × (k ≡ j)
@@ -270,10 +297,10 @@ one_command_refusal text m n k j r s =
     let mine = r.done ++ lines.Order r.command ∷ r.later in
     let yours = s.done ++ lines.Order s.command ∷ s.later in
     let same : mine ≡ yours = one_lines mine yours r.passes.lines_fit s.passes.lines_fit (sym r.passes.spelled ∙ s.passes.spelled) in
-    let table : table_of yours ≡ table_of mine = ap table_of (sym same) in
-    let known = subst (λ (rows : List Row). AllByRecursion (IsKnown rows) s.done) table s.known in
-    let fails = subst (λ (rows : List Row). CommandFails rows s.command j) table s.fails in
-    let first = first_command (table_of mine) r.done s.done r.later s.later r.command s.command k j same r.known known r.fails fails in
+    let scope : scope_of yours ≡ scope_of mine = ap scope_of (sym same) in
+    let known = subst (λ (x : Scope). AllByRecursion (IsKnown x) s.done) scope s.known.each in
+    let fails = subst (λ (x : Scope). CommandFails x (forks_of s.done) s.command j) scope s.fails in
+    let first = first_command (scope_of mine) [] r.done s.done r.later s.later r.command s.command k j same r.known.each known r.known.once s.known.once r.fails fails in
     (omega (arith, r.number_is, s.number_is, first.0), first.1)
 
 -- ---- both passes

@@ -1,11 +1,9 @@
 -- The lines of a script that a text spells.
-use Rattle.std.proofs.Common.{◌≡◌, ℕ, ◌+◌, ◌<◌, ◌≤◌, ◌^◌, Bool, true, false, ◌&&◌, ◌||◌, ◌==◌, nat_le, nat_lt, List, [], ◌∷◌, ◌++◌, length, map, None, Ok, refl, sym, ◌∙◌, ap, subst, arith, length-append}
+use Rattle.std.proofs.Common.{◌≡◌, ℕ, ◌+◌, ◌<◌, ◌≤◌, Bool, true, false, ◌&&◌, ◌||◌, ◌==◌, nat_le, nat_lt, List, [], ◌∷◌, ◌++◌, length, map, None, Ok, refl, sym, ◌∙◌, ap, subst, arith, length-append}
 use Rattle.std.specs.Prelude.{bytes_eq}
 use Rattle.std.specs.List.{AllByRecursion, flat_map, list_any, list_all}
 use Rattle.std.proofs.lemmas.Bool.{lt-leb, le-leb, lt-ltb, and_parts}
-use Rattle.std.proofs.lemmas.List.{append_assoc, append-nil, append_cancel_left}
-use Rattle.std.proofs.lemmas.Slice.Eq.{bytes_eq-Decides}
-use Rattle.std.proofs.Props.{props}
+use Rattle.std.proofs.lemmas.List.{append_assoc, append-nil}
 use Rattle.xs_base.specs.declared.component.Row.{Row}
 use Rattle.xs_base.specs.declared.component.Place.{Place}
 use Rattle.xs_base.specs.Layout.{IsSound, IsLayout, first_row_fault}
@@ -21,20 +19,23 @@ use Rattle.xs_model.specs.declared.script.Command.TheVariants as commands
 use Rattle.xs_model.specs.declared.script.Order.{Order}
 use Rattle.xs_model.specs.declared.script.Block.{Block}
 use Rattle.xs_model.specs.declared.script.Script.{Script}
-use Rattle.xs_model.specs.Script.{IsValid, IsBuilt, IsCommand, IsBody, IsBuiltCommand, is_built_kind, is_kernel_command, fits_kind, AreDistinct, AreNumbered, AreBlocksNumbered, is_name, is_letter}
+use Rattle.xs_model.specs.Names.{NamesBlock, AreNamedAfter, AreNamed, forked_name, all_forked_names}
+use Rattle.xs_model.specs.Script.{IsValid, IsBuilt, IsCommand, IsBody, IsBuiltCommand, is_built_kind, is_kernel_command, fits_kind, AreDistinct, is_name, is_letter}
+use Rattle.xs_script.specs.declared.commands.Scope.{Scope}
 use Rattle.xs_script.specs.declared.line.Line.{Line}
 use Rattle.xs_script.specs.declared.line.Line.TheVariants as lines
 use Rattle.xs_script.specs.declared.refusal.Kind.{Kind}
 use Rattle.xs_script.specs.ScriptLine.{IsNumber, IsLine, IsCommandLine, is_register_byte, is_register_word}
 use Rattle.xs_script.specs.Grammar.{order_lines, lines_text, block_lines, row_lines, head_lines, sched_lines, script_lines, Spells}
 use Rattle.xs_script.specs.LineOrder.{Stand, AtVersion, AtMachine, AtRow, AtCpus, AtQuantum, AtLarge, AtSched, AtBlock, InBlock, may_have, next, after_machine, Leads}
-use Rattle.xs_script.specs.Refusal.{AreLines, Passes, table_of, IsKnown, CommandFails, Refuses, ByLine, ByCommand}
+use Rattle.xs_script.specs.Refusal.{AreLines, Passes, table_of, children_of, forks_of, scope_of, IsKnown, CommandFails, Refuses, ByLine, ByCommand}
 use Rattle.xs_script.specs.Body.{names_of}
 use Rattle.xs_script.proofs.CommandFaults.{fits_length}
 use Rattle.xs_script.proofs.HeadRows.{row_leads, rows_over}
 use Rattle.xs_script.proofs.Fronts.{all_join, leads_join}
-use Rattle.xs_script.proofs.KnownLines.{all_parts}
-use Rattle.xs_script.proofs.WholeScripts.{blocks_no_rows, sched_no_rows, no_rows_table, table_of_lines, head_known, sched_known, some_lines, may_end_some}
+use Rattle.xs_script.proofs.BodyLines.{all_parts, another, distinct_front}
+use Rattle.xs_script.proofs.Children.{child_names, child_is_name, names_child, no_children, no_forks, front_no_names, blocks_forks, forks_join}
+use Rattle.xs_script.proofs.WholeScripts.{blocks_no_rows, sched_no_rows, no_rows_table, table_of_lines, same_scope, head_known, sched_known, some_lines, may_end_some}
 use Rattle.xs_script.specs.Front.{IsFront}
 use Rattle.xs_script.proofs.ScheduleLines.{front_after}
 use Rattle.xs_script.proofs.EntryTests.{joined, within_test}
@@ -76,24 +77,31 @@ register_word reg place named =
     let few : nat_le (length reg) 16 ≡ true = le-leb (length reg) 16 size.1 in
     rw (bytes, some, few) refl
 
-command_fits : (rows : List Row) (command : Command) → IsCommand rows command → IsBuiltCommand command → IsCommandLine command
-command_fits rows (commands.Set reg bytes) (place, here, fits, bytes_are) built =
-    let size = place_length reg place here.0 in
-    let len = fits_length place bytes fits in
-    (register_word reg place here.0, omega (arith, size.0, len), bytes_are)
-command_fits rows (commands.Get reg) (place, here) built = register_word reg place here.0
-command_fits rows (commands.Ksec byte) fits built = fits
-command_fits rows commands.Yield fits built = tt
-command_fits rows other fits built = absurd built
+-- a script's commands, which have names of blocks
+module _ (rows : List Row) (all : List Block) (names : AllByRecursion (λ (b : Block). is_name b.name ≡ true) all) where
+  command_fits : (earlier : List Order) (command : Command) → IsCommand rows command → IsBuiltCommand command → NamesBlock all earlier command → IsCommandLine command
+  command_fits earlier (commands.Set reg bytes) (place, here, fits, bytes_are) built named =
+      let size = place_length reg place here.0 in
+      let len = fits_length place bytes fits in
+      (register_word reg place here.0, omega (arith, size.0, len), bytes_are)
+  command_fits earlier (commands.Get reg) (place, here) built named = register_word reg place here.0
+  command_fits earlier (commands.Ksec byte) fits built named = fits
+  command_fits earlier commands.Yield fits built named = tt
+  command_fits earlier (commands.Fork name) fits built named = child_is_name all name names named
+  command_fits earlier other fits built named = absurd built
 
-orders_fit : (rows : List Row) (orders : List Order) → AllByRecursion (λ (order : Order). IsCommand rows order.command) orders → AllByRecursion (λ (order : Order). IsBuiltCommand order.command) orders → AreLines (order_lines orders)
-orders_fit rows [] h g = tt
-orders_fit rows (o ∷ orders) h g = (command_fits rows o.command h.0 g.0, orders_fit rows orders h.1 g.1)
+  orders_fit : (earlier orders : List Order) → AllByRecursion (λ (order : Order). IsCommand rows order.command) orders → AllByRecursion (λ (order : Order). IsBuiltCommand order.command) orders → AreNamedAfter all earlier orders → AreLines (order_lines orders)
+  orders_fit earlier [] h g n = tt
+  orders_fit earlier (o ∷ orders) h g n = (command_fits earlier o.command h.0 g.0 n.0, orders_fit (o ∷ earlier) orders h.1 g.1 n.1)
 
-blocks_fit : (rows : List Row) (blocks : List Block) → AllByRecursion (λ (b : Block). (is_built_kind b.kind ≡ true) × (b.handler ≡ [])) blocks → AllByRecursion (λ (b : Block). is_name b.name ≡ true) blocks → AllByRecursion (λ (b : Block). IsBody rows b) blocks → AllByRecursion (λ (b : Block). AllByRecursion (λ (order : Order). IsBuiltCommand order.command) b.body) blocks → AreLines (flat_map block_lines blocks)
-blocks_fit rows [] kinds names bodies built = tt
-blocks_fit rows (b ∷ blocks) kinds names bodies built =
-    ((kinds.0.0, names.0), all_join IsLine (order_lines b.body ++ lines.End ∷ []) (flat_map block_lines blocks) (all_join IsLine (order_lines b.body) (lines.End ∷ []) (orders_fit rows b.body bodies.0.body built.0) (tt, tt)) (blocks_fit rows blocks kinds.1 names.1 bodies.1 built.1))
+  pub blocks_fit : (blocks : List Block) → AllByRecursion (λ (b : Block). (is_built_kind b.kind ≡ true) × (b.handler ≡ [])) blocks → AllByRecursion (λ (b : Block). is_name b.name ≡ true) blocks → AllByRecursion (λ (b : Block). IsBody rows b) blocks → AllByRecursion (λ (b : Block). AllByRecursion (λ (order : Order). IsBuiltCommand order.command) b.body) blocks → AllByRecursion (λ (b : Block). AreNamed all b.body) blocks → AreLines (flat_map block_lines blocks)
+  blocks_fit [] kinds spelled bodies built named = tt
+  blocks_fit (b ∷ blocks) kinds spelled bodies built named =
+      ((kinds.0.0, spelled.0), all_join IsLine (order_lines b.body ++ lines.End ∷ []) (flat_map block_lines blocks) (all_join IsLine (order_lines b.body) (lines.End ∷ []) (orders_fit [] b.body bodies.0.body built.0 named.0) (tt, tt)) (blocks_fit blocks kinds.1 spelled.1 bodies.1 built.1 named.1))
+
+-- the lines of its blocks
+script_fits : (script : Script) → IsValid script → IsBuilt script → AreLines (flat_map block_lines script.blocks)
+script_fits script valid built = blocks_fit script.layout script.blocks valid.names script.blocks built.kinds valid.names valid.bodies built.commands valid.named
 
 -- the lines of a schedule, whose entries are processors
 sched_fits : (groups : List (List ℕ)) (cpus : ℕ) → cpus ≤ 16 → AllByRecursion (λ group. 0 < length group) groups → AllByRecursion (λ entry. entry < cpus) (joined groups) → AreLines (sched_lines groups)
@@ -106,7 +114,7 @@ sched_fits (g ∷ groups) cpus few some below =
     numbers [] h = tt
     numbers (n ∷ entries) h = let lt = h.0 in (omega (arith, lt), numbers entries h.1)
 
-abbrev number_lines : Script → List Line
+abbrev pub number_lines : Script → List Line
 number_lines script = lines.Cpus script.cpus ∷ lines.Quantum script.quantum ∷ lines.Large script.large ∷ []
 
 head_fits : (script : Script) → IsValid script → AreLines (head_lines script)
@@ -164,20 +172,6 @@ sched_leads_on cpus count (g ∷ groups) below few =
     let later = sched_leads_on cpus (count + length g) groups parts.1 (omega (arith, long, few)) in
     (AtSched cpus (count + length g), rw within refl, subst (λ (n : ℕ). Leads (AtSched cpus (count + length g)) (sched_lines groups) (AtSched cpus n)) all later)
 
-not_true : (b : Bool) → (b ≡ true → ⊥) → b ≡ false
-not_true true h = absurd (h refl)
-not_true false h = refl
-
-or_false : (a b : Bool) → a ≡ false → b ≡ false → (a || b) ≡ false
-or_false a b h g = rw (h, g) refl
-
--- a name after others is another
-another : (names rest : List (List ℕ)) (name : List ℕ) → AreDistinct (names ++ name ∷ rest) → list_any (λ other. bytes_eq other name) names ≡ false
-another [] rest name h = refl
-another (n ∷ names) rest name h =
-    let here = (all_parts (λ other. other ≡ n → ⊥) names (name ∷ rest) h.0).1 in
-    or_false (bytes_eq n name) (list_any (λ other. bytes_eq other name) names) (not_true (bytes_eq n name) (λ t. here.0 (sym ((bytes_eq-Decides n name).0 t)))) (another names rest name h.1)
-
 orders_lead : (kind : BlockKind) (names : List (List ℕ)) (orders : List Order) (handler : List Order) → fits_kind kind orders handler ≡ true → Leads (InBlock kind names) (order_lines orders) (InBlock kind names)
 orders_lead kind names [] handler fits = refl
 orders_lead kind names (o ∷ orders) handler fits =
@@ -219,7 +213,7 @@ blocks_lead rows names (b ∷ blocks) few h bodies =
 blocks_after : (cpus count : ℕ) (script : Script) → IsValid script → IsBuilt script → Leads (AtSched cpus count) (flat_map block_lines script.blocks) (AtBlock (names_of script.blocks))
 blocks_after cpus count script valid built =
     let few : 0 + length script.blocks ≤ 64 = omega (arith, valid.few) in
-    let fit = blocks_fit script.layout script.blocks built.kinds valid.names valid.bodies built.commands in
+    let fit = script_fits script valid built in
     let text = lines_text (flat_map block_lines script.blocks) in
     let front : IsFront (AtBlock []) text (flat_map block_lines script.blocks) (AtBlock (names_of script.blocks)) [] = record { lines_fit = fit; parts = sym (append-nil text); leads = blocks_lead script.layout [] script.blocks few valid.distinct valid.bodies } in
     (front_after cpus count text [] (flat_map block_lines script.blocks) (AtBlock (names_of script.blocks)) (some_lines script.blocks valid.some) front).leads
@@ -232,7 +226,7 @@ spelled_passes text script h =
     let after = AtSched script.cpus (0 + length (joined h.groups)) in
     record {
       lines_fit = all_join IsLine (head_lines script) (sched_lines h.groups ++ flat_map block_lines script.blocks) (head_fits script h.valid)
-          (all_join IsLine (sched_lines h.groups) (flat_map block_lines script.blocks) (sched_fits h.groups script.cpus h.valid.cpus.1 h.grouped.some entries) (blocks_fit script.layout script.blocks h.built.kinds h.valid.names h.valid.bodies h.built.commands));
+          (all_join IsLine (sched_lines h.groups) (flat_map block_lines script.blocks) (sched_fits h.groups script.cpus h.valid.cpus.1 h.grouped.some entries) (script_fits script h.valid h.built));
       spelled = h.spelled;
       stand = end;
       leads = leads_join AtVersion (AtSched script.cpus 0) end (head_lines script) (sched_lines h.groups ++ flat_map block_lines script.blocks) (head_leads script h.valid)
@@ -240,142 +234,66 @@ spelled_passes text script h =
       whole = may_end_some script.blocks h.valid.some;
     }
 
-orders_are_known : (rows : List Row) (orders : List Order) → AllByRecursion (λ (order : Order). IsCommand rows order.command) orders → AllByRecursion (λ (order : Order). IsBuiltCommand order.command) orders → AllByRecursion (IsKnown rows) (order_lines orders)
-orders_are_known rows [] h g = tt
-orders_are_known rows (o ∷ orders) h g = ((h.0, g.0), orders_are_known rows orders h.1 g.1)
+-- what the commands of a script may name
+abbrev pub script_scope : Script → Scope
+script_scope script = record { layout = script.layout; children = child_names script.blocks }
 
-blocks_are_known : (rows : List Row) (blocks : List Block) → AllByRecursion (λ (b : Block). IsBody rows b) blocks → AllByRecursion (λ (b : Block). AllByRecursion (λ (order : Order). IsBuiltCommand order.command) b.body) blocks → AllByRecursion (IsKnown rows) (flat_map block_lines blocks)
-blocks_are_known rows [] h g = tt
-blocks_are_known rows (b ∷ blocks) h g =
-    (tt, all_join (IsKnown rows) (order_lines b.body ++ lines.End ∷ []) (flat_map block_lines blocks) (all_join (IsKnown rows) (order_lines b.body) (lines.End ∷ []) (orders_are_known rows b.body h.0.body g.0) (tt, tt)) (blocks_are_known rows blocks h.1 g.1))
+module _ (rows : List Row) (all : List Block) where
+  -- what they may name
+  abbrev its_scope : Scope
+  its_scope = record { layout = rows; children = child_names all }
 
-pub spelled_known : (text : List ℕ) (script : Script) (h : Spells text script) → AllByRecursion (IsKnown script.layout) (script_lines script h.groups)
+  orders_are_known : (earlier orders : List Order) → AllByRecursion (λ (order : Order). IsCommand rows order.command) orders → AllByRecursion (λ (order : Order). IsBuiltCommand order.command) orders → AreNamedAfter all earlier orders → AllByRecursion (IsKnown its_scope) (order_lines orders)
+  orders_are_known earlier [] h g n = tt
+  orders_are_known earlier (o ∷ orders) h g n = ((h.0, g.0, names_child all earlier o.command n.0), orders_are_known (o ∷ earlier) orders h.1 g.1 n.1)
+
+  pub blocks_are_known : (blocks : List Block) → AllByRecursion (λ (b : Block). IsBody rows b) blocks → AllByRecursion (λ (b : Block). AllByRecursion (λ (order : Order). IsBuiltCommand order.command) b.body) blocks → AllByRecursion (λ (b : Block). AreNamed all b.body) blocks → AllByRecursion (IsKnown its_scope) (flat_map block_lines blocks)
+  blocks_are_known [] h g n = tt
+  blocks_are_known (b ∷ blocks) h g n =
+      (tt, all_join (IsKnown its_scope) (order_lines b.body ++ lines.End ∷ []) (flat_map block_lines blocks) (all_join (IsKnown its_scope) (order_lines b.body) (lines.End ∷ []) (orders_are_known [] b.body h.0.body g.0 n.0) (tt, tt)) (blocks_are_known blocks h.1 g.1 n.1))
+
+pub spelled_known : (text : List ℕ) (script : Script) (h : Spells text script) → AllByRecursion (IsKnown (script_scope script)) (script_lines script h.groups)
 spelled_known text script h =
-    all_join (IsKnown script.layout) (head_lines script) (sched_lines h.groups ++ flat_map block_lines script.blocks) (head_known script.layout script)
-    (all_join (IsKnown script.layout) (sched_lines h.groups) (flat_map block_lines script.blocks) (sched_known script.layout h.groups) (blocks_are_known script.layout script.blocks h.valid.bodies h.built.commands))
+    let scope = script_scope script in
+    all_join (IsKnown scope) (head_lines script) (sched_lines h.groups ++ flat_map block_lines script.blocks) (head_known scope script)
+    (all_join (IsKnown scope) (sched_lines h.groups) (flat_map block_lines script.blocks) (sched_known scope h.groups) (blocks_are_known script.layout script.blocks script.blocks h.valid.bodies h.built.commands h.valid.named))
+
+-- the lines of the script, its front and its blocks
+parted_lines : (script : Script) (groups : List (List ℕ)) → script_lines script groups ≡ (head_lines script ++ sched_lines groups) ++ flat_map block_lines script.blocks
+parted_lines script groups = sym (append_assoc (head_lines script) (sched_lines groups) (flat_map block_lines script.blocks))
+
+-- no child is forked twice by them
+spelled_once : (text : List ℕ) (script : Script) (h : Spells text script) → AreDistinct (forks_of (script_lines script h.groups))
+spelled_once text script h =
+    let bodies = flat_map block_lines script.blocks in
+    let before = head_lines script ++ sched_lines h.groups in
+    let forks : forks_of (script_lines script h.groups) ≡ all_forked_names script.blocks = ap forks_of (parted_lines script h.groups) ∙ no_forks before bodies (front_no_names script h.groups) ∙ blocks_forks script.blocks in
+    subst AreDistinct (sym forks) h.valid.forked
 
 pub spelled_table : (text : List ℕ) (script : Script) (h : Spells text script) → table_of (script_lines script h.groups) ≡ script.layout
 spelled_table text script h =
     let later = sched_lines h.groups ++ flat_map block_lines script.blocks in
     table_of_lines script later h.valid.machine (no_rows_table later (sched_no_rows h.groups (flat_map block_lines script.blocks) (blocks_no_rows script.blocks)))
 
+spelled_scope : (text : List ℕ) (script : Script) (h : Spells text script) → scope_of (script_lines script h.groups) ≡ script_scope script
+spelled_scope text script h =
+    let bodies = flat_map block_lines script.blocks in
+    let before = head_lines script ++ sched_lines h.groups in
+    let lined = script_lines script h.groups in
+    let names : children_of lined ≡ child_names script.blocks = ap children_of (parted_lines script h.groups) ∙ no_children before bodies (front_no_names script h.groups) in
+    same_scope (table_of lined) script.layout (children_of lined) (child_names script.blocks) (spelled_table text script h) names
+
 -- What is refused spells no script.
 pub not_both : (text : List ℕ) (script : Script) (number : ℕ) (kind : Kind) → Spells text script → Refuses text number kind → ⊥
 not_both text script number kind h (ByLine r) = passes_not_refused text (script_lines script h.groups) number kind (spelled_passes text script h) r
 not_both text script number kind h (ByCommand r) =
     let lined = script_lines script h.groups in
-    let mine = r.done ++ lines.Order r.command ∷ r.later in
+    let later = lines.Order r.command ∷ r.later in
+    let mine = r.done ++ later in
     let passes = spelled_passes text script h in
     let same : lined ≡ mine = one_lines lined mine passes.lines_fit r.passes.lines_fit (sym h.spelled ∙ r.passes.spelled) in
-    let table : table_of mine ≡ script.layout = ap table_of (sym same) ∙ spelled_table text script h in
-    let known = all_parts (IsKnown script.layout) r.done (lines.Order r.command ∷ r.later) (subst (λ (ls : List Line). AllByRecursion (IsKnown script.layout) ls) same (spelled_known text script h)) in
-    known_not_fails script.layout r.command kind known.1.0 (subst (λ (rows : List Row). CommandFails rows r.command kind) table r.fails)
-
--- ---- one script
-
--- Orders of one number and one command are the same: that the number is in its range has one proof.
-abbrev order_of : (n : ℕ) → n < 2 ^ 32 → Command → Order
-order_of n small command = record { number = n; command = command; in_range = small }
-
-one_proof : (n : ℕ) → IsProp (n < 2 ^ 32)
-one_proof n = Prim.hlevel props
-
-same_order : (a b : Order) → a.number ≡ b.number → a.command ≡ b.command → a ≡ b
-same_order a b en ec =
-    subst (λ n. (small : n < 2 ^ 32) → a ≡ order_of n small b.command) en
-    (λ small. ap (λ (h : a.number < 2 ^ 32). order_of a.number h a.command) (one_proof a.number a.in_range small) ∙ ap (order_of a.number small) ec) b.in_range
-
-same_orders : (number : ℕ) (x y : List Order) (r s : List Line) → AreNumbered number x → AreNumbered number y → order_lines x ++ lines.End ∷ r ≡ order_lines y ++ lines.End ∷ s → (x ≡ y) × (r ≡ s)
-same_orders number [] [] r s hx hy e = (refl, cc e)
-same_orders number [] (o ∷ y) r s hx hy e = absurd (cc e)
-same_orders number (o ∷ x) [] r s hx hy e = absurd (cc e)
-same_orders number (o ∷ x) (p ∷ y) r s hx hy e =
-    let command : o.command ≡ p.command = cc e in
-    let later : order_lines x ++ lines.End ∷ r ≡ order_lines y ++ lines.End ∷ s = cc e in
-    let rest = same_orders (number + 1) x y r s hx.1 hy.1 later in
-    let first = same_order o p (hx.0 ∙ sym hy.0) command in
-    (cc (first, rest.0), rest.1)
-
-same_block : (a b : Block) → a.kind ≡ b.kind → a.name ≡ b.name → a.body ≡ b.body → a.handler ≡ b.handler → a ≡ b
-same_block a b ek en eb eh =
-    ap (λ (k : BlockKind). record { kind = k; name = a.name; body = a.body; handler = a.handler }) ek
-    ∙ ap (λ (n : List ℕ). record { kind = b.kind; name = n; body = a.body; handler = a.handler }) en
-    ∙ ap (λ (os : List Order). record { kind = b.kind; name = b.name; body = os; handler = a.handler }) eb
-    ∙ ap (λ (os : List Order). record { kind = b.kind; name = b.name; body = b.body; handler = os }) eh
-
-same_blocks : (first : ℕ) (x y : List Block) → AreBlocksNumbered first x → AreBlocksNumbered first y → AllByRecursion (λ (b : Block). (is_built_kind b.kind ≡ true) × (b.handler ≡ [])) x → AllByRecursion (λ (b : Block). (is_built_kind b.kind ≡ true) × (b.handler ≡ [])) y → flat_map block_lines x ≡ flat_map block_lines y → x ≡ y
-same_blocks first [] [] nx ny tx ty e = refl
-same_blocks first [] (c ∷ y) nx ny tx ty e = absurd (cc e)
-same_blocks first (b ∷ x) [] nx ny tx ty e = absurd (cc e)
-same_blocks first (b ∷ x) (c ∷ y) nx ny tx ty e =
-    let kind : b.kind ≡ c.kind = cc e in
-    let name : b.name ≡ c.name = cc e in
-    let tail : (order_lines b.body ++ lines.End ∷ []) ++ flat_map block_lines x ≡ (order_lines c.body ++ lines.End ∷ []) ++ flat_map block_lines y = cc e in
-    let body = same_orders (first + 1) b.body c.body (flat_map block_lines x) (flat_map block_lines y) nx.0 ny.0 (sym (append_assoc (order_lines b.body) (lines.End ∷ []) (flat_map block_lines x)) ∙ tail ∙ append_assoc (order_lines c.body) (lines.End ∷ []) (flat_map block_lines y)) in
-    let here = same_block b c kind name body.0 (tx.0.1 ∙ sym ty.0.1) in
-    let next_first : first + length c.body + 2 ≡ first + length b.body + 2 = ap (λ (os : List Order). first + length os + 2) (sym body.0) in
-    let rest = same_blocks (first + length b.body + 2) x y nx.1 (subst (λ (n : ℕ). AreBlocksNumbered n y) next_first ny.1) tx.1 ty.1 body.1 in
-    cc (here, rest)
-
-same_script : (a b : Script) → a.machine ≡ b.machine → a.layout ≡ b.layout → a.cpus ≡ b.cpus → a.quantum ≡ b.quantum → a.large ≡ b.large → a.sched ≡ b.sched → a.blocks ≡ b.blocks → a ≡ b
-same_script a b em et ec eq el es eb =
-    ap (λ (m : Named). record { machine = m; layout = a.layout; cpus = a.cpus; quantum = a.quantum; large = a.large; sched = a.sched; blocks = a.blocks }) em
-    ∙ ap (λ (t : List Row). record { machine = b.machine; layout = t; cpus = a.cpus; quantum = a.quantum; large = a.large; sched = a.sched; blocks = a.blocks }) et
-    ∙ ap (λ (n : ℕ). record { machine = b.machine; layout = b.layout; cpus = n; quantum = a.quantum; large = a.large; sched = a.sched; blocks = a.blocks }) ec
-    ∙ ap (λ (n : ℕ). record { machine = b.machine; layout = b.layout; cpus = b.cpus; quantum = n; large = a.large; sched = a.sched; blocks = a.blocks }) eq
-    ∙ ap (λ (n : ℕ). record { machine = b.machine; layout = b.layout; cpus = b.cpus; quantum = b.quantum; large = n; sched = a.sched; blocks = a.blocks }) el
-    ∙ ap (λ (s : List ℕ). record { machine = b.machine; layout = b.layout; cpus = b.cpus; quantum = b.quantum; large = b.large; sched = s; blocks = a.blocks }) es
-    ∙ ap (λ (bs : List Block). record { machine = b.machine; layout = b.layout; cpus = b.cpus; quantum = b.quantum; large = b.large; sched = b.sched; blocks = bs }) eb
-
--- before blocks the lines of two schedules are of the same groups
-same_groups : (a b : List (List ℕ)) (x y : List Block) → sched_lines a ++ flat_map block_lines x ≡ sched_lines b ++ flat_map block_lines y → (a ≡ b) × (flat_map block_lines x ≡ flat_map block_lines y)
-same_groups [] [] x y e = (refl, e)
-same_groups [] (g ∷ b) [] y e = absurd (cc e)
-same_groups [] (g ∷ b) (c ∷ x) y e = absurd (cc e)
-same_groups (g ∷ a) [] x [] e = absurd (cc e)
-same_groups (g ∷ a) [] x (c ∷ y) e = absurd (cc e)
-same_groups (g ∷ a) (k ∷ b) x y e =
-    let first : g ≡ k = cc e in
-    let tail : sched_lines a ++ flat_map block_lines x ≡ sched_lines b ++ flat_map block_lines y = cc e in
-    let rest = same_groups a b x y tail in
-    (cc (first, rest.0), rest.1)
-
--- what scripts of the same lines have alike
-record IsAlike (a b : Script) (ga gb : List (List ℕ)) : Type 0 where
-  cpus : a.cpus ≡ b.cpus
-  quantum : a.quantum ≡ b.quantum
-  large : a.large ≡ b.large
-  groups : ga ≡ gb
-  blocks : flat_map block_lines a.blocks ≡ flat_map block_lines b.blocks
-
-alike : (a b : Script) (ga gb : List (List ℕ)) → a.machine ≡ b.machine → a.layout ≡ b.layout → script_lines a ga ≡ script_lines b gb → IsAlike a b ga gb
-alike a b ga gb em et e =
-    let front = row_lines a.machine a.layout in
-    let later_a = sched_lines ga ++ flat_map block_lines a.blocks in
-    let later_b = sched_lines gb ++ flat_map block_lines b.blocks in
-    let both : (front ++ number_lines a) ++ later_a ≡ (row_lines b.machine b.layout ++ number_lines b) ++ later_b = cc e in
-    let fronts : row_lines b.machine b.layout ≡ front = rw (em, et) refl in
-    let joined : front ++ (number_lines a ++ later_a) ≡ front ++ (number_lines b ++ later_b) =
-    sym (append_assoc front (number_lines a) later_a) ∙ both
-    ∙ append_assoc (row_lines b.machine b.layout) (number_lines b) later_b
-    ∙ ap (λ (ls : List Line). ls ++ (number_lines b ++ later_b)) fronts in
-    let tail = append_cancel_left front (number_lines a ++ later_a) (number_lines b ++ later_b) joined in
-    let later : later_a ≡ later_b = cc tail in
-    let rest = same_groups ga gb a.blocks b.blocks later in
-    record { cpus = cc tail; quantum = cc tail; large = cc tail; groups = rest.0; blocks = rest.1 }
-
--- A text spells one script at most.
-pub one_script : (text : List ℕ) (a b : Script) → Spells text a → Spells text b → a ≡ b
-one_script text a b ha hb =
-    let pa = spelled_passes text a ha in
-    let pb = spelled_passes text b hb in
-    let same : script_lines a ha.groups ≡ script_lines b hb.groups = one_lines (script_lines a ha.groups) (script_lines b hb.groups) pa.lines_fit pb.lines_fit (sym ha.spelled ∙ hb.spelled) in
-    let machine : a.machine ≡ b.machine = cc same in
-    let layout : a.layout ≡ b.layout = sym (spelled_table text a ha) ∙ ap table_of same ∙ spelled_table text b hb in
-    let like = alike a b ha.groups hb.groups machine layout same in
-    let heads : head_lines b ≡ head_lines a = rw (machine, layout, like.cpus, like.quantum, like.large) refl in
-    let at : length (head_lines b) + length hb.groups + 1 ≡ length (head_lines a) + length ha.groups + 1 = ap (λ (ls : List Line). length ls + length hb.groups + 1) heads ∙ ap (λ (gs : List (List ℕ)). length (head_lines a) + length gs + 1) (sym like.groups) in
-    let numbered : AreBlocksNumbered (length (head_lines a) + length ha.groups + 1) b.blocks = subst (λ (n : ℕ). AreBlocksNumbered n b.blocks) at hb.numbered in
-    let blocks = same_blocks (length (head_lines a) + length ha.groups + 1) a.blocks b.blocks ha.numbered numbered ha.built.kinds hb.built.kinds like.blocks in
-    let sched : a.sched ≡ b.sched = ha.grouped.joined ∙ ap joined like.groups ∙ sym hb.grouped.joined in
-    same_script a b machine layout like.cpus like.quantum like.large sched blocks
+    let scope : scope_of mine ≡ script_scope script = ap scope_of (sym same) ∙ spelled_scope text script h in
+    let known = all_parts (IsKnown (script_scope script)) r.done later (subst (λ (ls : List Line). AllByRecursion (IsKnown (script_scope script)) ls) same (spelled_known text script h)) in
+    let once = subst AreDistinct (ap forks_of same ∙ forks_join r.done later) (spelled_once text script h) in
+    let front = distinct_front (forks_of r.done ++ forked_name r.command) (forks_of r.later) (subst AreDistinct (sym (append_assoc (forks_of r.done) (forked_name r.command) (forks_of r.later))) once) in
+    known_not_fails (script_scope script) (forks_of r.done) r.command kind known.1.0 front (subst (λ (x : Scope). CommandFails x (forks_of r.done) r.command kind) scope r.fails)

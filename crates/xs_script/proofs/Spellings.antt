@@ -56,6 +56,7 @@ lacks_command (commands.Set reg bytes) fits =
 lacks_command (commands.Get reg) fits = Lacks-append 10 (codes "get ") reg (lacks_word (codes "get ") refl) (Lacks-register 10 reg refl fits)
 lacks_command (commands.Ksec byte) fits = Lacks-append 10 (codes "ksec ") (encode_lower (byte ∷ [])) (lacks_word (codes "ksec ") refl) (Lacks-hex 10 (byte ∷ []) refl (fits, tt))
 lacks_command commands.Yield fits = lacks_word (codes "yield") refl
+lacks_command (commands.Fork name) fits = Lacks-append 10 (codes "fork ") name (lacks_word (codes "fork ") refl) (Lacks-name 10 name refl refl fits)
 lacks_command other fits = absurd fits
 
 lacks_block_word : (kind : BlockKind) → Lacks 10 (block_word kind)
@@ -92,7 +93,8 @@ command_kind (commands.Set reg bytes) = 0
 command_kind (commands.Get reg) = 1
 command_kind (commands.Ksec byte) = 2
 command_kind commands.Yield = 3
-command_kind other = 4
+command_kind (commands.Fork name) = 4
+command_kind other = 5
 
 -- the same, read from the first word
 abbrev command_kind_of : List ℕ → ℕ
@@ -101,13 +103,15 @@ command_kind_of bs =
     else if begins (codes "get ") bs then 1
     else if begins (codes "ksec ") bs then 2
     else if begins (codes "yield") bs then 3
-    else 4
+    else if begins (codes "fork ") bs then 4
+    else 5
 
 command_kind_is : (k : Command) → command_kind_of (command_text k) ≡ command_kind k
 command_kind_is (commands.Set reg bytes) = refl
 command_kind_is (commands.Get reg) = refl
 command_kind_is (commands.Ksec byte) = refl
 command_kind_is commands.Yield = refl
+command_kind_is (commands.Fork name) = refl
 command_kind_is other = refl
 
 -- a number for each kind of block
@@ -161,6 +165,7 @@ kind_is (lines.Order (commands.Set reg bytes)) = refl
 kind_is (lines.Order (commands.Get reg)) = refl
 kind_is (lines.Order (commands.Ksec byte)) = refl
 kind_is (lines.Order commands.Yield) = refl
+kind_is (lines.Order (commands.Fork name)) = refl
 kind_is (lines.Order other) = refl
 kind_is lines.End = refl
 
@@ -235,6 +240,7 @@ one_command (commands.Ksec a) (commands.Ksec b) f g e =
     let same = one_hex (a ∷ []) (b ∷ []) (f, tt) (g, tt) (append_cancel_left (codes "ksec ") (encode_lower (a ∷ [])) (encode_lower (b ∷ [])) e) in
     cc same
 one_command commands.Yield commands.Yield f g e = refl
+one_command (commands.Fork a) (commands.Fork b) f g e = ap commands.Fork (append_cancel_left (codes "fork ") a b e)
 one_command a b f g e = let k = same_command_kind a b e in absurd (omega arith)
 
 -- lines of one text are equal

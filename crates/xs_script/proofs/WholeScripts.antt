@@ -1,6 +1,6 @@
 -- A script and the lines that it was read from.
 use Rattle.std.specs.Prelude.{bytes_eq, if◌then◌else◌}
-use Rattle.std.proofs.Common.{Bool, false, nat_le, Ok, Err, ◌≡◌, ℕ, ◌+◌, ◌<◌, true, List, [], ◌∷◌, ◌++◌, length, map, refl, sym, ◌∙◌, ap, subst, arith, length-append}
+use Rattle.std.proofs.Common.{Bool, false, nat_le, Ok, Err, ◌≡◌, ℕ, ◌+◌, ◌<◌, ◌≤◌, true, List, [], ◌∷◌, ◌++◌, length, map, refl, sym, ◌∙◌, ap, subst, arith, length-append}
 use Rattle.std.proofs.lemmas.List.{length-map}
 use Rattle.std.specs.List.{AllByRecursion, flat_map, list_any}
 use Rattle.std.proofs.lemmas.List.{append_assoc, append-nil}
@@ -8,36 +8,34 @@ use Rattle.xs_base.specs.declared.component.Row.{Row}
 use Rattle.xs_base.specs.Layout.{amx_rows, avx_rows}
 use Rattle.xs_model.specs.declared.script.Named.{Named}
 use Rattle.xs_model.specs.declared.script.Named.TheVariants.{Amx, Avx, Rows}
-use Rattle.xs_base.proofs.Registers.{place_length}
 use Rattle.xs_model.specs.declared.script.BlockKind.{BlockKind}
-use Rattle.xs_model.specs.declared.script.Command.TheVariants as commands
 use Rattle.xs_model.specs.declared.script.Order.{Order}
 use Rattle.xs_model.specs.declared.script.Block.{Block}
 use Rattle.xs_model.specs.declared.script.Script.{Script}
-use Rattle.xs_model.specs.Script.{IsTableOf}
+use Rattle.xs_model.specs.Script.{IsTableOf, AreDistinct}
+use Rattle.xs_script.specs.declared.commands.Scope.{Scope}
 use Rattle.xs_script.specs.declared.line.Line.{Line}
 use Rattle.xs_script.specs.declared.line.Line.TheVariants as lines
 use Rattle.xs_script.specs.declared.head.Stage.TheVariants as stages
 use Rattle.xs_script.specs.declared.head.Head.{Head}
 use Rattle.xs_script.specs.declared.refusal.ScriptError.{ScriptError}
 use Rattle.xs_script.specs.declared.refusal.ScriptError.TheVariants as errors
-use Rattle.xs_script.specs.ScriptLine.{kept_line}
-use Rattle.xs_script.specs.Grammar.{lines_text, order_lines, block_lines, row_lines, head_lines, sched_lines, Spells}
+use Rattle.xs_script.specs.Grammar.{lines_text, order_lines, block_lines, row_lines, head_lines, sched_lines, script_lines, Spells}
 use Rattle.xs_script.specs.declared.refusal.Kind.TheVariants.{BadLine, Limit, Repeated}
 use Rattle.xs_script.specs.declared.refusal.LimitName.TheVariants.{Blocks}
 use Rattle.xs_script.specs.LineOrder.{Stand, AtVersion, AtMachine, AtRow, AtCpus, AtQuantum, AtLarge, AtSched, AtBlock, InBlock, may_end, may_have, next, Leads}
-use Rattle.xs_script.specs.Refusal.{AreLines, Passes, rows_of_line, table_of, IsKnown, ByLine, ByCommand, Explains, CommandFails}
+use Rattle.xs_script.specs.Refusal.{Passes, rows_of_line, table_of, children_of, scope_of, forks_of, NamesChild, IsKnown, ByLine, ByCommand, Explains, CommandFails}
 use Rattle.xs_script.specs.Front.{IsFront, ExplainsFrom}
 use Rattle.xs_script.specs.Head.{IsHeadOf, lines_of_head, machine_lines}
-use Rattle.xs_script.specs.Body.{names_of, AreBlocksOf}
+use Rattle.xs_script.specs.Body.{names_of, AreBlocksOf, ByBlockLine, ByBlockCommand, ExplainsBlocks}
 use Rattle.xs_script.specs.Schedule.{IsScheduleOf}
-use Rattle.xs_script.specs.Outline.{AreKnownBlocks, ExplainsBlocks, ByBlockLine, ByBlockCommand}
+use Rattle.xs_script.specs.Outline.{AreWholeBlocks}
 use Rattle.xs_script.proofs.Numbering.{blocks_rise}
 use Rattle.xs_script.proofs.Fronts.{all_join, front_join, rest_explains}
 use Rattle.xs_script.proofs.KnownLines.{names_fit, kinds_built, plain_handlers, blocks_known}
 use Rattle.xs_script.proofs.ScheduleLines.{front_after, after_explains}
-use Rattle.xs_script.proofs.Kept.{kept_same_bytes}
-use Rattle.xs_script.proofs.CommandFaults.{fits_length}
+use Rattle.xs_script.proofs.Children.{child_names, no_children, no_forks, front_no_names, blocks_forks, blocks_named}
+use Rattle.xs_script.proofs.EventBound.{few_events}
 use Rattle.xs_script.proofs.OneRefusal.{one_lines}
 
 -- ---- the head
@@ -59,26 +57,9 @@ table_of_head Amx layout ls is none = rw none (append-nil amx_rows ∙ sym is)
 table_of_head Avx layout ls is none = rw none (append-nil avx_rows ∙ sym is)
 table_of_head Rows layout ls is none = rows_of_rows layout ls ∙ ap (λ (rs : List Row). layout ++ rs) none ∙ append-nil layout
 
--- a line of which no row was kept has none
-no_row : (rows : List Row) (l : Line) → rows_of_line (kept_line l) ≡ [] → rows_of_line l ≡ []
-no_row rows lines.Version h = h
-no_row rows (lines.Machine named) h = h
-no_row rows (lines.Row r) h = absurd (cc h)
-no_row rows (lines.Cpus n) h = h
-no_row rows (lines.Quantum n) h = h
-no_row rows (lines.Large n) h = h
-no_row rows (lines.Sched entries) h = h
-no_row rows (lines.Begin kind name) h = h
-no_row rows (lines.Order command) h = h
-no_row rows lines.End h = h
-
--- lines of which blocks were kept have none
+-- lines without rows
 abbrev pub HasNoRows : List Line → Type 0
 HasNoRows ls = AllByRecursion (λ l. rows_of_line l ≡ []) ls
-
-kept_bare : (ls : List Line) → HasNoRows (map kept_line ls) → HasNoRows ls
-kept_bare [] h = tt
-kept_bare (l ∷ ls) h = (no_row [] l h.0, kept_bare ls h.1)
 
 pub no_rows_table : (ls : List Line) → HasNoRows ls → table_of ls ≡ []
 no_rows_table [] h = refl
@@ -104,14 +85,6 @@ pub sched_no_rows : (groups : List (List ℕ)) (ls : List Line) → HasNoRows ls
 sched_no_rows [] ls h = h
 sched_no_rows (g ∷ groups) ls h = (refl, sched_no_rows groups ls h)
 
--- The text is the lines of the script's head and its schedule, and lines of which its blocks were kept.
-pub record IsRead (text : List ℕ) (script : Script) (groups : List (List ℕ)) : Type 0 where
-  pub later : List Line
-  pub later_fits : AreLines later
-  pub kept_is : flat_map block_lines script.blocks ≡ map kept_line later
-  pub passes : Passes text (head_lines script ++ (sched_lines groups ++ later))
-  pub table : table_of (head_lines script ++ (sched_lines groups ++ later)) ≡ script.layout
-
 pub may_end_some : (blocks : List Block) → 0 < length blocks → may_end (AtBlock (names_of blocks)) ≡ true
 may_end_some [] h = absurd (omega arith)
 may_end_some (b ∷ blocks) h = refl
@@ -132,72 +105,37 @@ pub some_lines : (blocks : List Block) → 0 < length blocks → 0 < length (fla
 some_lines [] some = absurd (omega arith)
 some_lines (b ∷ blocks) some = omega arith
 
-pub read_both : (text first rest : List ℕ) (head : Head) (number later_number : ℕ) (sched : List ℕ) (blocks : List Block) → IsHeadOf text head number first → (s : IsScheduleOf head.cpus number first sched later_number rest) → AreBlocksOf later_number rest blocks → IsRead text (script_of head sched blocks) s.groups
-read_both text first rest head number later_number sched blocks h s b =
+-- ---- what both passes leave
+
+-- the text is the script's lines
+read_text : (text first rest : List ℕ) (head : Head) (number later_number : ℕ) (sched : List ℕ) (scope : Scope) (blocks : List Block) → IsHeadOf text head number first → (s : IsScheduleOf head.cpus number first sched later_number rest) → AreBlocksOf scope later_number rest blocks → text ≡ lines_text (script_lines (script_of head sched blocks) s.groups)
+read_text text first rest head number later_number sched scope blocks h s b =
     let script = script_of head sched blocks in
-    let later = b.front.lines in
+    let later = flat_map block_lines blocks in
+    let end = AtBlock (names_of blocks) in
     let lines_are : lines_of_head head ≡ head_lines script = whole_lines head script h.whole refl refl refl refl refl in
-    let long : length (flat_map block_lines blocks) ≡ length later = ap length b.front.kept_is ∙ length-map later kept_line in
-    let some : 0 < length later = omega (arith, long, some_lines blocks b.some) in
-    let front = front_after head.cpus (length sched) rest [] later (AtBlock (names_of blocks)) some b.front.front in
-    let joined = fronts_join text first rest [] head sched number later_number later (AtBlock (names_of blocks)) h s front in
-    let whole : IsFront AtVersion text (head_lines script ++ (sched_lines s.groups ++ later)) (AtBlock (names_of blocks)) [] = subst (λ (ls : List Line). IsFront AtVersion text (ls ++ (sched_lines s.groups ++ later)) (AtBlock (names_of blocks)) []) lines_are joined in
-    let bare = kept_bare later (subst HasNoRows b.front.kept_is (blocks_no_rows blocks)) in
-    record {
-      later = later;
-      later_fits = b.front.front.lines_fit;
-      kept_is = b.front.kept_is;
-      passes = record {
-        lines_fit = whole.lines_fit;
-        spelled = whole.parts ∙ append-nil (lines_text (head_lines script ++ (sched_lines s.groups ++ later)));
-        stand = AtBlock (names_of blocks);
-        leads = whole.leads;
-        whole = may_end_some blocks b.some;
-      };
-      table = table_of_lines script (sched_lines s.groups ++ later) h.fits.machine (no_rows_table (sched_lines s.groups ++ later) (sched_no_rows s.groups later bare));
-    }
+    let front = front_after head.cpus (length sched) rest [] later end (some_lines blocks b.some) b.front in
+    let joined = fronts_join text first rest [] head sched number later_number later end h s front in
+    joined.parts
+    ∙ append-nil (lines_text (lines_of_head head ++ (sched_lines s.groups ++ later)))
+    ∙ ap (λ (ls : List Line). lines_text (ls ++ (sched_lines s.groups ++ later))) lines_are
 
--- ---- what the second pass adds
-
--- a known line among blocks is kept whole
-known_whole : (rows : List Row) (l : Line) → IsKnown rows l → rows_of_line l ≡ [] → kept_line l ≡ l
-known_whole rows lines.Version h none = refl
-known_whole rows (lines.Machine named) h none = refl
-known_whole rows (lines.Row r) h none = absurd (cc none)
-known_whole rows (lines.Cpus n) h none = refl
-known_whole rows (lines.Quantum n) h none = refl
-known_whole rows (lines.Large n) h none = refl
-known_whole rows (lines.Sched entries) h none = refl
-known_whole rows (lines.Begin kind name) h none = refl
-known_whole rows (lines.Order (commands.Set reg bytes)) ((place, here, fits, bytes_are), built) none =
-    let size = place_length reg place here.0 in
-    let len = fits_length place bytes fits in
-    ap (λ (bs : List ℕ). lines.Order (commands.Set reg bs)) (kept_same_bytes bytes (omega (arith, size.1, len)))
-known_whole rows (lines.Order (commands.Get reg)) h none = refl
-known_whole rows (lines.Order other) h none = refl
-known_whole rows lines.End h none = refl
-
-known_lines_whole : (rows : List Row) (ls : List Line) → AllByRecursion (IsKnown rows) ls → HasNoRows ls → map kept_line ls ≡ ls
-known_lines_whole rows [] h none = refl
-known_lines_whole rows (l ∷ ls) h none = cc (known_whole rows l h.0 none.0, known_lines_whole rows ls h.1 none.1)
-
--- Where it finds nothing, the text spells the script.
-pub read_spells : (text first rest : List ℕ) (head : Head) (number later_number : ℕ) (sched : List ℕ) (blocks : List Block) → IsHeadOf text head number first → IsScheduleOf head.cpus number first sched later_number rest → AreKnownBlocks head.layout rest → AreBlocksOf later_number rest blocks → Spells text (script_of head sched blocks)
-unfolding read_both
-read_spells text first rest head number later_number sched blocks h s k b =
+-- Where nothing is found, the text spells the script.
+pub read_spells : (text first rest : List ℕ) (head : Head) (number later_number : ℕ) (sched : List ℕ) (children : List (List ℕ)) (blocks : List Block) → length text ≤ 1048576 → IsHeadOf text head number first → IsScheduleOf head.cpus number first sched later_number rest → AreWholeBlocks rest children → AreBlocksOf (record { layout = head.layout; children = children }) later_number rest blocks → Spells text (script_of head sched blocks)
+read_spells text first rest head number later_number sched children blocks short h s k b =
     let script = script_of head sched blocks in
-    let r = read_both text first rest head number later_number sched blocks h s b in
-    let rows = head.layout in
-    let one : k.lines ≡ r.later = one_lines k.lines r.later k.front.lines_fit r.later_fits (sym (append-nil (lines_text k.lines)) ∙ sym k.front.parts ∙ b.front.front.parts ∙ append-nil (lines_text r.later)) in
-    let known = subst (λ (ls : List Line). AllByRecursion (IsKnown rows) ls) one k.known in
-    let bare = kept_bare r.later (subst HasNoRows r.kept_is (blocks_no_rows blocks)) in
-    let same : flat_map block_lines blocks ≡ r.later = r.kept_is ∙ known_lines_whole rows r.later known bare in
-    let fit = subst AreLines (sym same) r.later_fits in
+    let scope : Scope = record { layout = head.layout; children = children } in
+    let later = flat_map block_lines blocks in
+    let spelled = read_text text first rest head number later_number sched scope blocks h s b in
+    let one : k.lines ≡ later = one_lines k.lines later k.front.lines_fit b.front.lines_fit (sym (append-nil (lines_text k.lines)) ∙ sym k.front.parts ∙ b.front.parts ∙ append-nil (lines_text later)) in
+    let names : children ≡ child_names blocks = k.children_are ∙ ap children_of one in
     let handlers = plain_handlers blocks b.fits.plain in
-    let commands = blocks_known rows blocks b.fits.plain (subst (λ (ls : List Line). AllByRecursion (IsKnown rows) ls) (sym same) known) in
+    let commands = blocks_known scope blocks b.fits.plain b.known.each in
+    let named = subst (λ (ns : List (List ℕ)). AllByRecursion (λ (block : Block). AllByRecursion (λ (order : Order). NamesChild ns order.command) block.body) blocks) names commands.named in
     let lines_are : lines_of_head head ≡ head_lines script = whole_lines head script h.whole refl refl refl refl refl in
     let at : number ≡ length (head_lines script) + 1 = rw lines_are at h.next in
     let later_at : later_number ≡ length (head_lines script) + length s.groups + 1 = omega (arith, at, s.next) in
+    let parted = spelled ∙ ap lines_text (sym (append_assoc (head_lines script) (sched_lines s.groups) later)) in
     record {
       valid = record {
         layout = h.fits.layout;
@@ -209,16 +147,19 @@ read_spells text first rest head number later_number sched blocks h s k b =
         schedule = s.few;
         some = b.some;
         few = b.fits.few;
-        names = names_fit blocks fit;
+        names = names_fit blocks b.front.lines_fit;
         distinct = b.fits.distinct;
         rising = blocks_rise 0 later_number blocks (omega arith) handlers b.fits.numbered;
-        bodies = commands.0;
+        bodies = commands.bodies;
+        named = blocks_named blocks blocks b.fits.distinct commands.built named;
+        forked = subst AreDistinct (blocks_forks blocks) b.known.once;
+        events = few_events text (head_lines script ++ sched_lines s.groups) script short parted b.fits.few commands.built;
       };
-      built = record { kinds = kinds_built blocks fit handlers; commands = commands.1 };
+      built = record { kinds = kinds_built blocks b.front.lines_fit handlers; commands = commands.built };
       groups = s.groups;
       grouped = s.grouped;
       numbered = rw later_at at b.fits.numbered;
-      spelled = r.passes.spelled ∙ ap (λ (ls : List Line). lines_text (head_lines script ++ (sched_lines s.groups ++ ls))) (sym same);
+      spelled = spelled;
     }
 
 -- a refusal of the first pass
@@ -241,26 +182,26 @@ blocks_refuse text first rest head number later_number sched e h s r =
 
 -- ---- a refusal of the second pass
 
-pub head_known : (rows : List Row) (script : Script) → AllByRecursion (IsKnown rows) (head_lines script)
-head_known rows script =
-    (tt, (tt, all_join (IsKnown rows) (row_lines script.machine script.layout) (lines.Cpus script.cpus ∷ lines.Quantum script.quantum ∷ lines.Large script.large ∷ []) (rows_known script.machine script.layout) (tt, (tt, (tt, tt)))))
+pub head_known : (scope : Scope) (script : Script) → AllByRecursion (IsKnown scope) (head_lines script)
+head_known scope script =
+    (tt, (tt, all_join (IsKnown scope) (row_lines script.machine script.layout) (lines.Cpus script.cpus ∷ lines.Quantum script.quantum ∷ lines.Large script.large ∷ []) (rows_known script.machine script.layout) (tt, (tt, (tt, tt)))))
   where
-    all_rows : (layout : List Row) → AllByRecursion (IsKnown rows) (map lines.Row layout)
+    all_rows : (layout : List Row) → AllByRecursion (IsKnown scope) (map lines.Row layout)
     all_rows [] = tt
     all_rows (r ∷ layout) = (tt, all_rows layout)
 
-    rows_known : (machine : Named) (layout : List Row) → AllByRecursion (IsKnown rows) (row_lines machine layout)
+    rows_known : (machine : Named) (layout : List Row) → AllByRecursion (IsKnown scope) (row_lines machine layout)
     rows_known Amx layout = tt
     rows_known Avx layout = tt
     rows_known Rows layout = all_rows layout
 
 -- the lines of a schedule have no registers
-pub sched_known : (rows : List Row) (groups : List (List ℕ)) → AllByRecursion (IsKnown rows) (sched_lines groups)
-sched_known rows [] = tt
-sched_known rows (g ∷ groups) = (tt, sched_known rows groups)
+pub sched_known : (scope : Scope) (groups : List (List ℕ)) → AllByRecursion (IsKnown scope) (sched_lines groups)
+sched_known scope [] = tt
+sched_known scope (g ∷ groups) = (tt, sched_known scope groups)
 
 -- the stand is among blocks
-abbrev IsAmongBlocks : Stand → Type 0
+abbrev pub IsAmongBlocks : Stand → Type 0
 IsAmongBlocks AtVersion = ⊥
 IsAmongBlocks AtMachine = ⊥
 IsAmongBlocks (AtRow rows) = ⊥
@@ -281,7 +222,7 @@ order_among true kind names mid h = let is : InBlock kind names ≡ mid = cc h i
 order_among false kind names mid h = absurd (cc h)
 
 -- A line that leads on from there is no row, and leads to such a stand.
-among_step : (stand mid : Stand) (l : Line) → IsAmongBlocks stand → next stand l ≡ Ok mid → (rows_of_line l ≡ []) × IsAmongBlocks mid
+pub among_step : (stand mid : Stand) (l : Line) → IsAmongBlocks stand → next stand l ≡ Ok mid → (rows_of_line l ≡ []) × IsAmongBlocks mid
 among_step AtVersion mid l among h = absurd among
 among_step AtMachine mid l among h = absurd among
 among_step (AtRow rows) mid l among h = absurd among
@@ -301,28 +242,40 @@ lead_bare stand end (l ∷ ls) among (mid, leads, rest) =
     let step = among_step stand mid l among leads in
     (step.0, lead_bare mid end ls step.1 rest)
 
+-- what may be named by a table and names of children
+abbrev pub scope_with : List Row → List (List ℕ) → Scope
+scope_with rows children = record { layout = rows; children = children }
+
+pub same_scope : (rows table : List Row) (names children : List (List ℕ)) → rows ≡ table → names ≡ children → scope_with rows names ≡ scope_with table children
+same_scope rows table names children er en = ap (λ (rs : List Row). scope_with rs names) er ∙ ap (λ (ns : List (List ℕ)). scope_with table ns) en
+
 -- A refusal of the blocks is one of the text.
-pub outline_refuses : (text first rest : List ℕ) (head : Head) (number later_number : ℕ) (sched : List ℕ) (e : ScriptError) → IsHeadOf text head number first → IsScheduleOf head.cpus number first sched later_number rest → ExplainsBlocks head.layout later_number rest e → Explains text e
-outline_refuses text first rest head number later_number sched (errors.Refused line kind) h s (ByBlockLine r) = blocks_refuse text first rest head number later_number sched (errors.Refused line kind) h s r
-outline_refuses text first rest head number later_number sched (errors.Refused line kind) h s (ByBlockCommand ls stand front whole f) =
+pub outline_refuses : (text first rest : List ℕ) (head : Head) (number later_number : ℕ) (sched : List ℕ) (children : List (List ℕ)) (e : ScriptError) → IsHeadOf text head number first → IsScheduleOf head.cpus number first sched later_number rest → ExplainsBlocks (record { layout = head.layout; children = children }) later_number rest e → Explains text e
+outline_refuses text first rest head number later_number sched children (errors.Refused line kind) h s (ByBlockLine r) = blocks_refuse text first rest head number later_number sched (errors.Refused line kind) h s r
+outline_refuses text first rest head number later_number sched children (errors.Refused line kind) h s (ByBlockCommand ls stand front whole names f) =
     let script = script_of head sched [] in
     let rows = head.layout in
-    let before = lines_of_head head ++ sched_lines s.groups in
+    let scope : Scope = record { layout = rows; children = children } in
+    let before = head_lines script ++ sched_lines s.groups in
     let all = (before ++ f.done) ++ lines.Order f.command ∷ f.later in
     let same : before ++ ls ≡ all = ap (λ (xs : List Line). before ++ xs) f.split ∙ sym (append_assoc before f.done (lines.Order f.command ∷ f.later)) in
     let lines_are : lines_of_head head ≡ head_lines script = whole_lines head script h.whole refl refl refl refl refl in
     let some : 0 < length ls = rw f.split (rw length-append (omega arith)) in
     let after = front_after head.cpus (length sched) rest [] ls stand some front in
-    let parted : (lines_of_head head ++ (sched_lines s.groups ++ ls)) ≡ before ++ ls = sym (append_assoc (lines_of_head head) (sched_lines s.groups) ls) in
+    let parted : (lines_of_head head ++ (sched_lines s.groups ++ ls)) ≡ before ++ ls = ap (λ (xs : List Line). xs ++ (sched_lines s.groups ++ ls)) lines_are ∙ sym (append_assoc (head_lines script) (sched_lines s.groups) ls) in
     let joined = subst (λ (xs : List Line). IsFront AtVersion text xs stand []) parted (fronts_join text first rest [] head sched number later_number ls stand h s after) in
     let bare = sched_no_rows s.groups ls (lead_bare (AtBlock []) stand ls tt front.leads) in
     let table : table_of all ≡ rows =
-    sym (ap table_of (parted ∙ same)) ∙ ap (λ (xs : List Line). table_of (xs ++ (sched_lines s.groups ++ ls))) lines_are
+    sym (ap table_of same) ∙ ap table_of (append_assoc (head_lines script) (sched_lines s.groups) ls)
     ∙ table_of_lines script (sched_lines s.groups ++ ls) h.fits.machine (no_rows_table (sched_lines s.groups ++ ls) bare) in
-    let head_is_known = subst (λ (xs : List Line). AllByRecursion (IsKnown rows) xs) (sym lines_are) (head_known rows script) in
-    let before_known = all_join (IsKnown rows) (lines_of_head head) (sched_lines s.groups) head_is_known (sched_known rows s.groups) in
+    let bare_names = front_no_names script s.groups in
+    let child_lines : children_of all ≡ children = sym (ap children_of same) ∙ no_children before ls bare_names ∙ sym names in
+    let scope_is : scope_of all ≡ scope = same_scope (table_of all) rows (children_of all) children table child_lines in
+    let forks : forks_of (before ++ f.done) ≡ forks_of f.done = no_forks before f.done bare_names in
+    let before_known = all_join (IsKnown scope) (head_lines script) (sched_lines s.groups) (head_known scope script) (sched_known scope s.groups) in
     let long : length (before ++ f.done) ≡ length before + length f.done = length-append before f.done in
-    let parts : length before ≡ length (lines_of_head head) + length (sched_lines s.groups) = length-append (lines_of_head head) (sched_lines s.groups) in
+    let parts : length before ≡ length (head_lines script) + length (sched_lines s.groups) = length-append (head_lines script) (sched_lines s.groups) in
+    let heads : length (lines_of_head head) ≡ length (head_lines script) = ap length lines_are in
     let groups : length (sched_lines s.groups) ≡ length s.groups = length-map s.groups lines.Sched in
     ByCommand (record {
       done = before ++ f.done;
@@ -335,8 +288,11 @@ outline_refuses text first rest head number later_number sched (errors.Refused l
         leads = joined.leads;
         whole = whole;
       });
-      known = subst (λ (rs : List Row). AllByRecursion (IsKnown rs) (before ++ f.done)) (sym table) (all_join (IsKnown rows) before f.done before_known f.known);
-      fails = subst (λ (rs : List Row). CommandFails rs f.command kind) (sym table) f.fails;
-      number_is = omega (arith, h.next, s.next, f.number_is, long, parts, groups);
+      known = record {
+        each = subst (λ (x : Scope). AllByRecursion (IsKnown x) (before ++ f.done)) (sym scope_is) (all_join (IsKnown scope) before f.done before_known f.known.each);
+        once = subst AreDistinct (sym forks) f.known.once;
+      };
+      fails = subst (λ (x : Scope). CommandFails x (forks_of (before ++ f.done)) f.command kind) (sym scope_is) (subst (λ (ns : List (List ℕ)). CommandFails scope ns f.command kind) (sym forks) f.fails);
+      number_is = omega (arith, h.next, s.next, f.number_is, long, parts, heads, groups);
     })
-outline_refuses text first rest head number later_number sched errors.Memory h s e = tt
+outline_refuses text first rest head number later_number sched children errors.Memory h s e = tt

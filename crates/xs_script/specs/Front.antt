@@ -1,5 +1,5 @@
 -- What a reader has read of a text so far, and what it keeps of it.
-use Rattle.std.specs.Prelude.{◌≡◌, ℕ, ◌+◌, false, List, ◌∷◌, ◌++◌, length, map, Result, Err}
+use Rattle.std.specs.Prelude.{◌≡◌, ℕ, ◌+◌, false, List, ◌∷◌, ◌++◌, length, Result, Err}
 use Rattle.xs_script.specs.declared.line.Line.{Line}
 use Rattle.xs_script.specs.declared.refusal.Kind.{Kind}
 use Rattle.xs_script.specs.declared.refusal.ScriptError.{ScriptError}
@@ -14,12 +14,6 @@ pub record IsFront (from : Stand) (text : List ℕ) (ls : List Line) (to : Stand
   pub lines_fit : AreLines ls
   pub parts : text ≡ lines_text ls ++ rest
   pub leads : Leads from ls to
-
--- The same of lines of which these are kept.
-pub record IsKeptFront (from : Stand) (text : List ℕ) (kept : List Line) (to : Stand) (rest : List ℕ) : Type 0 where
-  pub lines : List Line
-  pub front : IsFront from text lines to rest
-  pub kept_is : kept ≡ map kept_line lines
 
 -- What a text is refused with by its lines, where line `first` is its first and a reader stands so before it.
 pub record RefusesFrom (from : Stand) (first : ℕ) (text : List ℕ) (number : ℕ) (kind : Kind) : Type 0 where

@@ -12,11 +12,15 @@ use Rattle.xs_model.specs.declared.script.Named.{Named}
 use Rattle.xs_model.specs.declared.script.Named.TheVariants as machines
 use Rattle.xs_model.specs.declared.script.Command.{Command}
 use Rattle.xs_model.specs.declared.script.Command.TheVariants as commands
-use Rattle.xs_model.specs.Script.{IsCommand, IsBuiltCommand, fits_register, is_built}
+use Rattle.xs_model.specs.Script.{AreDistinct, IsCommand, IsBuiltCommand, fits_register, is_built}
+use Rattle.xs_model.specs.declared.script.BlockKind.{BlockKind}
+use Rattle.xs_model.specs.declared.script.BlockKind.TheVariants as kinds
+use Rattle.xs_model.specs.Names.{forked_name}
+use Rattle.xs_script.specs.declared.commands.Scope.{Scope}
 use Rattle.xs_script.specs.declared.line.Line.{Line}
 use Rattle.xs_script.specs.declared.line.Line.TheVariants as lines
 use Rattle.xs_script.specs.declared.refusal.Kind.{Kind}
-use Rattle.xs_script.specs.declared.refusal.Kind.TheVariants.{NotBuilt, BadLine, Layout, UnknownName}
+use Rattle.xs_script.specs.declared.refusal.Kind.TheVariants.{NotBuilt, BadLine, Layout, Repeated, UnknownName}
 use Rattle.xs_script.specs.declared.refusal.ScriptError.{ScriptError}
 use Rattle.xs_script.specs.declared.refusal.ScriptError.TheVariants as errors
 use Rattle.xs_script.specs.ScriptLine.{IsLine, line_text}
@@ -40,9 +44,9 @@ first_word text = before 32 (first_line text)
 -- the first words of the forms that this version doesn't have
 unfoldable pub unbuilt_words : List (List ℕ)
 unbuilt_words =
-    codes "child" ∷ codes "handler" ∷ codes "sigreturn" ∷ codes "tilerelease" ∷ codes "perm" ∷ codes "peek" ∷ codes "poke"
-    ∷ codes "bpeek" ∷ codes "bpoke" ∷ codes "fork" ∷ codes "kill" ∷ codes "stop" ∷ codes "wait" ∷ codes "getregs"
-    ∷ codes "setregs" ∷ codes "cont" ∷ []
+    codes "handler" ∷ codes "sigreturn" ∷ codes "tilerelease" ∷ codes "perm" ∷ codes "peek" ∷ codes "poke"
+    ∷ codes "bpeek" ∷ codes "bpoke" ∷ codes "kill" ∷ codes "stop" ∷ codes "wait" ∷ codes "getregs" ∷ codes "setregs"
+    ∷ codes "cont" ∷ []
 
 -- The text's first line is of a form that this version doesn't have, however it goes on.
 abbrev pub is_unbuilt : List ℕ → Bool
@@ -92,7 +96,7 @@ pub record RefusesLine (text : List ℕ) (number : ℕ) (kind : Kind) : Type 0 w
   pub leads : Leads AtVersion done stand
   pub fails : Fails stand (length done + 1) rest number kind
 
--- ---- the second pass: registers
+-- ---- the second pass: registers, and the children that lines fork
 
 -- The text is these lines, and the first pass finds nothing in it.
 pub record Passes (text : List ℕ) (ls : List Line) : Type 0 where
@@ -123,42 +127,99 @@ rows_of_line lines.End = []
 abbrev pub table_of : List Line → List Row
 table_of ls = flat_map rows_of_line ls
 
+-- the name of a block, where it is a child's
+abbrev pub child_name : BlockKind → List ℕ → List (List ℕ)
+child_name kinds.Task name = []
+child_name kinds.Child name = name ∷ []
+child_name kinds.Kthread name = []
+
+abbrev pub child_of_line : Line → List (List ℕ)
+child_of_line lines.Version = []
+child_of_line (lines.Machine named) = []
+child_of_line (lines.Row r) = []
+child_of_line (lines.Cpus n) = []
+child_of_line (lines.Quantum n) = []
+child_of_line (lines.Large n) = []
+child_of_line (lines.Sched entries) = []
+child_of_line (lines.Begin kind name) = child_name kind name
+child_of_line (lines.Order command) = []
+child_of_line lines.End = []
+
+-- the names of the child blocks, by the lines
+abbrev pub children_of : List Line → List (List ℕ)
+children_of ls = flat_map child_of_line ls
+
+-- what commands may name, by all the lines
+abbrev pub scope_of : List Line → Scope
+scope_of ls = record { layout = table_of ls; children = children_of ls }
+
+abbrev pub fork_of_line : Line → List (List ℕ)
+fork_of_line lines.Version = []
+fork_of_line (lines.Machine named) = []
+fork_of_line (lines.Row r) = []
+fork_of_line (lines.Cpus n) = []
+fork_of_line (lines.Quantum n) = []
+fork_of_line (lines.Large n) = []
+fork_of_line (lines.Sched entries) = []
+fork_of_line (lines.Begin kind name) = []
+fork_of_line (lines.Order command) = forked_name command
+fork_of_line lines.End = []
+
+-- the names that these lines fork
+abbrev pub forks_of : List Line → List (List ℕ)
+forks_of ls = flat_map fork_of_line ls
+
+abbrev pub is_among : List ℕ → List (List ℕ) → Bool
+is_among name names = list_any (λ other. bytes_eq other name) names
+
 -- the register that a command names, where it names one
 abbrev pub register_of : Command → Option (List ℕ)
 register_of (commands.Set reg bytes) = Some reg
 register_of (commands.Get reg) = Some reg
 register_of other = None
 
--- A command's register is one of the machine and of those that are built, and a value fits it.
-abbrev pub IsKnownCommand : List Row → Command → Type 0
-IsKnownCommand rows command = IsCommand rows command × IsBuiltCommand command
+-- A fork has the name of a child block.
+abbrev pub NamesChild : List (List ℕ) → Command → Type 0
+NamesChild children (commands.Fork name) = is_among name children ≡ true
+NamesChild children other = Unit {0}
 
--- what a command is refused with
-pub data CommandFails (rows : List Row) : Command → Kind → Type 0 where
-  Unknown : (command : Command) (reg : List ℕ) → register_of command ≡ Some reg → ((place : Place) → IsRegister rows reg place → ⊥) → CommandFails rows command UnknownName
-  Unbuilt : (command : Command) (reg : List ℕ) (place : Place) → register_of command ≡ Some reg → IsRegister rows reg place → is_built place ≡ false → CommandFails rows command NotBuilt
-  Misfit : (reg bytes : List ℕ) (place : Place) → IsRegister rows reg place → is_built place ≡ true → fits_register place bytes ≡ false → CommandFails rows (commands.Set reg bytes) BadLine
+-- A command's register is one of the machine and of those that are built, a value fits it, and a fork names a child block.
+abbrev pub IsKnownCommand : Scope → Command → Type 0
+IsKnownCommand scope command = IsCommand scope.layout command × IsBuiltCommand command × NamesChild scope.children command
 
-abbrev pub IsKnown : List Row → Line → Type 0
-IsKnown rows lines.Version = Unit {0}
-IsKnown rows (lines.Machine named) = Unit {0}
-IsKnown rows (lines.Row r) = Unit {0}
-IsKnown rows (lines.Cpus n) = Unit {0}
-IsKnown rows (lines.Quantum n) = Unit {0}
-IsKnown rows (lines.Large n) = Unit {0}
-IsKnown rows (lines.Sched entries) = Unit {0}
-IsKnown rows (lines.Begin kind name) = Unit {0}
-IsKnown rows (lines.Order command) = IsKnownCommand rows command
-IsKnown rows lines.End = Unit {0}
+-- What a command is refused with, where the lines before it fork these children.
+pub data CommandFails (scope : Scope) (forked : List (List ℕ)) : Command → Kind → Type 0 where
+  Unknown : (command : Command) (reg : List ℕ) → register_of command ≡ Some reg → ((place : Place) → IsRegister scope.layout reg place → ⊥) → CommandFails scope forked command UnknownName
+  Unbuilt : (command : Command) (reg : List ℕ) (place : Place) → register_of command ≡ Some reg → IsRegister scope.layout reg place → is_built place ≡ false → CommandFails scope forked command NotBuilt
+  Misfit : (reg bytes : List ℕ) (place : Place) → IsRegister scope.layout reg place → is_built place ≡ true → fits_register place bytes ≡ false → CommandFails scope forked (commands.Set reg bytes) BadLine
+  NoChild : (name : List ℕ) → is_among name scope.children ≡ false → CommandFails scope forked (commands.Fork name) UnknownName
+  Again : (name : List ℕ) → is_among name scope.children ≡ true → is_among name forked ≡ true → CommandFails scope forked (commands.Fork name) Repeated
 
--- The lines pass, those before one have known registers, and that one fails.
+abbrev pub IsKnown : Scope → Line → Type 0
+IsKnown scope lines.Version = Unit {0}
+IsKnown scope (lines.Machine named) = Unit {0}
+IsKnown scope (lines.Row r) = Unit {0}
+IsKnown scope (lines.Cpus n) = Unit {0}
+IsKnown scope (lines.Quantum n) = Unit {0}
+IsKnown scope (lines.Large n) = Unit {0}
+IsKnown scope (lines.Sched entries) = Unit {0}
+IsKnown scope (lines.Begin kind name) = Unit {0}
+IsKnown scope (lines.Order command) = IsKnownCommand scope command
+IsKnown scope lines.End = Unit {0}
+
+-- Nothing is wrong with what these lines name: each is known, and each child is forked by one of them at most.
+pub record AreKnown (scope : Scope) (ls : List Line) : Type 0 where
+  pub each : AllByRecursion (IsKnown scope) ls
+  pub once : AreDistinct (forks_of ls)
+
+-- The lines pass, nothing is wrong with those before one, and that one fails.
 pub record RefusesCommand (text : List ℕ) (number : ℕ) (kind : Kind) : Type 0 where
   pub done : List Line
   pub command : Command
   pub later : List Line
   pub passes : Passes text (done ++ lines.Order command ∷ later)
-  pub known : AllByRecursion (IsKnown (table_of (done ++ lines.Order command ∷ later))) done
-  pub fails : CommandFails (table_of (done ++ lines.Order command ∷ later)) command kind
+  pub known : AreKnown (scope_of (done ++ lines.Order command ∷ later)) done
+  pub fails : CommandFails (scope_of (done ++ lines.Order command ∷ later)) (forks_of done) command kind
   pub number_is : number ≡ length done + 1
 
 -- ---- both passes

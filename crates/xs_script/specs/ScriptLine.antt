@@ -39,6 +39,7 @@ command_text (commands.Set reg bytes) = codes "set " ++ (reg ++ 32 ∷ encode_lo
 command_text (commands.Get reg) = codes "get " ++ reg
 command_text (commands.Ksec byte) = codes "ksec " ++ encode_lower (byte ∷ [])
 command_text commands.Yield = codes "yield"
+command_text (commands.Fork name) = codes "fork " ++ name
 command_text other = []
 
 abbrev pub line_text : Line → List ℕ
@@ -71,6 +72,7 @@ IsCommandLine (commands.Set reg bytes) = (is_register_word reg ≡ true) × (0 <
 IsCommandLine (commands.Get reg) = is_register_word reg ≡ true
 IsCommandLine (commands.Ksec byte) = byte < 256
 IsCommandLine commands.Yield = Unit {0}
+IsCommandLine (commands.Fork name) = is_name name ≡ true
 IsCommandLine other = ⊥
 
 abbrev pub IsLine : Line → Type 0

@@ -1,28 +1,31 @@
-//! The blocks of a script.
+//! The blocks of a script, and the second pass over their lines.
 
-ghost use Rattle.std.specs.Prelude.{ℕ, ◌≡◌, ◌+◌, ◌<◌, true, [], length, OnOk, IfOk, IfErr};
+ghost use Rattle.std.specs.Prelude.{ℕ, ◌≡◌, ◌+◌, ◌<◌, ◌++◌, true, [], length, OnOk, IfOk, IfErr};
 ghost use Rattle.std.specs.List.{list_any};
 ghost use Rattle.std.specs.Str.{bytes_eq};
 ghost use Rattle.xs_model.specs.declared.script.Block.{Block};
+ghost use Rattle.xs_model.specs.Names.{forked_name};
 ghost use Rattle.xs_script.specs.LineOrder.{next, may_end};
 ghost use Rattle.xs_script.specs.Front.{ExplainsLine, ExplainsNext};
-ghost use Rattle.xs_script.specs.Body.{TakesLine, ReadsLine, body_stand, lines_of_body};
+ghost use Rattle.xs_script.specs.Body.{TakesLine, Adds, ReadsLine, body_stand, lines_of_body, ExplainsAdded, ExplainsBody};
 
-use crate::commands::may_have;
+use crate::commands::{Scope, command_fault, may_have};
 use crate::front::first_line;
 use crate::line::Line;
 use crate::refusal::{Kind, LimitName, ScriptError};
-use std::alloc::Global;
+use std::alloc::{AllocError, Global};
 use xs_model::{Block, BlockKind, Command, Items, Name, Order};
 
 /// The most blocks of a script.
 const MOST_BLOCKS: usize = 64;
 
-/// What came so far of the blocks: those that are whole, and the one that has begun.
+/// What came so far of the blocks: those that are whole, the one that has begun, and the names of the children that their
+/// lines fork.
 #[derive(Drop)]
 pub(crate) struct Body {
     pub(crate) blocks: Items<Block>,
     pub(crate) begun: Option<Block>,
+    pub(crate) forked: Items<Name>,
 }
 
 impl Body {
@@ -30,10 +33,12 @@ impl Body {
     pub(crate) fn new(alloc: Global) -> Body
         ensures none { result.blocks ≡ [] }
         ensures begun { result.begun ≡ None }
+        ensures forked { result.forked ≡ [] }
     {
         Body {
             blocks: Items::new(alloc),
             begun: None,
+            forked: Items::new(alloc),
         }
     }
 
@@ -42,19 +47,20 @@ impl Body {
     pub(crate) fn read_line<'a>(
         &mut self,
         alloc: Global,
+        scope: &Scope,
         number: u32,
         text: &'a [u8],
     ) -> Result<&'a [u8], ScriptError>
         requires some { text.now ≡ [] → ⊥ }
-        ensures taken { IfOk result (λ rest. ReadsLine number self.old text.now self.new rest.now) }
+        ensures taken { IfOk result (λ rest. ReadsLine scope.now number self.old text.now self.new rest.now) }
         ensures shorter { IfOk result (λ rest. length rest.now < length text.now) }
-        ensures refused { IfErr result (ExplainsLine (body_stand self.old) number text.now) }
+        ensures refused { IfErr result (ExplainsBody scope.now self.old number text.now) }
     {
         let (line, rest) = match first_line(text) {
             Ok(first) => first,
             Err(kind) => return Err(ScriptError::Refused { line: number, kind }),
         };
-        match self.add(alloc, number, line) {
+        match self.add(alloc, scope, number, line) {
             Ok(()) => Ok(rest),
             Err(e) => Err(e),
         }
@@ -65,7 +71,7 @@ impl Body {
         ensures whole { IfOk result (λ blocks. (self.blocks ≡ blocks) × (self.begun ≡ None) × (may_end (body_stand self) ≡ true)) }
         ensures refused { IfErr result (ExplainsLine (body_stand self) number []) }
     {
-        let Body { blocks, begun } = self;
+        let Body { blocks, begun, .. } = self;
         if begun.is_some() {
             return Err(ScriptError::Refused {
                 line: number,
@@ -82,16 +88,22 @@ impl Body {
     }
 
     /// Takes a line, which is line `number`.
-    fn add(&mut self, alloc: Global, number: u32, line: Line) -> Result<(), ScriptError>
-        ensures taken { OnOk result (TakesLine number self.old line self.new) }
-        ensures refused { IfErr result (ExplainsNext (next (body_stand self.old) line) number) }
+    fn add(
+        &mut self,
+        alloc: Global,
+        scope: &Scope,
+        number: u32,
+        line: Line,
+    ) -> Result<(), ScriptError>
+        ensures taken { OnOk result (Adds scope.now number self.old line self.new) }
+        ensures refused { IfErr result (ExplainsAdded scope.now self.old number line) }
     {
         match line {
             Line::Begin(kind, name) => match self.begin(alloc, kind, name) {
                 Ok(()) => Ok(()),
                 Err(kind) => Err(ScriptError::Refused { line: number, kind }),
             },
-            Line::Order(command) => self.add_order(number, command),
+            Line::Order(command) => self.add_order(scope, number, command),
             Line::End => self.close(number),
             _other => Err(ScriptError::Refused {
                 line: number,
@@ -103,6 +115,7 @@ impl Body {
     /// Begins a block.
     fn begin(&mut self, alloc: Global, kind: BlockKind, name: Name) -> Result<(), Kind>
         ensures taken { OnOk result ((number : ℕ) → TakesLine number self.old (Line.Begin kind name) self.new) }
+        ensures forked { self.new.forked ≡ self.old.forked }
         ensures refused { IfErr result (λ why. next (body_stand self.old) (Line.Begin kind name) ≡ Err why) }
     {
         if self.begun.is_some() {
@@ -123,9 +136,25 @@ impl Body {
         Ok(())
     }
 
+    /// Takes a command in the block that has begun, by line `number`, where nothing is wrong with what it names.
+    fn add_order(&mut self, scope: &Scope, number: u32, command: Command) -> Result<(), ScriptError>
+        ensures taken { OnOk result (Adds scope.now number self.old (Line.Order command) self.new) }
+        ensures refused { IfErr result (ExplainsAdded scope.now self.old number (Line.Order command)) }
+    {
+        if let Some(kind) = command_fault(scope, self.forked.as_slice(), &command) {
+            return Err(ScriptError::Refused { line: number, kind });
+        }
+        match note_fork(&mut self.forked, &command) {
+            Ok(()) => {}
+            Err(_) => return Err(ScriptError::Memory),
+        }
+        self.push_order(number, command)
+    }
+
     /// Adds an order to the block that has begun.
-    fn add_order(&mut self, number: u32, command: Command) -> Result<(), ScriptError>
+    fn push_order(&mut self, number: u32, command: Command) -> Result<(), ScriptError>
         ensures taken { OnOk result (TakesLine number self.old (Line.Order command) self.new) }
+        ensures forked { self.new.forked ≡ self.old.forked }
         ensures refused { IfErr result (ExplainsNext (next (body_stand self.old) (Line.Order command)) number) }
     {
         match self.begun.take() {
@@ -148,6 +177,7 @@ impl Body {
     /// Ends the block that has begun.
     fn close(&mut self, number: u32) -> Result<(), ScriptError>
         ensures taken { OnOk result (TakesLine number self.old Line.End self.new) }
+        ensures forked { self.new.forked ≡ self.old.forked }
         ensures refused { IfErr result (ExplainsNext (next (body_stand self.old) Line.End) number) }
     {
         match self.begun.take() {
@@ -160,6 +190,16 @@ impl Body {
                 kind: Kind::BadLine,
             }),
         }
+    }
+}
+
+/// Adds the name of the child that the command forks, where it forks one.
+fn note_fork(forked: &mut Items<Name>, command: &Command) -> Result<(), AllocError>
+    ensures { OnOk result (forked.new ≡ forked.old ++ forked_name command.now) }
+{
+    match command {
+        Command::Fork { name } => forked.push(Name::from_slice(name.as_slice())),
+        _ => Ok(()),
     }
 }
 

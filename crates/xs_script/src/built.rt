@@ -8,8 +8,7 @@ ghost use Rattle.xs_script.specs.Refusal.{unbuilt_words};
 use xs_base::Place;
 
 /// The first words of the forms that this version doesn't have.
-const UNBUILT_WORDS: [&[u8]; 16] = [
-    b"child",
+const UNBUILT_WORDS: [&[u8]; 14] = [
     b"handler",
     b"sigreturn",
     b"tilerelease",
@@ -18,7 +17,6 @@ const UNBUILT_WORDS: [&[u8]; 16] = [
     b"poke",
     b"bpeek",
     b"bpoke",
-    b"fork",
     b"kill",
     b"stop",
     b"wait",
@@ -41,9 +39,9 @@ fn is_among(word: &[u8], words: &[&[u8]]) -> bool
     words.iter().any(|other| *other == word)
 }
 
-/// Whether the program has the register: one of x87, SSE with MXCSR, AVX and AVX-512.
+/// Whether the program has the register: one of x87, SSE with MXCSR, AVX, AVX-512 and protection keys.
 pub(crate) fn is_built(place: Place) -> bool
     ensures { result ≡ is_built place }
 {
-    matches!(place.comp.0, 0 | 1 | 2 | 5 | 6 | 7)
+    matches!(place.comp.0, 0 | 1 | 2 | 5 | 6 | 7 | 9)
 }

@@ -1,36 +1,68 @@
-//! The commands of a script: their registers, and which of them a block may have.
+//! The commands of a script: what they name, and which of them a block may have.
 
 ghost use Rattle.std.specs.Prelude.{◌≡◌, ◌==◌, drop, MatchOption, IfOk, IfErr};
 ghost use Rattle.std.specs.List.{list_all};
 ghost use Rattle.xs_base.specs.File.{is_mxcsr};
+ghost use Rattle.xs_model.specs.declared.script.Command.TheVariants.{Fork};
 ghost use Rattle.xs_model.specs.Script.{fits_register, is_kernel_command};
 ghost use Rattle.xs_script.specs.LineOrder.{may_have};
-ghost use Rattle.xs_script.specs.Refusal.{CommandFails};
+ghost use Rattle.xs_script.specs.Refusal.{is_among, CommandFails};
 ghost use Rattle.xs_script.specs.Commands.{IsBuiltRegister, RegisterFails, PassesCommand};
 
 use crate::built::is_built;
 use crate::refusal::Kind;
 use xs_base::{Lane, Place};
 use xs_layout::Layout;
-use xs_model::{BlockKind, Command};
+use xs_model::{BlockKind, Command, Items, Name};
 use xs_regs::place_of_bytes;
 
-/// What a command is refused with on the machine.
-pub(crate) fn command_fault(layout: &Layout, command: &Command) -> Option<Kind>
-    ensures { MatchOption result (PassesCommand layout.now command.now) (CommandFails layout.now command.now) }
+/// What the commands of a script may name: the registers of its machine, and its child blocks.
+#[derive(Drop)]
+pub struct Scope {
+    /// The machine's table of components.
+    pub layout: Layout,
+    /// The names of the child blocks, in the order of the text.
+    pub children: Items<Name>,
+}
+
+/// What a command is refused with, where the lines before it fork these children.
+pub(crate) fn command_fault(scope: &Scope, forked: &[Name], command: &Command) -> Option<Kind>
+    ensures { MatchOption result (PassesCommand scope.now forked.now command.now) (CommandFails scope.now forked.now command.now) }
 {
     match command {
-        Command::Set { reg, bytes } => match find_register(layout, reg.as_slice()) {
+        Command::Set { reg, bytes } => match find_register(&scope.layout, reg.as_slice()) {
             Ok(place) if fits_register(place, bytes) => None,
             Ok(_) => Some(Kind::BadLine),
             Err(kind) => Some(kind),
         },
-        Command::Get { reg } => match find_register(layout, reg.as_slice()) {
+        Command::Get { reg } => match find_register(&scope.layout, reg.as_slice()) {
             Ok(_) => None,
             Err(kind) => Some(kind),
         },
+        Command::Fork { name } => fork_fault(scope, forked, name),
         _ => None,
     }
+}
+
+/// What the fork of a child by this name is refused with, where the lines before it fork these children.
+fn fork_fault(scope: &Scope, forked: &[Name], name: &Name) -> Option<Kind>
+    ensures { MatchOption result (PassesCommand scope.now forked.now (Fork name.now)) (CommandFails scope.now forked.now (Fork name.now)) }
+{
+    if !is_among(name, scope.children.as_slice()) {
+        return Some(Kind::UnknownName);
+    }
+    if is_among(name, forked) {
+        return Some(Kind::Repeated);
+    }
+    None
+}
+
+/// Whether the name is one of these.
+pub(crate) fn is_among(name: &Name, names: &[Name]) -> bool
+    ensures { result ≡ is_among name.now names.now }
+{
+    let name = name.as_slice();
+    names.iter().any(|other| other.as_slice() == name)
 }
 
 /// Whether a block of this kind may have the command: a kernel thread has kernel sections and yields alone.

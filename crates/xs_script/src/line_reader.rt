@@ -71,8 +71,14 @@ fn read_block_line(line: &[u8]) -> Option<Line>
     if line == b"end".as_slice() {
         return Some(Line::End);
     }
+    if let Some(name) = after(b"fork ", line) {
+        return read_fork(name);
+    }
     if let Some(name) = after(b"task ", line) {
         return read_begin(BlockKind::Task, name);
+    }
+    if let Some(name) = after(b"child ", line) {
+        return read_begin(BlockKind::Child, name);
     }
     if let Some(name) = after(b"kthread ", line) {
         return read_begin(BlockKind::Kthread, name);
@@ -134,6 +140,14 @@ fn read_ksec(digits: &[u8]) -> Option<Line>
     Some(Line::Order(Command::Ksec { byte }))
 }
 
+/// The line `fork NAME`, by its name.
+fn read_fork(name: &[u8]) -> Option<Line>
+    ensures { ReadsAs line_text IsBlockLine kept_line result (codes "fork " ++ name.now) }
+{
+    let name = read_name(name)?;
+    Some(Line::Order(Command::Fork { name }))
+}
+
 /// The first line of a block of a kind that this version has, by its name.
 fn read_begin(kind: BlockKind, name: &[u8]) -> Option<Line>
     requires { is_built_kind kind ≡ true }
@@ -183,6 +197,3 @@ fn read_first_number(words: &[u8]) -> Option<(u32, &[u8])>
     let number = read_number(number)?;
     Some((number, rest))
 }
-
-#[cfg(test)]
-mod tests;

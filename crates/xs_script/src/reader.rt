@@ -8,9 +8,11 @@ ghost use Rattle.xs_script.specs.Refusal.{Refuses, Explains};
 ghost use Rattle.xs_script.specs.LineOrder.{AtVersion, AtBlock};
 ghost use Rattle.xs_script.specs.Front.{ExplainsFrom};
 ghost use Rattle.xs_script.specs.Head.{IsHeadOf};
-ghost use Rattle.xs_script.specs.Body.{AreBlocksOf};
+ghost use Rattle.xs_script.specs.Outline.{AreWholeBlocks};
+ghost use Rattle.xs_script.specs.Body.{AreBlocksOf, ExplainsBlocks};
 
 use crate::body::Body;
+use crate::commands::Scope;
 use crate::head::{Head, Stage};
 use crate::outline::look_through;
 use crate::refusal::ScriptError;
@@ -19,7 +21,8 @@ use std::alloc::Global;
 use xs_model::{Block, Items, Script};
 
 /// The script that the text spells, which has at most 1,048,576 bytes, or its first refusal. It takes memory for the
-/// schedule, the blocks and their orders alone, and for the orders only where nothing is wrong with the text.
+/// schedule, the names of blocks, the blocks and their orders alone, and for the blocks and orders only where the first pass
+/// finds nothing wrong.
 pub fn read_script(alloc: Global, text: &[u8]) -> Result<Script, ScriptError>
     requires { length text.now ≤ 1048576 }
     ensures spelled { IfOk result (Spells text.now) }
@@ -33,11 +36,15 @@ pub fn read_script(alloc: Global, text: &[u8]) -> Result<Script, ScriptError>
         Ok(read) => read,
         Err(e) => return Err(e),
     };
-    match look_through(alloc, &head.layout, number, rest) {
-        Ok(()) => {}
+    let children = match look_through(alloc, number, rest) {
+        Ok(children) => children,
         Err(e) => return Err(e),
-    }
-    let blocks = match read_blocks(alloc, number, rest) {
+    };
+    let scope = Scope {
+        layout: head.layout,
+        children,
+    };
+    let blocks = match read_blocks(alloc, &scope, number, rest) {
         Ok(blocks) => blocks,
         Err(e) => return Err(e),
     };
@@ -92,17 +99,24 @@ fn read_head(text: &[u8]) -> Result<(Head, u32, &[u8]), ScriptError>
     Ok((head, number, left))
 }
 
-/// The blocks that the text is, to its end, where its first line is line `first`.
-fn read_blocks(alloc: Global, first: u32, text: &[u8]) -> Result<Items<Block>, ScriptError>
-    requires { first + length text.now < 2 ^ 32 }
-    ensures blocks { IfOk result (AreBlocksOf first text.now) }
-    ensures refused { IfErr result (ExplainsFrom (AtBlock []) first text.now) }
+/// The blocks that the text is, to its end, where its first line is line `first` and the first pass finds nothing wrong:
+/// or what the second pass finds.
+fn read_blocks(
+    alloc: Global,
+    scope: &Scope,
+    first: u32,
+    text: &[u8],
+) -> Result<Items<Block>, ScriptError>
+    requires room { first + length text.now < 2 ^ 32 }
+    requires whole { AreWholeBlocks text.now scope.now.children }
+    ensures blocks { IfOk result (AreBlocksOf scope.now first text.now) }
+    ensures refused { IfErr result (ExplainsBlocks scope.now first text.now) }
 {
     let mut body = Body::new(alloc);
     let mut number = first;
     let mut left = text;
     'lines: while !left.is_empty() {
-        match body.read_line(alloc, number, left) {
+        match body.read_line(alloc, scope, number, left) {
             Ok(rest) => left = rest,
             Err(e) => return Err(e),
         }
@@ -113,6 +127,3 @@ fn read_blocks(alloc: Global, first: u32, text: &[u8]) -> Result<Items<Block>, S
         Err(e) => Err(e),
     }
 }
-
-#[cfg(test)]
-mod tests;

@@ -9,7 +9,7 @@ use itoa::Buffer;
 use xs_base::LayoutError;
 
 /// The limit that a number of a script is out of.
-#[derive(Clone, Copy, PartialEq, Eq, Debug)]
+#[derive(Clone, Copy, PartialEq, Eq)]
 pub enum LimitName {
     /// Processors: 1 to 16.
     Cpus,
@@ -24,7 +24,7 @@ pub enum LimitName {
 }
 
 /// What is wrong with a line of a script. The kinds and their order are this project's own.
-#[derive(Clone, Copy, PartialEq, Eq, Debug)]
+#[derive(Clone, Copy, PartialEq, Eq)]
 pub enum Kind {
     /// The line is that of a form that this version doesn't have yet.
     NotBuilt,
@@ -35,14 +35,14 @@ pub enum Kind {
     Limit(LimitName),
     /// A row fails a test of the machine's table, or the table does.
     Layout(LayoutError),
-    /// A block has the name of an earlier one.
+    /// A block has the name of an earlier one, or a child is forked that an earlier line forks.
     Repeated,
-    /// A register isn't one of the machine.
+    /// A register isn't one of the machine, or the name after `fork` isn't that of a child block.
     UnknownName,
 }
 
 /// Why no script was read.
-#[derive(Clone, Copy, PartialEq, Eq, Debug)]
+#[derive(Clone, Copy, PartialEq, Eq)]
 pub enum ScriptError {
     /// The text is no script: the line that is refused first, from 1, and what is wrong with it.
     Refused {
@@ -130,6 +130,3 @@ fn put(out: &mut RefusalLine, bytes: &[u8])
 {
     let _ = out.try_extend_from_slice(bytes);
 }
-
-#[cfg(test)]
-mod tests;

@@ -13,9 +13,9 @@ returns-in-Ok-2 c =
 pub returns-in-Err : goal.returns-in-Err
 returns-in-Err c =
     let fails = rw c.as_slice.ensures.bytes at c.in-Err.ensures.refused in
-    rw c.in-Set.is (register_fails c.args.layout.now (Set c.in-Set.reg c.in-Set.bytes) c.in-Set.reg c.in-Err.kind refl fails)
+    rw c.in-Set.is (register_fails c.args.scope.now c.args.forked.now (Set c.in-Set.reg c.in-Set.bytes) c.in-Set.reg c.in-Err.kind refl fails)
 
 pub returns-in-Err-find_register : goal.returns-in-Err-find_register
 returns-in-Err-find_register c =
     let fails = rw c.as_slice-in-Get.ensures.bytes at c.in-Err-find_register.ensures.refused in
-    rw c.in-Get.is (register_fails c.args.layout.now (Get c.in-Get.reg) c.in-Get.reg c.in-Err-find_register.kind refl fails)
+    rw c.in-Get.is (register_fails c.args.scope.now c.args.forked.now (Get c.in-Get.reg) c.in-Get.reg c.in-Err-find_register.kind refl fails)

@@ -5,7 +5,7 @@ use Rattle.xs_script.proofs.outline.look_through.Given as goal
 
 abbrev pub invariant-lines : goal.invariant-lines
 invariant-lines l = record {
-  looked : IsLooked l.layout l.first l.text l.outline l.number l.left;
+  looked : IsLooked l.first l.text l.outline l.number l.left;
   room : l.number + length l.left ≤ l.first + length l.text;
 }
 

@@ -1,14 +1,16 @@
-use Rattle.std.proofs.Common.{refl, sym, ◌∙◌, Some}
-use Rattle.xs_model.specs.declared.script.Order.{Order}
-use Rattle.xs_model.specs.declared.script.Block.{Block}
-use Rattle.xs_script.specs.declared.body.Body.{Body}
-use Rattle.xs_script.proofs.BodyLines.{order_taken}
+use Rattle.std.proofs.Common.{refl, inr}
+use Rattle.xs_script.proofs.BlockLines.{order_added, order_refused}
 use Rattle.xs_script.proofs.body.Body.add_order.Goals as goal
 
-pub returns-in-Ok-clause-taken : goal.returns-in-Ok-clause-taken
-returns-in-Ok-clause-taken c =
-    let old = c.in-Some.block in
-    let block : Block = record { kind = old.kind; name = old.name; body = c.push.new.self; handler = old.handler } in
-    let after : Body = record { blocks = c.args.self.now.blocks; begun = Some block } in
-    let order : Order = record { number = c.args.number; command = c.args.command; in_range = c.push-arg-in-Some-1.given.0 } in
-    order_taken c.args.number c.args.self.now after old block order (sym c.take.ensures.value ∙ c.in-Some.is) refl refl refl (sym c.may_have.ensures ∙ c.if-may_have.true) refl refl refl c.in-Ok.ensures.ok
+pub returns-in-Some-clause-refused : goal.returns-in-Some-clause-refused
+returns-in-Some-clause-refused c =
+    let fails = rw c.as_slice.ensures at c.in-Some.ensures in
+    (refl, inr fails)
+
+pub returns-clause-taken : goal.returns-clause-taken
+returns-clause-taken c =
+    let passes = rw c.as_slice.ensures at c.in_default.ensures in
+    order_added c.args.scope.now c.args.number c.args.self.now c.push_order.new.self c.note_fork.new.forked c.args.command c.push_order.result passes c.in-Ok.ensures c.push_order.ensures.taken c.push_order.ensures.forked
+
+pub returns-clause-refused : goal.returns-clause-refused
+returns-clause-refused c = order_refused c.args.scope.now c.args.number c.args.self.now c.args.command c.push_order.result c.push_order.ensures.refused

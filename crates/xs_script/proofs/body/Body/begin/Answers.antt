@@ -14,6 +14,6 @@ pub returns-clause-taken : goal.returns-clause-taken
 returns-clause-taken c number =
     let body = c.args.self.now in
     let block : Block = record { kind = c.args.kind; name = c.args.name; body = c.new.result; handler = c.new-2.result } in
-    let after : Body = record { blocks = body.blocks; begun = Some block } in
+    let after : Body = record { blocks = body.blocks; begun = Some block; forked = body.forked } in
     let new = rw c.as_slice.ensures at (sym c.has_name.ensures ∙ c.if-has_name.false) in
     begin_taken number body after block (none_begun body.begun (sym c.is_some.ensures ∙ c.if-is_some.false)) refl refl c.new.ensures c.new-2.ensures (omega arith) new

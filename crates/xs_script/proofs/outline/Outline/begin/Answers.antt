@@ -8,8 +8,8 @@ returns-then-is_among-clause-refused c =
     let found = rw c.as_slice.ensures at (sym c.is_among.ensures ∙ c.if-is_among.true) in
     (refl, begin_repeats outline.begun outline.names c.args.kind c.args.name (sym c.is_some.ensures ∙ c.if-is_some.false) (omega arith) found)
 
-pub returns-in-Ok-clause-taken : goal.returns-in-Ok-clause-taken
-returns-in-Ok-clause-taken c =
+pub returns-in-Ok-push-clause-taken : goal.returns-in-Ok-push-clause-taken
+returns-in-Ok-push-clause-taken c =
     let outline = c.args.self.now in
     let new = rw c.as_slice.ensures at (sym c.is_among.ensures ∙ c.if-is_among.false) in
-    rw c.in-Ok.ensures.ok (begins_on outline.begun outline.names c.args.kind c.args.name (sym c.is_some.ensures ∙ c.if-is_some.false) (omega arith) new)
+    rw c.in-Ok-push.ensures.ok (begins_on outline.begun outline.names c.args.kind c.args.name (sym c.is_some.ensures ∙ c.if-is_some.false) (omega arith) new)
