@@ -3,6 +3,13 @@
 //! `xstate replay` answers it.
 #![tactic(auto)]
 
+ghost use Rattle.std.specs.Prelude.{◌≡◌, ◌⊎◌};
+ghost use Rattle.xs_model.specs.declared.script.Script.{Script};
+ghost use Rattle.xs_top.specs.Answers.{IsAccepted};
+
+#[cfg(test)]
+mod tests;
+
 use std::alloc::{AllocError, Global};
 use std::fmt::Write;
 use std::io;
@@ -19,7 +26,9 @@ fn main(rt: HostRuntime) -> ExitCode {
 }
 
 /// Answers standard input.
-fn answer(rt: &HostRuntime) -> Status {
+fn answer(rt: &HostRuntime) -> Status
+    ensures { result ≡ Status.Usage → ⊥ }
+{
     let alloc = rt.alloc();
     match read_up_to(alloc, LIMIT, &mut StdSource::new(rt.reader())) {
         Ok(input) => answer_input(rt, input),
@@ -29,7 +38,9 @@ fn answer(rt: &HostRuntime) -> Status {
 }
 
 /// Replays the input, and prints the counts of its processors where its history was written.
-fn answer_input(rt: &HostRuntime, input: Vec<u8>) -> Status {
+fn answer_input(rt: &HostRuntime, input: Vec<u8>) -> Status
+    ensures { result ≡ Status.Usage → ⊥ }
+{
     let alloc = rt.alloc();
     let count = processors_of(alloc, &input);
     let Ok(mut procs) = processors(alloc) else {
@@ -55,8 +66,10 @@ fn answer_input(rt: &HostRuntime, input: Vec<u8>) -> Status {
     }
 }
 
-/// How many processors the script has, and none where the input is no script.
-fn processors_of(alloc: Global, input: &[u8]) -> usize {
+/// How many processors the script has, and none where the input is no script or there is no memory to read it.
+fn processors_of(alloc: Global, input: &[u8]) -> usize
+    ensures { (result ≡ 0) ⊎ ((script : Script) × IsAccepted input.now script × (result ≡ script.cpus)) }
+{
     if input.len() > LIMIT {
         return 0;
     }

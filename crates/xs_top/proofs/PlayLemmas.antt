@@ -24,6 +24,9 @@ played_valid Run script h = record {
   distinct = h.distinct;
   rising = h.rising;
   bodies = h.bodies;
+  named = h.named;
+  forked = h.forked;
+  events = h.events;
 }
 played_valid Replay script h = h
 

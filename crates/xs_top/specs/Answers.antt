@@ -11,10 +11,11 @@ use Rattle.xs_script.specs.Refusal.{Refuses}
 use Rattle.xs_script.specs.RefusalText.{refusal_text}
 use Rattle.xs_text.specs.Text.{history_text}
 use Rattle.xs_top.specs.declared.play.Play.{Play}
+use Rattle.xs_top.specs.declared.play.Play.TheVariants.{Replay}
 use Rattle.xs_top.specs.declared.status.Status.{Status}
 use Rattle.xs_top.specs.declared.status.Status.TheVariants as statuses
 use Rattle.xs_top.specs.Outside.{Output, Outside, IsRead, TakesAtMost, WritesNothing, Writes, FailsIn, limit}
-use Rattle.xs_top.specs.Run.{IsCommandLine, IsRunOf, play_words, played}
+use Rattle.xs_top.specs.Run.{IsCommandLine, IsRunOf, play_words}
 
 abbrev pub usage_text : List ℕ
 usage_text = codes "usage: xstate run [--tasks] | replay | check | gen N | demo N" ++ 10 ∷ []
@@ -39,7 +40,7 @@ pub record RunsTo {B : Type 0} (state : B → Bank) (play : Play) (input text : 
   pub script : Script
   pub accepted : IsAccepted input script
   pub history : List Event
-  pub run : IsRunOf state (played play script) history old new
+  pub run : IsRunOf state play script history old new
   pub written : text ≡ history_text script history
 
 -- The right output for an input: the text of a run, or the line of a refusal, which leaves the processors as they were.
@@ -52,12 +53,12 @@ IsOutput state play input text old new = RunsTo state play input text old new �
 abbrev pub TellEnds : Status → List ℕ → Output → Output → Status → Type 0
 TellEnds status text before after result = ((result ≡ status) × Writes before after text) ⊎ ((result ≡ statuses.WriteFault) × FailsIn before after text)
 
--- the run of a script
+-- the run of a script by its schedule
 abbrev pub WriteEnds : {B : Type 0} → (B → Bank) → Script → Output → Output → List (Proc B) → List (Proc B) → Status → Type 0
-WriteEnds state script before after old new statuses.Done = (history : List Event) × IsRunOf state script history old new × Writes before after (history_text script history)
+WriteEnds state script before after old new statuses.Done = (history : List Event) × IsRunOf state Replay script history old new × Writes before after (history_text script history)
 WriteEnds state script before after old new statuses.Refused = ⊥
 WriteEnds state script before after old new statuses.ReadFault = ⊥
-WriteEnds state script before after old new statuses.WriteFault = (history : List Event) × IsRunOf state script history old new × FailsIn before after (history_text script history)
+WriteEnds state script before after old new statuses.WriteFault = (history : List Event) × IsRunOf state Replay script history old new × FailsIn before after (history_text script history)
 WriteEnds state script before after old new statuses.NoMemory = WritesNothing before after
 WriteEnds state script before after old new statuses.Usage = ⊥
 

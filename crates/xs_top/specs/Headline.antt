@@ -1,6 +1,7 @@
--- The sentence that the program stands for: the bytes written are the text of one whole history of the script that was
--- read. What is whole is said of a machine where every task owns its registers, so each lane read is that machine's,
--- and a Start is a skip exactly where the bank still holds the task's current state.
+-- The sentence that the program stands for: the bytes written are the text of one whole history of the script that was read, and
+-- each processor's bank has counted and still holds what this history says. What is whole is said of a machine where every task
+-- owns its registers, so each lane read is that machine's, and a Start is a skip exactly where the bank still holds the task's
+-- current state.
 use Rattle.std.specs.Prelude.{ℕ, List, ⊤}
 use Rattle.std.specs.Io.KnownBytes.{Appends, Consumes, IsAtEnd}
 use Rattle.xs_bank.specs.Bank.{Bank}
@@ -13,10 +14,10 @@ use Rattle.xs_top.specs.declared.status.Status.{Status}
 use Rattle.xs_top.specs.declared.status.Status.TheVariants as statuses
 use Rattle.xs_top.specs.Outside.{Output, Outside, IsRead}
 use Rattle.xs_top.specs.Answers.{IsAccepted, IsRefused}
-use Rattle.xs_top.specs.Run.{IsRunOf, played}
+use Rattle.xs_top.specs.Run.{IsRunOf}
 
--- The input was read to its end, it is the text of a script, and what was written is the text of one history. That is the whole
--- history of a run of the script, and the processors are as this run leaves them.
+-- The input was read to its end, it is the text of a script, and what was written is the text of one history. That is a whole
+-- history of this script, the one that the command plays, and the processors are as this run leaves them.
 pub record Headline {B : Type 0} (state : B → Bank) (play : Play) (before after : Outside) (old new : List (Proc B)) : Type 0 where
   pub input : List ℕ
   pub read : Consumes before.input.left after.input.left input
@@ -25,7 +26,7 @@ pub record Headline {B : Type 0} (state : B → Bank) (play : Play) (before afte
   pub accepted : IsAccepted input script
   pub history : List Event
   pub text : Appends before.output.written after.output.written (history_text script history)
-  pub run : IsRunOf state (played play script) history old new
+  pub run : IsRunOf state play script history old new
 
 -- The input, or its front of one byte more than the limit, is no script, and what was written is the one line that says
 -- why.

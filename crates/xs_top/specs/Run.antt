@@ -43,12 +43,12 @@ HaveMachineOf {B = B} script procs = (i : ℕ) (proc : Proc B) → i < script.cp
 
 -- ---- a run
 
--- The history is whole, it is the script's replay, and no task is killed in it. Each bank has counted what the history tells of
--- it, and has the file that the history leaves in it, PKRU aside. The script's processors have its machine, and no other
--- processor changed.
-pub record IsRunOf {B : Type 0} (state : B → Bank) (script : Script) (history : List Event) (old new : List (Proc B)) : Type 0 where
+-- The history is a whole one of the script, namely the replay of the script as the command plays it, and no task is killed in it.
+-- Each bank has counted what the history tells of it, and has the file that the history leaves in it, PKRU aside. The script's
+-- processors have its machine and the owner marks that the history gives them, and no other processor changed.
+pub record IsRunOf {B : Type 0} (state : B → Bank) (play : Play) (script : Script) (history : List Event) (old new : List (Proc B)) : Type 0 where
   pub whole : IsWhole script history
-  pub replay : IsReplay script history
+  pub replay : IsReplay (played play script) history
   pub unkilled : has_kill history ≡ false
   pub banks : HaveRun state script history new
   pub machine : HaveMachineOf script new

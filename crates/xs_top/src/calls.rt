@@ -12,9 +12,6 @@ ghost use Rattle.xs_top.specs.Run.{AreNumbered, AreUncounted, IsCommandLine, pla
 ghost use Rattle.xs_top.specs.Answers.{IsAccepted, IsRefused, AnswerEnds, TellEnds, PlayEnds, WriteEnds, IsCutShort, IsPlayCutShort, Unfailed, KeepsProcessors, usage_text, too_long_text};
 ghost use Rattle.xs_top.specs.Headline.{Headline, Refusal, MayRun, MayRefuse};
 
-#[cfg(test)]
-mod tests;
-
 use crate::history::write_history;
 use crate::play::{Play, as_played, play_of};
 use crate::reading::{LIMIT, ReadError, read_up_to};
@@ -25,7 +22,7 @@ use std::alloc::Global;
 use xs_bank::Bank;
 use xs_io::{Sink, Source};
 use xs_machine::Proc;
-use xs_model::{Event, Script};
+use xs_model::{Event, Script, schedule_unseen};
 use xs_script::{
     Kind, RefusalLine, ScriptError, not_both, one_refusal, read_script, write_refusal,
 };
@@ -164,6 +161,7 @@ fn answer<K: Sink, B: Bank>(
     ensures processors { KeepsProcessors procs.old procs.new result }
     ensures numbers { AreNumbered procs.new }
 {
+    schedule_unseen();
     if input.len() > LIMIT {
         return tell(sink, TOO_LONG, Status::Refused);
     }

@@ -7,7 +7,7 @@ use std::alloc::Global;
 use xs_model::{Items, Script};
 
 /// How a script is played.
-#[derive(Clone, Copy, PartialEq, Eq, Debug)]
+#[derive(Clone, Copy, PartialEq, Eq)]
 pub enum Play {
     /// `run`: the processors have their turns in the order of their numbers.
     Run,

@@ -8,7 +8,7 @@ use std::alloc::Global;
 use xs_io::Source;
 
 /// Why an input was not read.
-#[derive(Clone, Copy, PartialEq, Eq, Debug)]
+#[derive(Clone, Copy, PartialEq, Eq)]
 pub enum ReadError {
     /// The source failed.
     Fault,

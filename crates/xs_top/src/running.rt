@@ -3,6 +3,7 @@
 ghost use Rattle.std.specs.Prelude.{◌≡◌, ◌≤◌, [], length, IfOk};
 ghost use Rattle.xs_model.specs.Script.{IsValid, IsBuilt};
 ghost use Rattle.xs_text.specs.Text.{AreTasksKnown};
+ghost use Rattle.xs_top.specs.declared.play.Play.{Play};
 ghost use Rattle.xs_top.specs.Run.{AreNumbered, AreUncounted, IsRunOf};
 
 use crate::procs::set_up;
@@ -32,7 +33,7 @@ pub fn run_script<B: Bank>(script: &Script, board: Board, procs: &mut [Proc<B>])
     requires many { length procs.old ≡ 16 }
     requires numbers { AreNumbered procs.old }
     requires counts { AreUncounted B.state procs.old }
-    ensures run { IsRunOf B.state script.now result procs.old procs.new }
+    ensures run { IsRunOf B.state Play.Replay script.now result procs.old procs.new }
     ensures tasks { AreTasksKnown script.now result }
     ensures numbers { AreNumbered procs.new }
 {

@@ -1,52 +1,78 @@
 //! `xstate`: runs a script of tasks on processors and writes its history.
 #![tactic(auto)]
 
+ghost use Rattle.std.specs.Prelude.{◌≡◌, [], ◌⊎◌, drop};
+ghost use Rattle.xs_io.specs.Causes.{Rose};
+ghost use Rattle.xs_io.specs.Standard.{buffered, sink_faults};
+
 use std::alloc::AllocError;
 use std::env;
-use std::io::{self, ErrorKind};
+use std::io::{self, ErrorKind, Write};
 use std::process::ExitCode;
 use xs_io::{StdSink, StdSource};
 use xs_top::{Status, processors, top};
 
-/// Takes the command line, standard input and standard output, and ends with the status of the top call. The last flush is
-/// made here, since a sink that is dropped loses its error: where it fails the output was not all taken, and the status is
-/// that of a failed write. After a failed write nothing more is handed on.
+/// Takes the command line, standard input and standard output, and ends with the status of the top call.
 fn main(rt: HostRuntime) -> ExitCode {
     ExitCode::from(answer(&rt).code())
 }
 
-/// Answers the command line, and flushes.
+/// Answers the command line. Where a word of it is no text, it's no command, as no words at all are none.
 fn answer(rt: &HostRuntime) -> Status {
     let alloc = rt.alloc();
-    let Ok(mut procs) = processors(alloc) else {
-        return Status::NoMemory;
+    let line = match env::args(rt) {
+        Ok(line) => line.collect::<Vec<String>>(alloc),
+        Err(fault) if fault.kind() == ErrorKind::OutOfMemory => Err(AllocError),
+        Err(_) => Ok(Vec::new(alloc)),
     };
-    let Ok(words) = command_line(rt) else {
+    match line {
+        Ok(line) => answer_words(rt, behind_the_name(&line)),
+        Err(_) => Status::NoMemory,
+    }
+}
+
+/// The words of a command line behind the first one, which is the program's name.
+fn behind_the_name(line: &[String]) -> &[String]
+    ensures { result.now ≡ drop 1 line.now }
+{
+    match line {
+        [_, words @ ..] => words,
+        [] => line,
+    }
+}
+
+/// Answers the words of a command.
+fn answer_words(rt: &HostRuntime, words: &[String]) -> Status {
+    let alloc = rt.alloc();
+    let Ok(mut procs) = processors(alloc) else {
         return Status::NoMemory;
     };
     let Ok(mut sink) = StdSink::open(alloc, io::writer(rt)) else {
         return Status::NoMemory;
     };
     let mut source = StdSource::new(rt.reader());
-    let status = top(alloc, &words, &mut source, &mut sink, &mut procs);
+    let status = top(alloc, words, &mut source, &mut sink, &mut procs);
+    hand_on(&mut sink, status)
+}
+
+/// Hands on what the sink holds back after a call with this status, since a sink that is dropped loses its error. Where that
+/// fails the output was not all taken, and the status is that of a failed write. After a failed write nothing more is handed on.
+/// Where reading failed or there was no memory, nothing was written, and the status stays.
+fn hand_on<W: Write + Drop>(sink: &mut StdSink<W>, status: Status) -> Status
+    // Another status than that of a failed write is the call's.
+    ensures same { (result ≡ Status.WriteFault → ⊥) → result ≡ status }
+    // That status is the call's, or the writer failed here.
+    ensures fault { result ≡ Status.WriteFault → (status ≡ Status.WriteFault) ⊎ Rose (sink_faults sink.old) (sink_faults sink.new) }
+    // Where the call wrote all that it was to write, the sink holds nothing back.
+    ensures handed { (result ≡ Status.Done) ⊎ (result ≡ Status.Refused) ⊎ (result ≡ Status.Usage) → buffered sink.new ≡ [] }
+    // The status of a call that wrote nothing stays.
+    ensures kept { (status ≡ Status.ReadFault) ⊎ (status ≡ Status.NoMemory) → result ≡ status }
+{
+    if status == Status::ReadFault || status == Status::NoMemory {
+        return status;
+    }
     match sink.flush() {
         Ok(()) => status,
         Err(_) => Status::WriteFault,
-    }
-}
-
-/// The words of the command line, without the program's name: none where one of them is no text, so that they are no
-/// command.
-fn command_line(rt: &HostRuntime) -> Result<Vec<String>, AllocError> {
-    let mut words = Vec::new(rt.alloc());
-    match env::args(rt) {
-        Ok(all) => {
-            for word in all.skip(1) {
-                words.push(word)?;
-            }
-            Ok(words)
-        }
-        Err(fault) if fault.kind() == ErrorKind::OutOfMemory => Err(AllocError),
-        Err(_) => Ok(words),
     }
 }

@@ -18,6 +18,7 @@ write_run-requires-clause-valid g c = rw c.as_played.ensures (played_valid c.arg
 pub returns-in-Ok-clause-ends : goal.returns-in-Ok-clause-ends
 returns-in-Ok-clause-ends g c =
     run_told g.B.Bank.state c.args.play c.args.input.now c.in-Ok.script (output_of g.K.Sink c.args.sink.now) (output_of g.K.Sink c.write_run.new.sink) c.args.procs.now c.write_run.new.procs c.write_run.result
+    (record { whole = c.schedule_unseen.ensures.whole; mark = c.schedule_unseen.ensures.mark; counts = c.schedule_unseen.ensures.counts; remains = c.schedule_unseen.ensures.remains })
     (record { short = omega arith; spelled = c.in-Ok.ensures.spelled }) (rw c.as_played.ensures at c.write_run.ensures.ends)
 
 pub returns-in-Err-Refused-clause-ends : goal.returns-in-Err-Refused-clause-ends

@@ -12,7 +12,7 @@ returns-clause-run g c =
     record {
       whole = ran.whole;
       replay = ran.replay;
-      unkilled = unkilled c.run_schedule.result (c.built_is_plain.ensures.events script (reverse c.run_schedule.result) c.requires.built ran.whole.legal);
+      unkilled = unkilled script c.run_schedule.result (c.built_is_plain.ensures.events script (reverse c.run_schedule.result) c.requires.valid c.requires.built ran.whole.legal);
       banks = ran.banks;
       machine = machine_kept g.B.Bank.state script c.set_up.new.procs c.run_schedule.new.procs len ran.kept c.set_up.ensures.set_up;
       others = ran.others ∙ c.set_up.ensures.others;

@@ -1,0 +1,115 @@
+//! What `top` and `replay_call` answer, looked at from above: scripts whose histories and counts are known from elsewhere, and sources and
+//! sinks that fail.
+
+use super::*;
+use std::test::Fail;
+use xs_io::MemSink;
+use xs_top::top;
+
+/// A script a line, and behind `|` what is printed for it, each with `/` for a line feed. The answers come from a program that shares
+/// nothing with this one. In order:
+///
+/// - two tasks with one register
+/// - a kernel thread between two turns of a task: the second is a skip
+/// - a kernel section between them: it is a load
+/// - a task that comes back to a processor whose owner mark is stale
+/// - MXCSR that changed where no XMM register did, and a task that never set it
+/// - a task that runs on two processors, whose kernel section leaves no owner mark
+/// - PKRU is the task's own where the restore is skipped
+/// - a child that is born with its parent's registers, and changes none of them
+const CASES: &str = "\
+xstate 1/machine amx/cpus 1/quantum 1/large 0/task a/set xmm0 11111111111111111111111111111111/get xmm0/end/task b/set xmm0 22222222222222222222222222222222/get xmm0/end/|\
+start a 0 load -/local a 7 -/start b 0 load -/local b 11 -/start a 0 load -/local a 8 =11111111111111111111111111111111/start b 0 load -/local b 12 =22222222222222222222222222222222/start a 0 load -/end a/start b 0 load -/end b/\
+%%/0 6 6 4 5822093129091926498/
+xstate 1/machine amx/cpus 1/quantum 2/large 0/task a/set k0 0102030405060708/yield/get k0/end/kthread k/yield/end/|\
+start a 0 load -/local a 7 -/local a 8 -/start k 0 kern -/local k 12 -/start a 0 skip -/local a 9 =0102030405060708/end a/start k 0 kern -/end k/\
+%%/0 1 2 2 16518842801338878299/
+xstate 1/machine amx/cpus 1/quantum 2/large 0/task a/set k0 0102030405060708/yield/get k0/end/kthread k/ksec aa/end/|\
+start a 0 load -/local a 7 -/local a 8 -/start k 0 kern -/local k 12 -/end k/start a 0 load -/local a 9 =0102030405060708/end a/\
+%%/0 2 2 3 6580323023799235409/
+xstate 1/machine amx/cpus 2/quantum 1/large 0/sched 0 0 1 1 0 0/task a/set k0 0100000000000000/get k0/get k0/end/|\
+start a 0 load -/local a 8 -/start a 1 load -/local a 9 =0100000000000000/start a 0 load -/local a 10 =0100000000000000/start a 0 skip -/end a/\
+%%/0 2 3 2 6891828200342487249/1 1 1 1 7992534180181725982/
+xstate 1/machine amx/cpus 1/quantum 1/large 0/task a/set mxcsr a01f0000/get mxcsr/end/task b/get mxcsr/end/|\
+start a 0 load -/local a 7 -/start b 0 load -/local b 11 =801f0000/start a 0 load -/local a 8 =a01f0000/start b 0 load -/end b/start a 0 load -/end a/\
+%%/0 5 5 3 5531008925084418257/
+xstate 1/machine amx/cpus 2/quantum 1/large 0/sched 0 0 1 1/task a/ksec 01/get xmm0/end/|\
+start a 0 load -/local a 8 -/start a 1 load -/local a 9 =00000000000000000000000000000000/start a 0 load -/end a/\
+%%/0 2 2 1 2725163124116183798/1 1 1 1 10330306826335963165/
+xstate 1/machine amx/cpus 1/quantum 2/large 0/task a/set pkru 0c000000/yield/get pkru/end/kthread k/yield/end/|\
+start a 0 load -/local a 7 -/local a 8 -/start k 0 kern -/local k 12 -/start a 0 skip -/local a 9 =0c000000/end a/start k 0 kern -/end k/\
+%%/0 1 2 0 0/
+xstate 1/machine amx/cpus 1/quantum 8/large 0/task p/set xmm0 33333333333333333333333333333333/fork c/set xmm0 44444444444444444444444444444444/get xmm0/end/child c/get xmm0/get pkru/end/|\
+start p 0 load -/local p 7 -/outer p 8 -/start c 0 load -/local c 13 =33333333333333333333333333333333/local c 14 =54555555/end c/start p 0 load -/local p 9 -/local p 10 =44444444444444444444444444444444/end p/\
+%%/0 3 3 4 4544602824215299134/
+";
+
+/// What is printed for a script, with `/` for each line feed.
+fn answer_of(alloc: Global, script: &str) -> Result<String, AllocError> {
+    let text = script.replace(alloc, "/", "\n")?;
+    let input = Vec::from_slice(alloc, text.as_bytes())?;
+    let count = processors_of(alloc, &input);
+    let mut procs = processors(alloc)?;
+    let mut source = MemSource::new(input, Vec::new(alloc));
+    let mut sink = MemSink::open(alloc, 1000, Vec::new(alloc))?;
+    let status = replay_call(alloc, &mut source, &mut sink, &mut procs);
+    let mut answer = String::from_utf8_lossy(alloc, sink.bytes())?;
+    if status == Status::Done {
+        answer.push_str(counts_text(alloc, procs.as_slice(), count)?.as_str())?;
+    }
+    answer.replace(alloc, "\n", "/")
+}
+
+#[test]
+fn scripts_are_counted(rt: HostRuntime) -> Result<(), Fail> {
+    let mut cases = 0u32;
+    for line in CASES.lines() {
+        let (script, wanted) = line.split_once('|').unwrap_or((line, ""));
+        let answer = answer_of(rt.alloc(), script)?;
+        assert_eq!(rt; answer.as_str(), wanted);
+        cases = cases.saturating_add(1);
+    }
+    assert!(rt; cases == 8);
+    Ok(())
+}
+
+const SCRIPT: &str = "xstate 1\nmachine amx\ncpus 1\nquantum 8\nlarge 0\ntask a\nget xmm0\nend\n";
+
+const HISTORY: &[u8] = b"start a 0 load -\nlocal a 7 =00000000000000000000000000000000\nend a\n";
+
+/// Runs the script over a source and a sink in memory: the read and the write of these numbers fail, none where the number
+/// is 0, and the sink has room for so many bytes. Answers the status, and how many bytes of the history were written: none
+/// where other bytes were.
+fn run_with(
+    alloc: Global,
+    read: u64,
+    write: u64,
+    room: usize,
+) -> Result<(Status, Option<usize>), AllocError> {
+    let words = vec![in alloc; String::from_str(alloc, "run")?]?;
+    let bytes = Vec::from_slice(alloc, SCRIPT.as_bytes())?;
+    let mut source = MemSource::new(bytes, vec![in alloc; read]?);
+    let mut sink = MemSink::open(alloc, room, vec![in alloc; write]?)?;
+    let mut procs = processors(alloc)?;
+    let status = top(alloc, &words, &mut source, &mut sink, &mut procs);
+    let written = sink.bytes();
+    let is_front = HISTORY.starts_with(written);
+    Ok((status, is_front.then_some(written.len())))
+}
+
+#[test]
+fn faults_are_told(rt: HostRuntime) -> Result<(), Fail> {
+    for (read, write, room, status, written) in [
+        (0, 0, 100, Status::Done, 67),
+        (1, 0, 100, Status::ReadFault, 0),
+        (2, 0, 100, Status::ReadFault, 0),
+        (0, 1, 100, Status::WriteFault, 0),
+        (0, 3, 100, Status::WriteFault, 61),
+        (0, 0, 30, Status::WriteFault, 30),
+        (0, 0, 66, Status::WriteFault, 66),
+    ] {
+        let answer = run_with(rt.alloc(), read, write, room)?;
+        assert_eq!(rt; answer, (status, Some(written)));
+    }
+    Ok(())
+}
