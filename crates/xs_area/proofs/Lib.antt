@@ -5,7 +5,6 @@ pub mod FinishLemmas
 pub mod CopyLemmas
 pub mod TakeLemmas
 pub mod StandLemmas
-pub mod FixtureLemmas
 pub mod ReadableLemmas
 pub mod KernelLemmas
 pub mod FileLaws

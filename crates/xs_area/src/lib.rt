@@ -7,18 +7,10 @@
 mod area;
 mod check;
 mod copies;
-#[cfg(test)]
-mod copies_tests;
-#[cfg(test)]
-mod fixtures;
 mod kernel;
 mod laws;
 mod readable;
-#[cfg(test)]
-mod readable_tests;
 mod standard;
-#[cfg(test)]
-mod tests;
 
 pub use area::{Area, Lease, mxcsr, xcomp_bv, xstate_bv};
 pub use check::read_standard;

@@ -7,7 +7,6 @@ ghost use Rattle.xs_base.specs.Sets.{has};
 ghost use Rattle.xs_bank.specs.Bank.{IsReady};
 ghost use Rattle.xs_bank_facts.specs.Turn.{KeepsReady};
 
-use std::alloc::{AllocError, Global};
 use xs_area::{Area, has_named_places, xcomp_bv};
 use xs_bank::{Bank, Trap};
 use xs_base::{Comp, Features, Lane, Place};
@@ -18,15 +17,9 @@ use xs_regs::place_of;
 #[derive(Clone, Copy)]
 pub enum Refusal {
     /// The machine or the area has no room for it.
-    NoRoom,
+    NotMade,
     /// It traps.
     Trapped(Trap),
-}
-
-/// An area of zeros.
-pub fn zeros(alloc: Global, id: u64, len: usize) -> Result<Area, AllocError> {
-    let bytes = vec![in alloc; 0u8; len]?;
-    Ok(Area { id, bytes })
 }
 
 /// XCOMP_BV of an area, and 0 where it has no header.
@@ -67,7 +60,7 @@ pub fn read<B: Bank>(bank: &mut B, layout: &Layout, name: &str) -> Result<Lane, 
     ensures { KeepsReady (B.state bank.old) (B.state bank.new) }
 {
     let Some(place) = place_of(name, layout) else {
-        return Err(Refusal::NoRoom);
+        return Err(Refusal::NotMade);
     };
     match bank.read(place) {
         Ok(lane) => Ok(lane),
@@ -86,7 +79,7 @@ pub fn write<B: Bank>(
     ensures { KeepsReady (B.state bank.old) (B.state bank.new) }
 {
     let Some(place) = place_of(name, layout) else {
-        return Err(Refusal::NoRoom);
+        return Err(Refusal::NotMade);
     };
     match bank.write(place, &lane_of(place, bytes)) {
         Ok(()) => Ok(()),
@@ -108,27 +101,13 @@ fn lane_of(place: Place, bytes: [u8; 64]) -> Lane
     Lane::from_slice(&all[..place.len as usize])
 }
 
-/// Releases the tiles.
-pub fn release<B: Bank>(bank: &mut B)
-    ensures { KeepsReady (B.state bank.old) (B.state bank.new) }
-{
-    bank.tile_release();
-}
-
-/// Writes PKRU.
-pub fn write_pkru<B: Bank>(bank: &mut B, value: u32)
-    ensures { KeepsReady (B.state bank.old) (B.state bank.new) }
-{
-    bank.wrpkru(value);
-}
-
 /// Arms TILEDATA or nothing, where the machine has TILEDATA.
 pub fn arm<B: Bank>(bank: &mut B, layout: &Layout, tiles: bool) -> Result<(), Refusal>
     requires { (B.state bank.old).file.rows ≡ layout.now }
     ensures { KeepsReady (B.state bank.old) (B.state bank.new) }
 {
     if !layout.has_row(Comp::TILEDATA) {
-        return Err(Refusal::NoRoom);
+        return Err(Refusal::NotMade);
     }
     bank.set_xfd(if tiles {
         Features::TILEDATA
@@ -150,7 +129,7 @@ pub fn save_buffer<B: Bank>(
 {
     let mask = of_machine(layout, mask);
     if into.len() < layout.standard_size(mask) as usize {
-        return Err(Refusal::NoRoom);
+        return Err(Refusal::NotMade);
     }
     bank.xsave(mask, into);
     Ok(())
@@ -169,7 +148,7 @@ fn load_compacted<B: Bank>(
     ensures others { IfOk result (λ _. (id m : ℕ) (bytes : List ℕ) → (id ≡ area.now.id → ⊥) → IsReady (B.state bank.new) id m bytes) }
 {
     if !has_named_places(layout, area) {
-        return Err(Refusal::NoRoom);
+        return Err(Refusal::NotMade);
     }
     match bank.xrstors(of_machine(layout, mask), area) {
         Ok(()) => Ok(()),
@@ -191,7 +170,7 @@ fn load_standard<B: Bank>(
 {
     let mask = of_machine(layout, mask);
     if area.bytes.len() < layout.standard_size(mask) as usize {
-        return Err(Refusal::NoRoom);
+        return Err(Refusal::NotMade);
     }
     match bank.xrstor(mask, area) {
         Ok(()) => Ok(()),
@@ -214,7 +193,7 @@ fn save_compacted<B: Bank>(
     ensures ready { IsReady (B.state bank.new) area.new.id mask.0 area.new.bytes.items }
 {
     if area.bytes.len() < layout.compact_size(mask) as usize {
-        return Err(Refusal::NoRoom);
+        return Err(Refusal::NotMade);
     }
     bank.xsaves(mask, area);
     Ok(())
@@ -235,10 +214,10 @@ fn save_standard<B: Bank>(
     ensures ready { IsReady (B.state bank.new) area.new.id mask.0 area.new.bytes.items }
 {
     if area.bytes.len() < layout.standard_size(mask) as usize {
-        return Err(Refusal::NoRoom);
+        return Err(Refusal::NotMade);
     }
     if xcomp_bv(&area.bytes) != 0 {
-        return Err(Refusal::NoRoom);
+        return Err(Refusal::NotMade);
     }
     bank.xsaveopt(mask, area);
     Ok(())

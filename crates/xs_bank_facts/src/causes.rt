@@ -3,174 +3,177 @@
 ghost use Rattle.std.specs.Prelude.{◌≡◌};
 
 use crate::calls::{Format, Refusal, load};
-use xs_area::Area;
+use crate::page::Page;
+use xs_area::{Area, Origin, read_standard};
 use xs_bank::{Bank, Trap};
 use xs_base::{Features, HeaderError, put};
 use xs_layout::Layout;
 
-/// Bit 63 of XCOMP_BV, which names the compacted format.
-const COMPACTED: u64 = 0x8000_0000_0000_0000;
-
-/// A reason against a load.
-#[derive(Clone, Copy)]
-pub enum Cause {
-    /// XSTATE_BV names component 3, which no machine here has.
-    UnknownState,
-    /// XCOMP_BV names it.
-    UnknownPlace,
-    /// XSTATE_BV names AVX, and XCOMP_BV doesn't.
-    NoPlace,
-    /// Bit 63 of XCOMP_BV is the other.
-    OtherFormat,
-    /// Bit 0 of XCOMP_BV isn't 0.
-    SomeName,
-    /// This byte of the header isn't 0.
-    Byte(u16),
-    /// Bit 16 of MXCSR is 1.
-    WrongMxcsr,
-    /// XSTATE_BV names TILEDATA, which is armed.
-    Tiles,
-}
-
-/// What stands in the header of an area, and its MXCSR.
-#[derive(Drop)]
-struct Header {
-    /// XSTATE_BV.
-    bits: u64,
-    /// XCOMP_BV.
-    names: u64,
-    /// The header's other bytes.
-    bytes: [u8; 64],
-    /// MXCSR.
-    mxcsr: u32,
-}
-
-/// The header with one more cause.
-fn with(header: Header, cause: Cause) -> Header {
-    let mut new = header;
-    match cause {
-        Cause::UnknownState => new.bits |= 8,
-        Cause::UnknownPlace => new.names |= 8,
-        Cause::NoPlace => new.bits |= 4,
-        Cause::OtherFormat => new.names ^= COMPACTED,
-        Cause::SomeName => new.names |= 1,
-        Cause::Byte(at) => {
-            if (512..576).contains(&at) {
-                new.bytes[at as usize - 512] = 1;
-            }
-        }
-        Cause::WrongMxcsr => new.mxcsr |= 0x10000,
-        Cause::Tiles => new.bits |= 0x40000,
-    }
-    new
-}
-
-/// What a load answers for a cause alone.
-fn answer_of(cause: Cause) -> Trap {
-    match cause {
-        Cause::UnknownState | Cause::UnknownPlace | Cause::NoPlace => {
-            Trap::Gp(HeaderError::Features)
-        }
-        Cause::OtherFormat | Cause::SomeName => Trap::Gp(HeaderError::Compacted),
-        Cause::Byte(_) => Trap::Gp(HeaderError::Reserved),
-        Cause::WrongMxcsr => Trap::Gp(HeaderError::Mxcsr),
-        Cause::Tiles => Trap::Nm(Features::TILEDATA),
-    }
-}
-
-/// Writes a header of the format with the causes of a set into an area of zeros, and answers the first of them.
-fn put_causes(area: &mut Area, format: Format, causes: &[Cause], set: u32) -> Option<Trap> {
-    let names = match format {
-        Format::Standard => 0,
-        Format::Compacted => COMPACTED | 0x60003,
-    };
-    let mut header = Header {
-        bits: 2,
-        names,
-        bytes: [0; 64],
-        mxcsr: 0x1f80,
-    };
-    let mut first = None;
-    for (i, cause) in causes.iter().enumerate() {
-        if i < 32 && set & (1 << i) != 0 {
-            header = with(header, *cause);
-            first = first.or(Some(answer_of(*cause)));
-        }
-    }
-    if area.bytes.len() >= 576 {
-        put(&mut area.bytes, 24, &header.mxcsr.to_le_bytes());
-        put(&mut area.bytes, 512, &header.bytes);
-        put(&mut area.bytes, 512, &header.bits.to_le_bytes());
-        put(&mut area.bytes, 520, &header.names.to_le_bytes());
-    }
-    first
-}
+/// A reason against a load: bits of a byte of the area that are turned, and what the load answers for it alone.
+type Cause = (usize, u8, Trap);
 
 /// The reasons against a load from the compacted format, in their order.
-const COMPACTED_CAUSES: [Cause; 9] = [
-    Cause::UnknownState,
-    Cause::UnknownPlace,
-    Cause::NoPlace,
-    Cause::OtherFormat,
-    Cause::Byte(528),
-    Cause::Byte(536),
-    Cause::Byte(575),
-    Cause::WrongMxcsr,
-    Cause::Tiles,
+const COMPACTED: [Cause; 9] = [
+    // XSTATE_BV and XCOMP_BV name component 3, which no machine here has; AVX has no place.
+    (512, 8, Trap::Gp(HeaderError::Features)),
+    (520, 8, Trap::Gp(HeaderError::Features)),
+    (512, 4, Trap::Gp(HeaderError::Features)),
+    // Bit 63 of XCOMP_BV is 0.
+    (527, 0x80, Trap::Gp(HeaderError::Compacted)),
+    // A reserved byte isn't 0.
+    (528, 1, Trap::Gp(HeaderError::Reserved)),
+    (536, 1, Trap::Gp(HeaderError::Reserved)),
+    (575, 1, Trap::Gp(HeaderError::Reserved)),
+    // Bit 16 of MXCSR.
+    (26, 1, Trap::Gp(HeaderError::Mxcsr)),
+    // TILEDATA, which is armed.
+    (514, 4, Trap::Nm(Features(0x40000))),
 ];
 
 /// The reasons against a load from the standard format, in their order.
-const STANDARD_CAUSES: [Cause; 7] = [
-    Cause::UnknownState,
-    Cause::SomeName,
-    Cause::OtherFormat,
-    Cause::Byte(528),
-    Cause::Byte(535),
-    Cause::WrongMxcsr,
-    Cause::Tiles,
+const STANDARD: [Cause; 7] = [
+    (512, 8, Trap::Gp(HeaderError::Features)),
+    // XCOMP_BV isn't 0.
+    (520, 1, Trap::Gp(HeaderError::Compacted)),
+    (527, 0x80, Trap::Gp(HeaderError::Compacted)),
+    (528, 1, Trap::Gp(HeaderError::Reserved)),
+    (535, 1, Trap::Gp(HeaderError::Reserved)),
+    (26, 1, Trap::Gp(HeaderError::Mxcsr)),
+    (514, 4, Trap::Nm(Features(0x40000))),
 ];
 
-/// Whether a load of an area with the causes of a set, by a bank that is set up for a machine where TILEDATA is armed, answers
-/// the first of them, and none where the set is empty.
+/// The reasons against an image, in their order.
+const IMAGE: [Cause; 8] = [
+    // Component 8 isn't allowed.
+    (513, 1, Trap::Gp(HeaderError::Features)),
+    (520, 1, Trap::Gp(HeaderError::Compacted)),
+    (527, 0x80, Trap::Gp(HeaderError::Compacted)),
+    (528, 1, Trap::Gp(HeaderError::Reserved)),
+    (535, 1, Trap::Gp(HeaderError::Reserved)),
+    (536, 1, Trap::Gp(HeaderError::Reserved)),
+    (575, 1, Trap::Gp(HeaderError::Reserved)),
+    (26, 1, Trap::Gp(HeaderError::Mxcsr)),
+];
+
+/// The components of the loads: all but PKRU, SSE and TILEDATA alone, and AVX and TILEDATA alone, which a standard load
+/// looks at MXCSR for too.
+const COMPACTED_MASKS: [u64; 2] = [0x600e7, 0x40002];
+
+/// The same for loads from the standard format.
+const STANDARD_MASKS: [u64; 3] = [0x600e7, 0x40002, 0x40004];
+
+/// Tells whether each load of an area with a set of reasons against it answers the first of them, and none where the set is
+/// empty.
+pub fn tell_causes<B: Bank>(name: &str, bank: &mut B, area: &mut Area, page: &mut Page) {
+    let layout = Layout::amx();
+    let mut well = true;
+    for mask in COMPACTED_MASKS {
+        well &= every_set(bank, &layout, Format::Compacted, mask, area);
+    }
+    for mask in STANDARD_MASKS {
+        well &= every_set(bank, &layout, Format::Standard, mask, area);
+    }
+    page.word(name);
+    page.word("every set of reasons against a load is answered by the first =");
+    page.fact(well);
+    page.word("\n");
+}
+
+/// Whether a load with these components answers the first of each set. Bits of a set past the last reason name none.
+fn every_set<B: Bank>(
+    bank: &mut B,
+    layout: &Layout,
+    format: Format,
+    mask: u64,
+    area: &mut Area,
+) -> bool {
+    for set in 0..512 {
+        if !answers_first(bank, layout, format, mask, area, set) {
+            return false;
+        }
+    }
+    true
+}
+
+/// Whether it answers the first of a set, by a bank that is set up for a machine where TILEDATA is armed.
 fn answers_first<B: Bank>(
     bank: &mut B,
     layout: &Layout,
     format: Format,
     mask: u64,
     area: &mut Area,
-    causes: &[Cause],
     set: u32,
-) -> bool
-    ensures { (B.state bank.new).file.rows ≡ layout.now }
-{
+) -> bool {
     bank.set_up(layout);
-    let expected = put_causes(area, format, causes, set);
+    put_header(area, format);
+    let expected = match format {
+        Format::Standard => put_causes(area, &STANDARD, set),
+        Format::Compacted => put_causes(area, &COMPACTED, set),
+    };
     match load(bank, layout, format, Features(mask), area) {
         Ok(()) => expected == None,
         Err(Refusal::Trapped(trap)) => expected == Some(trap),
-        Err(Refusal::NoRoom) => false,
+        Err(Refusal::NotMade) => false,
     }
 }
 
-/// The same for every set of reasons. Bits of a set past the last reason name none.
-pub fn every_set<B: Bank>(
-    bank: &mut B,
-    layout: &Layout,
-    format: Format,
-    mask: u64,
-    area: &mut Area,
-) -> bool
-    ensures { (B.state bank.new).file.rows ≡ layout.now }
-{
-    bank.set_up(layout);
-    let causes: &[Cause] = match format {
-        Format::Standard => &STANDARD_CAUSES,
-        Format::Compacted => &COMPACTED_CAUSES,
+/// Makes it an area of zeros of the format, with XMM registers and MXCSR 1F80H.
+fn put_header(area: &mut Area, format: Format) {
+    area.bytes.fill(0);
+    let names: u64 = match format {
+        Format::Standard => 0,
+        Format::Compacted => 0x8000_0000_0006_0003,
     };
-    'sets: for set in 0..512 {
-        if !answers_first(bank, layout, format, mask, area, causes, set) {
+    if area.bytes.len() >= 576 {
+        put(&mut area.bytes, 24, &[0x80, 0x1f]);
+        put(&mut area.bytes, 512, &[2]);
+        put(&mut area.bytes, 520, &names.to_le_bytes());
+    }
+}
+
+/// Turns the bits of the causes of a set, and answers the first of them.
+fn put_causes(area: &mut Area, causes: &[Cause], set: u32) -> Option<Trap> {
+    let mut first = None;
+    for (i, (at, bits, trap)) in causes.iter().enumerate() {
+        if i < 32 && set & (1 << i) != 0 && *at < area.bytes.len() {
+            area.bytes[*at] ^= *bits;
+            first = first.or(Some(*trap));
+        }
+    }
+    first
+}
+
+/// Tells whether each image of the machine `amx` or `avx` with a set of reasons against it is refused by the first of them.
+pub fn tell_image_causes(area: &mut Area, page: &mut Page) {
+    let frame = Origin::Frame(Features(7));
+    let mut well = every_image(&Layout::amx(), frame, area);
+    well &= every_image(&Layout::amx(), Origin::Regset, area);
+    well &= every_image(&Layout::avx(), frame, area);
+    well &= every_image(&Layout::avx(), Origin::Regset, area);
+    page.word("every set of reasons against an image is answered by the first =");
+    page.fact(well);
+    page.word("\n");
+}
+
+/// Whether an image from there is refused by the first reason of each set, and taken where the set is empty.
+fn every_image(layout: &Layout, origin: Origin, area: &mut Area) -> bool {
+    for set in 0..256 {
+        put_header(area, Format::Standard);
+        let expected = put_causes(area, &IMAGE, set);
+        if !is_told(layout, origin, &area.bytes, expected) {
             return false;
         }
     }
     true
+}
+
+/// Whether the image is refused for this reason, or taken where there is none.
+fn is_told(layout: &Layout, origin: Origin, image: &[u8], expected: Option<Trap>) -> bool {
+    if image.len() < layout.full_size() as usize {
+        return false;
+    }
+    match read_standard(layout, image, Features(7), origin) {
+        Ok(_) => expected == None,
+        Err(error) => expected == Some(Trap::Gp(error)),
+    }
 }

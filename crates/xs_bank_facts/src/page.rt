@@ -3,7 +3,7 @@
 use crate::calls::Refusal;
 use std::alloc::Global;
 use xs_bank::Trap;
-use xs_base::HeaderError;
+use xs_base::{HeaderError, are_zero};
 
 /// Text that grows by words. A word for which there was no memory is missing, and the text is then not whole.
 #[derive(Drop)]
@@ -15,9 +15,7 @@ pub struct Page {
 }
 
 /// The digits of numbers.
-const DIGITS: [&str; 16] = [
-    "0", "1", "2", "3", "4", "5", "6", "7", "8", "9", "a", "b", "c", "d", "e", "f",
-];
+const DIGITS: [u8; 16] = *b"0123456789abcdef";
 
 impl Page {
     /// No words.
@@ -34,18 +32,22 @@ impl Page {
         self.is_whole &= found;
     }
 
+    /// A hexadecimal digit.
+    fn digit(&mut self, digit: u8) {
+        let found = self
+            .text
+            .push(DIGITS[(digit & 15) as usize] as char)
+            .is_ok();
+        self.is_whole &= found;
+    }
+
     /// Bytes, each as two digits.
     pub fn bytes(&mut self, bytes: &[u8]) {
         self.word(" ");
         for byte in bytes {
-            self.word(DIGITS[(*byte >> 4) as usize]);
-            self.word(DIGITS[(*byte & 15) as usize]);
+            self.digit(*byte >> 4);
+            self.digit(*byte);
         }
-    }
-
-    /// A number in sixteen hexadecimal digits.
-    pub fn number(&mut self, number: u64) {
-        self.bytes(&number.to_be_bytes());
     }
 
     /// An answer that is yes or no.
@@ -53,20 +55,58 @@ impl Page {
         self.word(if is_so { " yes" } else { " no" });
     }
 
+    /// Whether a call was answered, and if not why.
+    pub fn outcome(&mut self, outcome: Result<(), Refusal>) {
+        match outcome {
+            Ok(()) => self.word(" ok"),
+            Err(refusal) => self.refusal(refusal),
+        }
+    }
+
     /// Why a call isn't answered.
     pub fn refusal(&mut self, refusal: Refusal) {
         match refusal {
-            Refusal::NoRoom => self.word(" no room"),
+            Refusal::NotMade => self.word(" not made"),
             Refusal::Trapped(Trap::Nm(set)) => {
                 self.word(" #NM");
                 self.number(set.0);
             }
-            Refusal::Trapped(Trap::Gp(error)) => self.word(match error {
-                HeaderError::Features => " #GP features",
-                HeaderError::Compacted => " #GP compacted",
-                HeaderError::Reserved => " #GP reserved",
-                HeaderError::Mxcsr => " #GP mxcsr",
-            }),
+            Refusal::Trapped(Trap::Gp(error)) => {
+                self.word(" #GP");
+                self.error(error);
+            }
+        }
+    }
+
+    /// The test of a header that failed.
+    pub fn error(&mut self, error: HeaderError) {
+        self.word(match error {
+            HeaderError::Features => " features",
+            HeaderError::Compacted => " compacted",
+            HeaderError::Reserved => " reserved",
+            HeaderError::Mxcsr => " mxcsr",
+        });
+    }
+
+    /// A number in sixteen hexadecimal digits.
+    pub fn number(&mut self, number: u64) {
+        self.bytes(&number.to_be_bytes());
+    }
+
+    /// Behind the place of each eight bytes that aren't all zero these bytes.
+    pub fn places(&mut self, bytes: &[u8]) {
+        for i in 0..bytes.len() / 8 {
+            self.place(i as u64 * 8, &bytes[i * 8..i * 8 + 8]);
+        }
+    }
+
+    /// Bytes behind their place, where they aren't all zero.
+    fn place(&mut self, at: u64, bytes: &[u8]) {
+        if !are_zero(bytes) {
+            self.word("\n     ");
+            self.number(at);
+            self.word(":");
+            self.bytes(bytes);
         }
     }
 }

@@ -1,17 +1,13 @@
-//! Random steps: the same ones for each bank.
+//! Random registers, components and formats: the same ones for each bank.
 
 ghost use Rattle.std.specs.Prelude.{◌<◌};
 
 use crate::calls::Format;
-use crate::turns::Op;
 use xs_base::{Features, put};
 
 /// Registers of every component, at both ends of their families.
-const NAMES: [&str; 32] = [
-    "fcw", "fsw", "ftw", "fop", "fip", "fdp", "st0", "st7", "mxcsr", "mxcsr", "xmm0", "xmm7",
-    "xmm15", "ymmh0", "ymmh9", "ymmh15", "k0", "k3", "k7", "zmmh0", "zmmh8", "zmmh15", "zmm16",
-    "zmm20", "zmm31", "pkru", "tilecfg", "tilecfg", "tmm0.0", "tmm0.0", "tmm3.7", "tmm7.15",
-];
+const NAMES: &str =
+    "fcw fsw ftw fop fip fdp st0 st7 mxcsr mxcsr xmm0 xmm7 xmm15 ymmh0 ymmh9 ymmh15 k0 k3 k7 zmmh0 zmmh8 zmmh15 zmm16 zmm20 zmm31 pkru tilecfg tilecfg tmm0.0 tmm0.0 tmm3.7 tmm7.15";
 
 /// A linear congruential generator with Knuth's numbers.
 #[derive(Drop)]
@@ -39,12 +35,13 @@ impl Random {
     }
 
     /// The name of a register of the machine `amx`.
-    fn name(&mut self) -> &'static str {
-        NAMES[self.below(32) as usize]
+    pub fn name(&mut self) -> &'static str {
+        let i = self.below(32) as usize;
+        NAMES.split(' ').nth(i).unwrap_or("pkru")
     }
 
     /// Bytes for a register: often those of one that is initial.
-    fn bytes(&mut self) -> [u8; 64] {
+    pub fn bytes(&mut self) -> [u8; 64] {
         let mut bytes = [0; 64];
         match self.below(6) {
             0 | 1 => {}
@@ -60,7 +57,7 @@ impl Random {
     }
 
     /// PKRU.
-    fn pkru(&mut self) -> u32 {
+    pub fn pkru(&mut self) -> u32 {
         (self.next() & 0xffff_ffff) as u32
     }
 
@@ -75,47 +72,13 @@ impl Random {
         }
     }
 
-    /// A step with registers, or a save into the buffer.
-    fn op(&mut self) -> Op {
-        match self.below(16) {
-            0..5 => Op::Read(self.name()),
-            5..11 => Op::Write(self.name(), self.bytes()),
-            11 => Op::Release,
-            12 => Op::WritePkru(self.pkru()),
-            13 => Op::Arm(self.below(3) == 0),
-            _ => Op::Store(self.mask()),
+    /// The format of a save or a load of an area: that of the area but for one of eight.
+    pub fn format(&mut self, is_standard: bool) -> Format {
+        let other = self.below(8) == 0;
+        if is_standard != other {
+            Format::Standard
+        } else {
+            Format::Compacted
         }
-    }
-
-    /// The format of a save: the compacted one for one save of eight.
-    fn format(&mut self) -> Format {
-        match self.below(8) {
-            0 => Format::Compacted,
-            _ => Format::Standard,
-        }
-    }
-
-    /// The steps of a turn: four and a save, twice. What the bank counts and what a save into the buffer left there is told after
-    /// each step, and what the area stands for after each save.
-    pub fn ops(&mut self) -> [Op; 28] {
-        let mut ops = [Op::Nothing; 28];
-        for i in 0..28 {
-            ops[i] = match i % 14 {
-                0 | 3 | 6 | 9 => self.op(),
-                1 | 4 | 7 | 10 => digest_of(ops[i - 1]),
-                12 => Op::Save(self.format()),
-                13 => Op::Image,
-                _ => Op::Counts,
-            };
-        }
-        ops
-    }
-}
-
-/// The step behind this one: what a save into the buffer left there is told.
-fn digest_of(op: Op) -> Op {
-    match op {
-        Op::Store(_) => Op::Digest,
-        _ => Op::Nothing,
     }
 }

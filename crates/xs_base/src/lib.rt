@@ -12,8 +12,6 @@ mod layout_error;
 mod little_endian;
 mod mxcsr;
 mod task;
-#[cfg(test)]
-mod tests;
 mod words;
 mod zeros;
 

@@ -10,11 +10,9 @@ use Rattle.xs_bench.specs.declared.command.Machine.TheVariants.{Amx, Avx}
 use Rattle.xs_bench.specs.declared.command.Command.{Command}
 use Rattle.xs_bench.specs.declared.command.Command.TheVariants.{Layout, Places, Repeat}
 use Rattle.xs_bench.specs.declared.command.Call.{Call}
-use Rattle.xs_bench.specs.declared.command.Call.TheVariants.{Layer, Bank, Line}
+use Rattle.xs_bench.specs.declared.command.Call.TheVariants.{Layer, Bank}
 use Rattle.xs_bench.specs.declared.command.LayerCall.{LayerCall}
-use Rattle.xs_bench.specs.declared.command.LayerCall.TheVariants.{StandardInto, StandardOf, CompactOf, CopyArea, Copy, CopyCompacted, CopyOne, CopyHeader, Nothing}
-use Rattle.xs_bench.specs.declared.command.LineCall.{LineCall}
-use Rattle.xs_bench.specs.declared.command.LineCall.TheVariants as lines
+use Rattle.xs_bench.specs.declared.command.LayerCall.TheVariants.{StandardInto, StandardOf, CompactOf, CopyArea, Copy, CopyCompacted, CopyOne, CopyHeader, Nothing, WriteEvent, CopyEvent}
 use Rattle.xs_bench.specs.declared.command.BankKind.{BankKind}
 use Rattle.xs_bench.specs.declared.command.BankKind.TheVariants.{Plain, Track}
 use Rattle.xs_bench.specs.declared.command.BankCall.{BankCall}
@@ -51,15 +49,12 @@ layer_call_word CopyCompacted = codes "copy-compacted"
 layer_call_word CopyOne = codes "copy-one"
 layer_call_word CopyHeader = codes "copy-header"
 layer_call_word Nothing = codes "nothing"
-
-abbrev pub line_call_word : LineCall → List ℕ
-line_call_word lines.Write = codes "write-event"
-line_call_word lines.Copy = codes "copy-event"
+layer_call_word WriteEvent = codes "write-event"
+layer_call_word CopyEvent = codes "copy-event"
 
 -- a call on a bank: the bank, a dash, and the instruction with what it has to move
 abbrev pub call_word : Call → List ℕ
 call_word (Layer call) = layer_call_word call
-call_word (Line call) = line_call_word call
 call_word (Bank kind call) = kind_word kind ++ (codes "-" ++ bank_call_word call)
 
 -- the words of a command; the last of places is the mask, and the last of a call its number of turns

@@ -64,22 +64,15 @@ pub enum LayerCall {
     CopyHeader,
     /// None: the loop alone.
     Nothing,
-}
-
-/// A line of an event.
-#[derive(Clone, Copy)]
-pub enum LineCall {
-    /// `xs_text::write_event`.
-    Write,
+    /// `xs_text::write_event`, the line of an event.
+    WriteEvent,
     /// A plain copy of the line.
-    Copy,
+    CopyEvent,
 }
 
 /// A call that is made many times.
 #[derive(Clone, Copy)]
 pub enum Call {
-    /// A line of an event.
-    Line(LineCall),
     /// A call without a bank.
     Layer(LayerCall),
     /// An instruction of a bank.
@@ -184,13 +177,9 @@ fn number_of(word: &str) -> Option<u64>
 fn call_of(word: &str) -> Option<Call>
     ensures { IfSome result (λ call. word.now ≡ call_word call) }
 {
-    match word {
-        "write-event" => Some(Call::Line(LineCall::Write)),
-        "copy-event" => Some(Call::Line(LineCall::Copy)),
-        _ => match layer_call_of(word) {
-            Some(call) => Some(Call::Layer(call)),
-            None => bank_call_of(word),
-        },
+    match layer_call_of(word) {
+        Some(call) => Some(Call::Layer(call)),
+        None => bank_call_of(word),
     }
 }
 
@@ -208,6 +197,8 @@ fn layer_call_of(word: &str) -> Option<LayerCall>
         "copy-one" => Some(LayerCall::CopyOne),
         "copy-header" => Some(LayerCall::CopyHeader),
         "nothing" => Some(LayerCall::Nothing),
+        "write-event" => Some(LayerCall::WriteEvent),
+        "copy-event" => Some(LayerCall::CopyEvent),
         _ => None,
     }
 }

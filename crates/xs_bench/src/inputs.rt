@@ -10,9 +10,7 @@ use xs_layout::Layout;
 use xs_regs::{File, place_of};
 
 /// A register of each component.
-const REGISTERS: [&str; 9] = [
-    "fip", "xmm1", "ymmh1", "k1", "zmmh1", "zmm17", "pkru", "tilecfg", "tmm0.1",
-];
+const REGISTERS: &str = "fip xmm1 ymmh1 k1 zmmh1 zmm17 pkru tilecfg tmm0.1";
 
 /// The bytes that are written into each register.
 const ONES: [u8; 64] = [1; 64];
@@ -66,7 +64,7 @@ fn full_file(alloc: Global, layout: &Layout) -> Result<File, AllocError> {
 
 /// Writes a register of each component.
 fn fill(file: &mut File) {
-    for name in REGISTERS {
+    for name in REGISTERS.split(' ') {
         if let Some(place) = place_of(name, file.layout()) {
             file.write(place, &Lane::from_slice(&ONES[..place.len as usize]));
         }

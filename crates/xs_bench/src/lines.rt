@@ -3,7 +3,6 @@
 ghost use Rattle.std.specs.Prelude.{◌≡◌, ◌<◌, length, IfOk};
 ghost use Rattle.xs_text.specs.Text.{task_of, AreTasksKnown};
 
-use crate::command::LineCall;
 use crate::repeats::next_sum;
 use std::alloc::{AllocError, Global};
 use xs_base::Lane;
@@ -17,19 +16,21 @@ const EVENTS: u32 = 16;
 /// The byte of a line that goes into the sum: a digit of what the register has.
 const LOOKED_AT: usize = 24;
 
-/// Makes a call so many times, in rounds of sixteen, and answers the sum. The events, or their lines, are there before
-/// the first round.
-pub fn repeat_line_call(alloc: Global, call: LineCall, turns: u64) -> Result<u64, AllocError> {
+/// Writes a line so many times, in rounds of sixteen, and answers the sum. The events are there before the first round.
+pub fn repeat_writes(alloc: Global, turns: u64) -> Result<Option<u64>, AllocError> {
     let script = one_task(alloc)?;
     let events = events(alloc, &script)?;
     let rounds = turns / u64::from(EVENTS);
-    match call {
-        LineCall::Write => Ok(write_events(&script, events.as_slice(), rounds)),
-        LineCall::Copy => {
-            let lines = lines(alloc, &script, events.as_slice())?;
-            Ok(copy_lines(lines.as_slice(), rounds))
-        }
-    }
+    Ok(Some(write_events(&script, events.as_slice(), rounds)))
+}
+
+/// Copies a line so many times, in the same rounds. The lines are there before the first round.
+pub fn repeat_line_copies(alloc: Global, turns: u64) -> Result<Option<u64>, AllocError> {
+    let script = one_task(alloc)?;
+    let events = events(alloc, &script)?;
+    let lines = lines(alloc, &script, events.as_slice())?;
+    let rounds = turns / u64::from(EVENTS);
+    Ok(Some(copy_lines(lines.as_slice(), rounds)))
 }
 
 /// A script of one task.

@@ -7,7 +7,7 @@ ghost use Rattle.xs_base.specs.Header as header;
 use crate::banks::repeat_bank_call;
 use crate::command::{BankCall, BankKind, Call, LayerCall};
 use crate::inputs::Inputs;
-use crate::lines::repeat_line_call;
+use crate::lines::{repeat_line_copies, repeat_writes};
 use std::alloc::{AllocError, Global};
 use xs_area::{Area, Origin, compact_of, copy_area, read_standard, standard_of, stands, xstate_bv};
 use xs_bank::{Bank, PlainBank, TrackBank};
@@ -28,28 +28,37 @@ const HALF: u64 = 0x8000_0000_0000_0000;
 /// conditions.
 pub fn repeat(alloc: Global, call: Call, turns: u64) -> Result<Option<u64>, AllocError> {
     match call {
-        Call::Line(call) => Ok(Some(repeat_line_call(alloc, call, turns)?)),
-        Call::Layer(call) => Ok(repeat_layer_call(&mut Inputs::new(alloc)?, call, turns)),
+        Call::Layer(LayerCall::WriteEvent) => repeat_writes(alloc, turns),
+        Call::Layer(LayerCall::CopyEvent) => repeat_line_copies(alloc, turns),
+        Call::Layer(call) => repeat_on_inputs(alloc, call, turns),
         Call::Bank(BankKind::Plain, call) => {
-            repeat_on_bank(alloc, PlainBank::new(alloc)?, call, turns)
+            repeat_on_bank(alloc, PlainBank::new(alloc), call, turns)
         }
         Call::Bank(BankKind::Track, call) => {
-            repeat_on_bank(alloc, TrackBank::new(alloc)?, call, turns)
+            repeat_on_bank(alloc, TrackBank::new(alloc), call, turns)
         }
     }
 }
 
-/// Makes an instruction of a bank so many times.
+/// Makes a call without a bank so many times.
+fn repeat_on_inputs(alloc: Global, call: LayerCall, turns: u64) -> Result<Option<u64>, AllocError> {
+    let mut inputs = Inputs::new(alloc)?;
+    Ok(repeat_layer_call(&mut inputs, call, turns))
+}
+
+/// Makes an instruction of a bank so many times, where there was memory for the bank.
 fn repeat_on_bank<B: Bank>(
     alloc: Global,
-    mut bank: B,
+    bank: Result<B, AllocError>,
     call: BankCall,
     turns: u64,
 ) -> Result<Option<u64>, AllocError> {
-    Ok(repeat_bank_call(&mut bank, &mut Inputs::new(alloc)?, call, turns))
+    let mut bank = bank?;
+    let mut inputs = Inputs::new(alloc)?;
+    Ok(repeat_bank_call(&mut bank, &mut inputs, call, turns))
 }
 
-/// Makes a call without a bank so many times.
+/// Makes the call so many times over these inputs.
 fn repeat_layer_call(inputs: &mut Inputs, call: LayerCall, turns: u64) -> Option<u64> {
     let layout = &inputs.layout;
     let (image, out) = (inputs.image.as_mut_slice(), inputs.out.as_mut_slice());
@@ -59,17 +68,17 @@ fn repeat_layer_call(inputs: &mut Inputs, call: LayerCall, turns: u64) -> Option
         LayerCall::StandardOf => repeat_standard_of(layout, area, out, turns),
         LayerCall::CompactOf => repeat_compact_of(layout, image, area, turns),
         LayerCall::CopyArea => repeat_copy_area(layout, area, other, turns),
-        LayerCall::Copy => repeat_copy(image, out, turns),
-        LayerCall::CopyCompacted => repeat_copy(&mut area.bytes, &mut other.bytes, turns),
-        LayerCall::CopyOne => repeat_copy_part(image, out, 320, turns),
-        LayerCall::CopyHeader => repeat_copy_part(image, out, 64, turns),
-        LayerCall::Nothing => repeat_nothing(image, out, turns),
+        LayerCall::Copy => repeat_copy(image, out, 0, 11008, turns),
+        LayerCall::CopyCompacted => repeat_copy(&mut area.bytes, &mut other.bytes, 0, 10688, turns),
+        LayerCall::CopyOne => repeat_copy(image, out, 128, 320, turns),
+        LayerCall::CopyHeader => repeat_copy(image, out, 128, 64, turns),
+        _ => repeat_nothing(image, out, turns),
     }
 }
 
 /// A length with the turn's highest bit added, so that the compiler can't know it and copies as for any length.
 pub fn hidden(len: usize, turn: u64) -> usize
-    requires { len ≤ 1024 }
+    requires { len ≤ 16384 }
     ensures low { len ≤ result }
     ensures high { result ≤ len + 1 }
 {
@@ -169,32 +178,19 @@ fn repeat_copy_area(layout: &Layout, from: &mut Area, to: &mut Area, turns: u64)
     Some(sum)
 }
 
-/// A plain copy.
-fn repeat_copy(from: &mut [u8], to: &mut [u8], turns: u64) -> Option<u64> {
-    if from.len() < 8192 || from.len() != to.len() {
-        return None;
-    }
-    let mut sum = 0;
-    'turns: for turn in 0..turns {
-        change(from, turn);
-        to.copy_from_slice(from);
-        sum = sum_with(sum, to, turn);
-    }
-    Some(sum)
-}
-
-/// A plain copy of so many bytes, from byte 128 on.
-fn repeat_copy_part(from: &mut [u8], to: &mut [u8], len: usize, turns: u64) -> Option<u64>
-    requires { len ≤ 1024 }
+/// A plain copy of so many bytes from a byte on.
+fn repeat_copy(from: &mut [u8], to: &mut [u8], at: usize, len: usize, turns: u64) -> Option<u64>
+    requires at { at ≤ 16384 }
+    requires len { len ≤ 16384 }
 {
-    if from.len() < 8192 || to.len() < 8192 {
+    if from.len() < 8192 || to.len() < 8192 || from.len() < at + len || to.len() < at + len {
         return None;
     }
     let mut sum = 0;
     'turns: for turn in 0..turns {
         change(from, turn);
-        let end = 128 + hidden(len, turn);
-        to[128..end].copy_from_slice(&from[128..end]);
+        let end = (at + hidden(len, turn)).min(from.len()).min(to.len());
+        to[at..end].copy_from_slice(&from[at..end]);
         sum = sum_with(sum, to, turn);
     }
     Some(sum)

@@ -6,8 +6,6 @@ mod checks;
 mod cursor;
 mod layout;
 mod places;
-#[cfg(test)]
-mod tests;
 
 pub use checks::{component_size, row_error, table_error};
 pub use cursor::Cursor;

@@ -5,8 +5,6 @@
 
 mod pool;
 mod shelf;
-#[cfg(test)]
-mod tests;
 
 pub use pool::AreaPool;
 pub use shelf::Full;

@@ -8,8 +8,6 @@ mod file;
 mod number;
 mod register;
 mod tables;
-#[cfg(test)]
-mod tests;
 
 pub use file::File;
 pub use register::{one_place, place_of, place_of_bytes};

@@ -5,3 +5,4 @@ pub mod OneSpelling
 pub mod LegalEvents
 pub mod LastDigits
 pub mod HexDigits
+mod WorkedLines

@@ -3,9 +3,6 @@
 ghost use Rattle.std.specs.Prelude.{◌≡◌, ◌+◌, ◌<◌, ◌≤◌, [], ◌∷◌, ◌++◌, length, decimal};
 ghost use Rattle.xs_text.specs.Text.{how_word, signal_word, reply_word, cause_word, name_of, task_of, event_line};
 
-#[cfg(test)]
-mod tests;
-
 use crate::digits::{put_digits, put_hex};
 use crate::line::Line;
 use xs_base::{How, Signo};

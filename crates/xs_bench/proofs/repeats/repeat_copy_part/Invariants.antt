@@ -1,5 +1,0 @@
-use Rattle.std.proofs.Common.{◌≡◌, ◌≤◌, length}
-use Rattle.xs_bench.proofs.repeats.repeat_copy_part.Given as goal
-
-abbrev pub invariant-turns : goal.invariant-turns
-invariant-turns l = (length l.from ≡ length l.initial.from) × (8192 ≤ length l.to)
