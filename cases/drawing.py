@@ -1,0 +1,257 @@
+"""Draws scripts of the forms that are built, for cases/random."""
+import random
+
+# The registers that are built, by their component: names and bytes.
+REGISTERS = {
+    0: [("fcw", 2), ("fsw", 2), ("ftw", 1), ("fop", 2), ("fip", 8), ("fdp", 8)] + [(f"st{i}", 10) for i in range(8)],
+    1: [("mxcsr", 4)] + [(f"xmm{i}", 16) for i in range(16)],
+    2: [(f"ymmh{i}", 16) for i in range(16)],
+    5: [(f"k{i}", 8) for i in range(8)],
+    6: [(f"zmmh{i}", 32) for i in range(16)],
+    7: [(f"zmm{i}", 64) for i in range(16, 32)],
+    9: [("pkru", 4)],
+}
+# The extended components of `amx`: number, size, flags.
+EXTENDED = [(2, 256, 0), (5, 64, 0), (6, 512, 0), (7, 1024, 0), (9, 8, 0), (17, 64, 2), (18, 8192, 6)]
+# The first words of lines that aren't built: a changed line must not begin with one.
+UNBUILT = set("handler sigreturn tilerelease perm peek poke bpeek bpoke kill stop wait getregs setregs cont".split())
+UNBUILT_NAMES = ("tilecfg", "tmm")
+# Bytes of initial registers (FCW, MXCSR, PKRU, and zero), which name no block; and two for each of 64 blocks.
+INITIAL = set(bytes.fromhex("007f03801f5455"))
+TAGS = [byte for byte in range(256) if byte not in INITIAL]
+
+
+class Block:
+    """A block of a script that is drawn. With a number it writes only bytes that name it."""
+
+    def __init__(self, kind, name, number=None):
+        self.kind, self.name, self.body, self.number = kind, name, [], number
+
+    def value(self, rng, name, size):
+        if self.number is None:
+            return draw_bytes(rng, name, size)
+        return (bytes([TAGS[self.number]]) * size)[:2 if name == "mxcsr" else size].ljust(size, b"\0").hex()
+
+    def section(self, rng):
+        return f"ksec {rng.randrange(256) if self.number is None else TAGS[64 + self.number]:02x}"
+
+    def lines(self):
+        return [f"{self.kind} {self.name}"] + self.body + ["end"]
+
+
+
+def draw_machine(rng):
+    """Lines of a machine, and the components that it has."""
+    kind = rng.choice(["amx", "amx", "avx", "rows"])
+    if kind == "amx":
+        return ["machine amx"], [0, 1, 2, 5, 6, 7, 9]
+    if kind == "avx":
+        return ["machine avx"], [0, 1, 2]
+    lines, has, at = ["machine rows", "row 0 160 0 0", "row 1 256 160 0"], [0, 1], 576
+    tiles = rng.random() < 0.5
+    for number, size, flags in EXTENDED:
+        if (number in (17, 18) and not tiles) or (number not in (17, 18) and rng.random() < 0.4):
+            continue
+        at += rng.choice([0, 0, 8, 64])
+        lines.append(f"row {number} {size} {at} {flags}")
+        has.append(number)
+        at += size
+    return lines, has
+
+
+def draw_bytes(rng, name, size):
+    some = rng.choice(["zeros", "one", "any", "any"])
+    data = bytearray(size)
+    if some == "one":
+        data[rng.randrange(size)] = rng.randrange(256)
+    elif some == "any":
+        data = bytearray(rng.randrange(256) for _ in range(size))
+    if name == "mxcsr":
+        data[2:] = b"\0\0"
+        if some == "zeros":
+            data[:2] = b"\x80\x1f"
+    return data.hex()
+
+
+def draw_line(rng, block, registers):
+    kind = rng.random()
+    if block.kind == "kthread":
+        return "yield" if kind < 0.5 else block.section(rng)
+    if kind < 0.12:
+        return block.section(rng)
+    if kind < 0.22:
+        return "yield"
+    name, size = rng.choice(registers)
+    return f"get {name}" if kind < 0.6 else f"set {name} {block.value(rng, name, size)}"
+
+
+def draw_blocks(rng, registers, secrets):
+    many = rng.choice([1, 2, 2, 3, 4, 6, rng.choice([10, 64])])
+    kinds = ["task", "task", "kthread"] + rng.choice([[], ["child"], ["child"] * 3])
+    blocks = [Block(rng.choice(kinds), rng.choice("abcxyz") + str(number), number if secrets else None) for number in range(many)]
+    if all(block.kind == "child" for block in blocks):
+        # (nothing runs, which the cases ask)
+        rng.choice(blocks).kind = "task"
+    for block in blocks:
+        for _ in range(rng.choice([0, 1, 2, 3, 5, 9, 33]) if many < 10 else rng.randrange(4)):
+            block.body.append(draw_line(rng, block, registers))
+    return blocks
+
+
+def put_forks(rng, blocks):
+    """One line that forks it for each child but some, anywhere in a body: mostly so that it's born."""
+    bodies = [block for block in blocks if block.kind != "kthread"]
+    born = [block for block in blocks if block.kind == "task"]
+    children = [block for block in blocks if block.kind == "child"]
+    rng.shuffle(children)
+    for child in children:
+        if rng.random() < 0.1:
+            continue
+        forker = rng.choice(born if born and rng.random() < 0.9 else bodies)
+        forker.body.insert(rng.choice([0, len(forker.body), rng.randint(0, len(forker.body))]), f"fork {child.name}")
+        if forker in born:
+            born.append(child)
+
+
+def draw_script(rng, secrets):
+    """The lines of a script that isn't refused."""
+    machine, has = draw_machine(rng)
+    all_registers = [it for component in has if component in REGISTERS for it in REGISTERS[component]]
+    registers = rng.sample(all_registers, min(len(all_registers), rng.choice([1, 2, 3, 5] if secrets else [2, 3, 5, 40])))
+    if secrets and rng.random() < 0.5:
+        # (what a section writes)
+        registers.append(("xmm0", 16))
+    if 9 in has and rng.random() < 0.6:
+        registers += REGISTERS[9] * rng.choice([1, 2, len(registers)])
+    cpus = rng.choice([1, 1, 2, 2, 3, 4, 16, rng.randint(1, 16)])
+    lines = ["xstate 1"] + machine + [f"cpus {cpus}", f"quantum {rng.choice([1, 1, 2, 3, 8, rng.randint(1, 32)])}"]
+    lines.append(f"large {rng.choice([0, 0, 1, 64])}")
+    for _ in range(rng.choice([0, 0, 1, 1, 2, 3])):
+        lines.append("sched " + " ".join(str(rng.randrange(cpus)) for _ in range(rng.choice([1, 2, 3, 7, 20]))))
+    blocks = draw_blocks(rng, registers, secrets)
+    put_forks(rng, blocks)
+    return lines + [line for block in blocks for line in block.lines()]
+
+
+def change_number(rng, line):
+    words = line.split(" ")
+    places = [i for i, word in enumerate(words) if word.isdigit()]
+    if places:
+        words[rng.choice(places)] = rng.choice(["0", "00", "1", "16", "17", "32", "33", "64", "65", "4294967295", "4294967296", "-1", "01", "x"])
+    return " ".join(words)
+
+
+def change_text(rng, line):
+    at = rng.randrange(len(line) + 1)
+    return rng.choice([
+        line[:at] + rng.choice([" ", "\t", "\r", "0", "a", "A", ".", "\xe9", "g"]) + line[at:],
+        line[:at] + line[at + 1:],
+        line + " ",
+        line.upper(),
+        line.split(" ")[0],
+        line + " 0",
+        "",
+    ])
+
+
+BLOCKS = ("task", "child", "kthread")
+
+
+def places_of(lines, *words):
+    return [i for i, line in enumerate(lines) if line.split(" ")[0] in words]
+
+
+def change_meaning(rng, lines):
+    """A line that is spelled well and may still be refused: a number past its limit, a name twice, a register or bytes that don't fit."""
+    kind = rng.choice(["limit", "limit", "sched", "name", "register", "bytes", "row", "fork", "fork", "fork", "pkru"])
+    if kind == "limit":
+        at = rng.choice(places_of(lines, "cpus", "quantum", "large") or [0])
+        lines[at] = lines[at].split(" ")[0] + " " + rng.choice(["0", "1", "2", "16", "17", "32", "33", "64", "65", "4294967295", "4294967296"])
+    elif kind == "sched":
+        at = (places_of(lines, "large") or [0])[0] + 1
+        lines.insert(at, "sched " + " ".join([str(rng.choice([0, 0, 0, 1, 15, 16]))] * rng.choice([1, 2, 4095, 4096, 4097])))
+    elif kind == "name":
+        blocks = places_of(lines, *BLOCKS)
+        if blocks:
+            lines[rng.choice(blocks)] = rng.choice(BLOCKS) + " " + lines[rng.choice(blocks)].split(" ")[-1]
+    elif kind == "fork":
+        blocks, forks, ends = places_of(lines, *BLOCKS), places_of(lines, "fork"), places_of(lines, "end")
+        if blocks and forks and rng.random() < 0.5:
+            lines[rng.choice(forks)] = "fork " + rng.choice([lines[rng.choice(blocks)].split(" ")[-1], "zz", lines[rng.choice(forks)].split(" ")[-1] + "0"])
+        elif blocks and ends:
+            name = lines[rng.choice(rng.choice([it for it in (blocks, forks) if it]))].split(" ")[-1]
+            lines.insert(rng.choice(rng.choice([ends, [at + 1 for at in blocks]])), f"fork {name}")
+    elif kind == "pkru":
+        commands = places_of(lines, "set", "get", "yield", "ksec")
+        if commands:
+            lines[rng.choice(commands)] = rng.choice(["get pkru", "set pkru 00", "set pkru 54555555", "set pkru 545555", "set pkru 0000000000", "set pkru ffffffff00000000"])
+    elif kind in ("register", "bytes"):
+        commands = places_of(lines, "set", "get")
+        if commands:
+            at = rng.choice(commands)
+            words = lines[at].split(" ")
+            if kind == "register":
+                words[1] = rng.choice(["k0", "k8", "zmmh3", "zmm15", "zmm31", "ymmh15", "xmm16", "xmm00", "st8", "mxcsr", "fcw", "ftw", "eax"])
+            elif len(words) == 3:
+                words[2] = rng.choice([words[2] + "00", words[2][2:], words[2][:-2], "00" * 64, "ffffffff", "801f0000", "801f0100"])
+            lines[at] = " ".join(words)
+    else:
+        rows = places_of(lines, "row")
+        if rows:
+            at = rng.choice(rows)
+            words = lines[at].split(" ")
+            if rng.random() < 0.3:
+                # (a place past the end: whether rows may come in another order than their places isn't asked)
+                words[3] = rng.choice(["16384", "16385", "4294967295"])
+            else:
+                words[rng.choice([1, 2, 4])] = rng.choice(["0", "1", "2", "4", "6", "8", "9", "256", "576", "832", "2688", "20"])
+            lines[at] = " ".join(words)
+    return lines
+
+
+def change_lines(rng, lines):
+    """The lines with one of them changed, left out, doubled, moved or put in."""
+    lines, at = list(lines), rng.randrange(len(lines))
+    kind = rng.randrange(12)
+    if kind == 0:
+        lines[at] = change_number(rng, lines[at])
+    elif kind == 1:
+        lines[at] = change_text(rng, lines[at])
+    elif kind == 2:
+        del lines[at]
+    elif kind == 3:
+        lines.insert(at, lines[rng.randrange(len(lines))])
+    elif kind == 4:
+        other = rng.randrange(len(lines))
+        lines[at], lines[other] = lines[other], lines[at]
+    elif kind == 5:
+        lines.insert(at, rng.choice([
+            "get xmm16", "get k8", "get zmm15", "set k0 00", "set mxcsr 801f0100", "get ymmh0", "ksec 0102", "ksec a", "ksec AA", "yield",
+            "sched", "sched 0", "sched 16", "cpus 0", "cpus 2", "quantum 1", "task a0", "kthread a0", "child a0", "fork a0", "fork", "fork A", "child", "get pkru", "end", "row 2 256 576 0", "xstate 1",
+        ]))
+    else:
+        lines = change_meaning(rng, lines)
+    return lines
+
+
+def is_built(text):
+    """No line begins with a word that isn't built, and none names a register that isn't. Some block isn't a child."""
+    lines = text.split("\n")
+    if not places_of(lines, "task", "kthread"):
+        return False
+    for line in lines:
+        words = line.split(" ")
+        if words[0] in UNBUILT or (len(words) > 1 and words[0] in ("set", "get") and words[1].startswith(UNBUILT_NAMES)):
+            return False
+    return True
+
+
+def draw(seed, number, secrets):
+    rng = random.Random(f"{seed}/{number}")
+    while True:
+        lines = draw_script(rng, secrets)
+        if not secrets and rng.random() < 1 / 3:
+            lines = change_lines(rng, lines)
+        text = "\n".join(lines) + ("\n" if secrets or rng.random() < 0.99 else "")
+        if is_built(text):
+            return text.encode("latin-1")
