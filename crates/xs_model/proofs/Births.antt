@@ -155,18 +155,17 @@ state_there (l ∷ rest) (b ∷ blocks) zero lines many at = (b, refl)
 state_there (l ∷ rest) (b ∷ blocks) (suc t) lines many at = state_there rest blocks t lines (omega arith) at
 
 -- what all pass one passes
-all_true : (test : Order → Bool) (orders : List Order) (i : ℕ) (order : Order) → list_all test orders ≡ true → slice_get orders i ≡ Some order → test order ≡ true
+pub all_true : (test : Order → Bool) (orders : List Order) (i : ℕ) (order : Order) → list_all test orders ≡ true → slice_get orders i ≡ Some order → test order ≡ true
 all_true test [] i order all at = absurd (cc)
 all_true test (first ∷ orders) zero order all at = let same : first ≡ order = cc in ap test (sym same) ∙ (and_parts (test first) (list_all test orders) all).0
 all_true test (first ∷ orders) (suc i) order all at = all_true test orders i order (and_parts (test first) (list_all test orders) all).1 at
 
--- a block with a fork is a user task
-forking_user : (kind : BlockKind) (body handler : List Order) (i : ℕ) (order : Order) (name : List ℕ) → fits_kind kind body handler ≡ true → slice_get body i ≡ Some order → order.command ≡ commands.Fork name → is_user_kind kind ≡ true
-forking_user Task body handler i order name fits at is = refl
-forking_user Child body handler i order name fits at is = refl
-forking_user Kthread body handler i order name fits at is =
+-- a block with a line that no kernel thread has is a user task
+pub user_by_line : (kind : BlockKind) (body handler : List Order) (i : ℕ) (order : Order) → fits_kind kind body handler ≡ true → slice_get body i ≡ Some order → is_kernel_command order.command ≡ false → is_user_kind kind ≡ true
+user_by_line Task body handler i order fits at off = refl
+user_by_line Child body handler i order fits at off = refl
+user_by_line Kthread body handler i order fits at off =
     let inner = all_true (λ (order : Order). is_kernel_command order.command) body i order (and_parts (list_all (λ (order : Order). is_kernel_command order.command) body) (length handler == 0) fits).0 at in
-    let off : is_kernel_command order.command ≡ false = ap is_kernel_command is in
     absurd (both_ways (is_kernel_command order.command) off inner)
 
 -- a child is a block, and a user task
@@ -229,7 +228,7 @@ fork_bears script past t name block order valid legal fork =
         here = s.1;
         unborn = unborn;
         apart = λ (same : t ≡ v). let both : slice_get (machine script past).blocks t ≡ Some s.0 = ap (slice_get (machine script past).blocks) same ∙ s.1 in let one : block ≡ s.0 = cc in let clash : Turn fork.cpu fork.ran ≡ Unborn = sym turning ∙ ap (λ (b : BlockState). b.stage) one ∙ unborn in cc;
-        parent_user = ap is_user_block known ∙ forking_user lines.kind lines.body lines.handler i order name (body_at script.layout script.blocks valid.bodies t lines known).kind body.1 fork.is;
+        parent_user = ap is_user_block known ∙ user_by_line lines.kind lines.body lines.handler i order (body_at script.layout script.blocks valid.bodies t lines known).kind body.1 (ap is_kernel_command fork.is);
         child_user = ap is_user_block (sym (named_block script name)) ∙ c.2;
       },
     )

@@ -1,19 +1,22 @@
--- Scripts of the forms of this version: their blocks are plain, and their events are Starts, local lines and ends.
+-- Commands of the forms of this version: which are outer, that none traps, and that none makes room for TILEDATA.
 use Rattle.std.proofs.Common.{◌≡◌, ℕ, zero, suc, ◌==◌, Bool, true, false, not, ◌&&◌, List, [], ◌∷◌, map, refl, ap, ◌∙◌, subst, ne_eqb}
-use Rattle.std.specs.Prelude.{Some, None, slice_get}
+use Rattle.std.specs.Prelude.{Some, slice_get, if◌then◌else◌}
 use Rattle.std.specs.List.{list_any, AllByRecursion}
 use Rattle.xs_base.specs.declared.component.Place.{Place}
 use Rattle.xs_base.specs.Layout.{has_row}
 use Rattle.xs_base.specs.Component.{tiledata_number, tilecfg_number}
 use Rattle.xs_base.specs.Task.{PrivateTask}
+use Rattle.xs_base.specs.Frame.{Return, Full, LegacyOnly, Refused, return_of, after_return, refused_file}
 use Rattle.xs_base.specs.Tile.{is_of_tiles}
 use Rattle.xs_base.specs.Register.{place_of}
 use Rattle.xs_base.proofs.Registers.{named_place}
 use Rattle.xs_model.specs.declared.script.Command.{Command}
 use Rattle.xs_model.specs.declared.script.Command.TheVariants as commands
-use Rattle.xs_model.specs.Script.{built_components, is_built, IsBuiltName, IsBuiltCommand, is_outer, is_fork}
-use Rattle.xs_model.specs.Line.{traps, refusal, local_after}
+use Rattle.xs_model.specs.declared.event.Why.{Why}
+use Rattle.xs_model.specs.Script.{built_components, is_built, IsBuiltName, IsBuiltCommand}
+use Rattle.xs_model.specs.Line.{next_line, local_after, is_frame_cause, killed}
 use Rattle.xs_model.specs.State.{changed}
+use Rattle.xs_model.specs.Laws.{BuiltLines}
 
 -- ---- built commands
 
@@ -43,32 +46,50 @@ no_trap true true tiles off = off
 no_trap true false tiles off = refl
 no_trap false small tiles off = refl
 
--- a built command is a fork or local, doesn't trap, and is no return
-pub built_inner : (task : PrivateTask) (command : Command) → IsBuiltCommand command → (is_outer command ≡ is_fork command) × (traps task command ≡ false) × (refusal task command ≡ None)
-built_inner task (commands.Set reg bytes) built = (refl, no_trap (has_row task.file.rows tiledata_number) (not task.large) (is_of_tiles (place_of reg) true) (name_apart reg true built), refl)
-built_inner task (commands.Get reg) built = (refl, no_trap (has_row task.file.rows tiledata_number) (not task.large) (is_of_tiles (place_of reg) false) (name_apart reg false built), refl)
-built_inner task (commands.Ksec byte) built = (refl, refl, refl)
-built_inner task commands.Yield built = (refl, refl, refl)
-built_inner task (commands.Fork name) built = (refl, refl, refl)
+-- an outer command that is built is a fork or a `kill`, and none of them traps
+pub built_inner : BuiltLines
+built_inner task (commands.Set reg bytes) built = (refl, no_trap (has_row task.file.rows tiledata_number) (not task.large) (is_of_tiles (place_of reg) true) (name_apart reg true built))
+built_inner task (commands.Get reg) built = (refl, no_trap (has_row task.file.rows tiledata_number) (not task.large) (is_of_tiles (place_of reg) false) (name_apart reg false built))
+built_inner task (commands.Ksec byte) built = (refl, refl)
+built_inner task commands.Yield built = (refl, refl)
+built_inner task (commands.Peek from len) built = (refl, refl)
+built_inner task (commands.Poke from bytes) built = (refl, refl)
+built_inner task commands.Sigreturn built = (refl, refl)
+built_inner task (commands.Fork name) built = (refl, refl)
+built_inner task (commands.Kill name signo) built = (refl, refl)
 built_inner task other built = absurd built
 
--- it leaves whether a handler runs
-pub keeps_handling : (task : PrivateTask) (command : Command) → IsBuiltCommand command → (local_after task command).handling ≡ task.handling
-keeps_handling task (commands.Set reg bytes) built = refl
-keeps_handling task (commands.Get reg) built = refl
-keeps_handling task (commands.Ksec byte) built = refl
-keeps_handling task commands.Yield built = refl
-keeps_handling task (commands.Fork name) built = refl
-keeps_handling task other built = absurd built
+-- a return leaves the room for TILEDATA
+returned_large : (task : PrivateTask) (taken : Return) → (after_return task taken).large ≡ task.large
+returned_large task (Full file) = refl
+returned_large task (LegacyOnly file) = refl
+returned_large task (Refused error) = refl
 
--- it leaves the room for TILEDATA
+-- so does one that may be outside of a handler
+return_large : (task : PrivateTask) (handling : Bool) → (if handling then after_return task (return_of task) else next_line task).large ≡ task.large
+return_large task true = returned_large task (return_of task)
+return_large task false = refl
+
+-- so does every built command
 pub keeps_large : (task : PrivateTask) (command : Command) → IsBuiltCommand command → (local_after task command).large ≡ task.large
 keeps_large task (commands.Set reg bytes) built = refl
 keeps_large task (commands.Get reg) built = refl
 keeps_large task (commands.Ksec byte) built = refl
 keeps_large task commands.Yield built = refl
+keeps_large task (commands.Peek from len) built = refl
+keeps_large task (commands.Poke from bytes) built = refl
+keeps_large task commands.Sigreturn built = return_large task task.handling
 keeps_large task (commands.Fork name) built = refl
+keeps_large task (commands.Kill name signo) built = refl
 keeps_large task other built = absurd built
+
+-- a kill leaves it too
+pub killed_large : (why : Why) (task : PrivateTask) → (killed why task).large ≡ task.large
+killed_large why task = by_cause (is_frame_cause why)
+  where
+    by_cause : (b : Bool) → (if b then record task { file = refused_file task } else task).large ≡ task.large
+    by_cause true = refl
+    by_cause false = refl
 
 -- ---- lists
 

@@ -88,19 +88,24 @@ local_no_grow m t ran u task order None is = within (nat_lt ran m.script.quantum
     within true is = cc
     within false is = cc
 
--- a task that grows had no room for tiles
-pub grow_small : (m : Machine) (t ran u : ℕ) (task : PrivateTask) (order : Option Order) → place_event m t ran task order ≡ Some (Grow u) → task.large ≡ false
-grow_small m t ran u task None is = within (nat_lt ran m.script.quantum && not task.handling) is
+-- a Grow is the event of a line that traps
+pub grow_line : (m : Machine) (t ran u : ℕ) (task : PrivateTask) (order : Option Order) → place_event m t ran task order ≡ Some (Grow u) → (at : Order) × (order ≡ Some at) × (traps task at.command ≡ true)
+grow_line m t ran u task None is = within (nat_lt ran m.script.quantum && not task.handling) is
   where
-    within : (b : Bool) → (if b then Some (End t) else None) ≡ Some (Grow u) → task.large ≡ false
+    within : (b : Bool) → (if b then Some (End t) else None) ≡ Some (Grow u) → (at : Order) × (None ≡ Some at) × (traps task at.command ≡ true)
     within true is = absurd (cc)
     within false is = absurd (cc)
-grow_small m t ran u task (Some order) is = by_tests (is_outer order.command) (traps task order.command) refl is
+grow_line m t ran u task (Some order) is = by_tests (is_outer order.command) (traps task order.command) refl is
   where
-    by_tests : (outer trap : Bool) → traps task order.command ≡ trap → (if outer then Some (Outer t order.number (outer_reply m.script m.blocks t order.command)) else (if trap then Some (trap_event m t task) else local_event m t ran task order (refusal task order.command))) ≡ Some (Grow u) → task.large ≡ false
+    by_tests : (outer trap : Bool) → traps task order.command ≡ trap → (if outer then Some (Outer t order.number (outer_reply m.script m.blocks t order.command)) else (if trap then Some (trap_event m t task) else local_event m t ran task order (refusal task order.command))) ≡ Some (Grow u)
+        → (at : Order) × (Some order ≡ Some at) × (traps task at.command ≡ true)
     by_tests true trap test is = absurd (cc)
-    by_tests false true test is = small task order.command test
+    by_tests false true test is = (order, refl, test)
     by_tests false false test is = absurd (local_no_grow m t ran u task order (refusal task order.command) is)
+
+-- a task that grows had no room for tiles
+pub grow_small : (m : Machine) (t ran u : ℕ) (task : PrivateTask) (order : Option Order) → place_event m t ran task order ≡ Some (Grow u) → task.large ≡ false
+grow_small m t ran u task order is = let line = grow_line m t ran u task order is in small task line.0.command line.2
 
 -- ---- an outer line
 

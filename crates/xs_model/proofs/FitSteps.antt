@@ -25,7 +25,7 @@ use Rattle.xs_model.specs.State.{BlockState, Machine, opening_block, turn_cpu, s
 use Rattle.xs_model.specs.Outer.{freed, is_blocked, task_left, outer_own, outer_reach}
 use Rattle.xs_model.specs.Due.{due}
 use Rattle.xs_model.specs.Machine.{started, ran_in, ran_line, own, blocks_after, IsStep, machine, IsLegalPast}
-use Rattle.xs_model.specs.Laws.{NeverIdle}
+use Rattle.xs_model.specs.Runs.{NeverIdle}
 use Rattle.xs_model.proofs.LineNumbers.{AreLinesFound, lines_found}
 use Rattle.xs_model.proofs.NameLaws.{IsHandled, line_named, named_handled}
 use Rattle.xs_model.proofs.MachineShape.{many_blocks}
@@ -42,12 +42,12 @@ use Rattle.xs_model.proofs.ShortTurns.{turns_within}
 use Rattle.xs_model.proofs.TurnFits.{IsFit, Fits, fit_map, freed_fit, started_fit, ran_fit, reach_fit, turn_goes}
 
 -- Every block is fit.
-abbrev AllFit : Script → List BlockState → Type 0
+abbrev pub AllFit : Script → List BlockState → Type 0
 AllFit script blocks = (v : ℕ) → Fits (slice_get script.blocks v) (slice_get blocks v)
 
 -- What the steps need of a script: its lines are found, its handlers are local and end with their return, and the signals
 -- that its bodies send are handled.
-record IsTidy (script : Script) : Type 0 where
+pub record IsTidy (script : Script) : Type 0 where
   pub found : AreLinesFound script
   pub inner : AreHandlersLocal script
   pub returns : (t : ℕ) (lines : Block) → slice_get script.blocks t ≡ Some lines → is_handler lines.handler ≡ true
@@ -56,7 +56,7 @@ record IsTidy (script : Script) : Type 0 where
 -- ---- one block changed
 
 -- the block at a place, where both are there
-fit_at : (lines : Option Block) (block : Option BlockState) (l : Block) (b : BlockState) → lines ≡ Some l → block ≡ Some b → Fits lines block → IsFit l b
+pub fit_at : (lines : Option Block) (block : Option BlockState) (l : Block) (b : BlockState) → lines ≡ Some l → block ≡ Some b → Fits lines block → IsFit l b
 fit_at None block l b known at fit = absurd (cc)
 fit_at (Some lines) None l b known at fit = absurd (cc)
 fit_at (Some lines) (Some block) l b known at fit =
@@ -189,7 +189,7 @@ opening_fit rows (block ∷ blocks) zero = record { handler = λ is. absurd (bot
 opening_fit rows (block ∷ blocks) (suc v) = opening_fit rows blocks v
 
 -- after each legal past they are fit
-all_fit : (script : Script) (past : List Event) → IsTidy script → IsLegalPast script past → AllFit script (machine script past).blocks
+pub all_fit : (script : Script) (past : List Event) → IsTidy script → IsLegalPast script past → AllFit script (machine script past).blocks
 all_fit script [] tidy legal = opening_fit script.layout script.blocks
 all_fit script (event ∷ past) tidy legal =
     let m = machine script past in
@@ -199,7 +199,7 @@ all_fit script (event ∷ past) tidy legal =
     subst (λ (s : Script). AllFit s (blocks_after m.script event m.blocks)) same next
 
 -- a valid script
-tidy_of : (script : Script) → IsValid script → IsTidy script
+pub tidy_of : (script : Script) → IsValid script → IsTidy script
 tidy_of script valid = record {
   found = lines_found script valid;
   inner = handlers_local script valid;

@@ -21,6 +21,7 @@ mod NameLaws
 mod BuiltSteps
 mod UnseenLaws
 mod StepLaws
+mod SentLaws
 mod TasksStay
 mod TaskWrites
 mod TaskSets
@@ -47,4 +48,7 @@ mod FitSteps
 mod BirthPlaces
 mod Bearing
 mod Births
+mod SignalLaws
+mod PendingLaws
+mod QuietLaws
 mod Unscheduled

@@ -10,11 +10,12 @@ use Rattle.xs_model.specs.declared.event.Event.TheVariants.{Local, Outer}
 use Rattle.xs_model.specs.declared.stage.Stage.{Stage}
 use Rattle.xs_model.specs.declared.stage.Stage.TheVariants.{Unborn, Ready, Turn, Stopped, Waiting, Ended}
 use Rattle.xs_model.specs.Script.{block_named, command_at}
+use Rattle.xs_model.specs.Line.{killed}
 use Rattle.xs_model.specs.State.{BlockState, is_plain, is_ready, is_parent, changed}
 use Rattle.xs_model.specs.Outer.{wake, let_go, freed, born, outer_reach, outer_own}
 use Rattle.xs_model.specs.Machine.{goes_on, ran_line, own, ended_with, blocks_after, machine}
 use Rattle.xs_model.specs.Ready.{was_waiting, was_idle, was_in_turn, risen, risers, ready_list}
-use Rattle.xs_model.specs.Laws.{StartTakes, LocalKeeps, LocalRises, ForkRises, EndKeeps}
+use Rattle.xs_model.specs.Laws.{StartTakes, LocalKeeps, LocalRises, ForkRises, EndKeeps, KillKeeps}
 use Rattle.xs_model.proofs.LegalTurns.{machine_script}
 
 -- who is ready is none of these
@@ -190,7 +191,7 @@ fork_rises script past t line cpu ran reply name block state lines turn at birth
     ∙ ap (λ (command : Option Command). risers m.blocks (changed t (outer_own script command reply) (outer_reach script t command reply m.blocks))) at in
     ap (λ (list : List ℕ). ready_list script past ++ list) (by_script ∙ all)
 
--- ---- an end where nobody waits or is stopped
+-- ---- an end or a kill where nobody waits or is stopped
 
 -- a plain stage stays
 pub plain_stays : (may : Bool) (t : ℕ) (s : Stage) → is_plain s ≡ true → let_go may (wake t s) ≡ s
@@ -209,24 +210,31 @@ plain_freed t (b ∷ blocks) plain =
     let rest = plain_freed t blocks plain.1 in
     ap (λ (x : BlockState). x ∷ map (freed t) blocks) here ∙ ap (λ (xs : List BlockState). b ∷ xs) rest
 
--- nobody rises by an end
-risen_ended : (was : Stage → Bool) → Apart was → (i t : ℕ) (blocks : List BlockState) → risen was i blocks (changed t (λ (block : BlockState). ended_with block.task block) blocks) ≡ []
-risen_ended was apart i t [] = refl
-risen_ended was apart i zero (b ∷ blocks) = rw (never (was b.stage)) (risen_same was apart (i + 1) blocks)
+-- nobody rises by what leaves its block not ready
+risen_over : (was : Stage → Bool) → Apart was → (f : BlockState → BlockState) → ((b : BlockState) → is_ready (f b).stage ≡ false) → (i t : ℕ) (blocks : List BlockState) → risen was i blocks (changed t f blocks) ≡ []
+risen_over was apart f over i t [] = refl
+risen_over was apart f over i zero (b ∷ blocks) =
+    let off : (was b.stage && is_ready (f b).stage) ≡ false = ap (λ (ready : Bool). was b.stage && ready) (over b) ∙ never (was b.stage) in
+    rw off (risen_same was apart (i + 1) blocks)
   where
     never : (x : Bool) → (x && false) ≡ false
     never true = refl
     never false = refl
-risen_ended was apart i (suc t) (b ∷ blocks) = rw (apart b.stage) (risen_ended was apart (i + 1) t blocks)
+risen_over was apart f over i (suc t) (b ∷ blocks) = rw (apart b.stage) (risen_over was apart f over (i + 1) t blocks)
+
+-- the ready list after what ends a block
+over_keeps : (f : BlockState → BlockState) → ((b : BlockState) → is_ready (f b).stage ≡ false) → (t : ℕ) (blocks : List BlockState) → AllByRecursion (λ (block : BlockState). is_plain block.stage ≡ true) blocks → (list : List ℕ) → list ++ risers blocks (changed t f (map (freed t) blocks)) ≡ list
+over_keeps f over t blocks plain list =
+    let one = risen_over was_waiting waiting_apart f over 0 t blocks in
+    let two = risen_over was_idle idle_apart f over 0 t blocks in
+    let three = risen_over was_in_turn turn_apart f over 0 t blocks in
+    let none_is : risers blocks (changed t f blocks) ≡ [] = rw (one, two, three) refl in
+    ap (λ (xs : List BlockState). list ++ risers blocks (changed t f xs)) (plain_freed t blocks plain) ∙ ap (λ (rising : List ℕ). list ++ rising) none_is ∙ append-nil list
 
 -- an end makes nobody ready
 pub end_keeps : EndKeeps
-end_keeps script past t plain =
-    let m = machine script past in
-    let one = risen_ended was_waiting waiting_apart 0 t m.blocks in
-    let two = risen_ended was_idle idle_apart 0 t m.blocks in
-    let three = risen_ended was_in_turn turn_apart 0 t m.blocks in
-    let none_is : risers m.blocks (changed t (λ (block : BlockState). ended_with block.task block) m.blocks) ≡ [] = rw (one, two, three) refl in
-    let freed_is : risers m.blocks (changed t (λ (block : BlockState). ended_with block.task block) (map (freed t) m.blocks)) ≡ [] =
-    ap (λ (xs : List BlockState). risers m.blocks (changed t (λ (block : BlockState). ended_with block.task block) xs)) (plain_freed t m.blocks plain) ∙ none_is in
-    ap (λ (list : List ℕ). ready_list script past ++ list) freed_is ∙ append-nil (ready_list script past)
+end_keeps script past t plain = over_keeps (λ (block : BlockState). ended_with block.task block) (λ b. refl) t (machine script past).blocks plain (ready_list script past)
+
+-- so does a kill
+pub kill_keeps : KillKeeps
+kill_keeps script past t signo why plain = over_keeps (λ (block : BlockState). ended_with (killed why block.task) block) (λ b. refl) t (machine script past).blocks plain (ready_list script past)

@@ -21,7 +21,7 @@ use Rattle.xs_model.specs.Note.{task_of}
 use Rattle.xs_model.specs.State.{BlockState, opening_stage, opening_block, is_parent, stage_at, changed}
 use Rattle.xs_model.specs.Outer.{is_held, is_blocked, wake, let_go, bear, born, stage_left, outer_own}
 use Rattle.xs_model.specs.Machine.{started, goes_on, ran_in, ran_line, own, reach, blocks_after, machine}
-use Rattle.xs_model.specs.Laws.{TurnsShort}
+use Rattle.xs_model.specs.Runs.{TurnsShort}
 use Rattle.xs_model.proofs.Touched.{Touched, Stays, Wakes, Frees, Continues, Signals, Takes, Fills, Bears, Alike, reach_touches}
 use Rattle.xs_model.proofs.EventTurns.{filled_stage}
 use Rattle.xs_model.proofs.LegalTurns.{machine_script}

@@ -3,24 +3,25 @@ use Rattle.std.proofs.Common.{◌≡◌, ℕ, zero, suc, ◌<◌, true, false, L
 use Rattle.std.proofs.lemmas.Bool.{lt-ltb, ne_eqb}
 use Rattle.std.specs.Prelude.{Option, Some, None, slice_get, nat_lt}
 use Rattle.std.specs.Option.{option_map}
-use Rattle.xs_base.specs.Task.{child_of}
+use Rattle.xs_base.specs.Task.{PrivateTask, child_of}
 use Rattle.xs_model.specs.declared.script.Command.{Command}
 use Rattle.xs_model.specs.declared.script.Command.TheVariants as commands
 use Rattle.xs_model.specs.declared.script.Block.{Block}
 use Rattle.xs_model.specs.declared.script.Script.{Script}
 use Rattle.xs_model.specs.declared.event.Reply.{Reply}
-use Rattle.xs_model.specs.declared.event.Reply.TheVariants as replies
+use Rattle.xs_model.specs.declared.event.Why.{Why}
 use Rattle.xs_model.specs.declared.event.Event.{Event}
-use Rattle.xs_model.specs.declared.event.Event.TheVariants.{Start, Local, Outer, End}
+use Rattle.xs_model.specs.declared.event.Event.TheVariants.{Start, Local, Outer, Kill, End}
 use Rattle.xs_model.specs.declared.stage.Stage.{Stage}
 use Rattle.xs_model.specs.declared.stage.Stage.TheVariants.{Ready}
 use Rattle.xs_model.specs.Script.{is_outer, block_named, command_at, is_user}
+use Rattle.xs_model.specs.Line.{traps, refusal}
 use Rattle.xs_model.specs.Held.{held}
 use Rattle.xs_model.specs.State.{BlockState, turn_cpu, is_on_cpu, changed}
-use Rattle.xs_model.specs.Outer.{freed, bear, born, outer_reply, outer_reach, outer_own}
-use Rattle.xs_model.specs.Due.{how_of, signal_of, start_due}
+use Rattle.xs_model.specs.Outer.{freed, bear, born, outer_reply, reach_of, outer_reach, outer_own}
+use Rattle.xs_model.specs.Due.{how_of, signal_of, due, start_due}
 use Rattle.xs_model.specs.Machine.{started, ran_line, own, machine}
-use Rattle.xs_model.specs.Laws.{MachineKnown, StartIsStep, LocalIsStep, ForkIsStep, EndIsStep, FreeTells, FreeFound, StartedBlock, RanBlock, ForkedBlock, BornBlock, EndedBlock, StartOthers, LocalOthers, ForkOthers, EndOthers}
+use Rattle.xs_model.specs.Laws.{MachineKnown, StartIsStep, LocalIsStep, OuterIsStep, RefusalIsStep, EndIsStep, FreeTells, FreeFound, StartedBlock, RanBlock, ForkedBlock, BornBlock, KilledBlock, EndedBlock, StartOthers, LocalOthers, ForkOthers, EndOthers, KilledOthers}
 use Rattle.xs_model.proofs.LegalTurns.{machine_script, machine_past, none_else}
 use Rattle.xs_model.proofs.MachineShape.{many_blocks}
 use Rattle.xs_model.proofs.EventTurns.{changed_same, changed_other}
@@ -72,17 +73,31 @@ end_is_step script past t cpu ran block lines acts turn within at outside =
     let more = within_quantum script past ran within in
     record { acts = acts; is_due = rw (here, known, stage, at, more, outside) refl }
 
--- a fork is a step
-pub fork_is_step : ForkIsStep
-fork_is_step script past t name block order acts fork =
+-- an outer line is a step
+pub outer_is_step : OuterIsStep
+outer_is_step script past t cpu ran block lines order acts turn at outer =
     let m = machine script past in
-    let here = fork.turn.state in
-    let known = lines_there script past t fork.lines fork.turn.lines_are in
-    let stage = fork.turn.stage in
-    let at = fork.at in
-    let outer : is_outer order.command ≡ true = ap is_outer fork.is in
-    let reply : outer_reply m.script m.blocks t order.command ≡ replies.Done = ap (outer_reply m.script m.blocks t) fork.is in
-    record { acts = acts; is_due = rw (here, known, stage, at, outer, reply) refl }
+    let here = turn.state in
+    let known = lines_there script past t lines turn.lines_are in
+    let stage = turn.stage in
+    let is : due m t ≡ Some (Outer t order.number (outer_reply m.script m.blocks t order.command)) = rw (here, known, stage, at, outer) refl in
+    record { acts = acts; is_due = is ∙ ap (λ (s : Script). Some (Outer t order.number (outer_reply s m.blocks t order.command))) (machine_script script past) }
+
+-- a line that is refused is neither outer nor one that traps
+refused_inner : (task : PrivateTask) (command : Command) (why : Why) → refusal task command ≡ Some why → (is_outer command ≡ false) × (traps task command ≡ false)
+refused_inner task commands.Sigreturn why is = (refl, refl)
+refused_inner task other why is = absurd (cc)
+
+-- the kill by a return that is refused is a step
+pub refusal_is_step : RefusalIsStep
+refusal_is_step script past t cpu ran block lines order why acts turn at refused =
+    let here = turn.state in
+    let known = lines_there script past t lines turn.lines_are in
+    let stage = turn.stage in
+    let both = refused_inner block.task order.command why refused in
+    let inner = both.0 in
+    let quiet = both.1 in
+    record { acts = acts; is_due = rw (here, known, stage, at, inner, quiet, refused) refl }
 
 -- ---- free processors
 
@@ -115,13 +130,13 @@ ran_block script past t line reply block here =
     changed_same t (own m.script (Local t line reply)) m.blocks ∙ ap (option_map (own m.script (Local t line reply))) here
     ∙ ap (λ (s : Script). Some (ran_line s (command_at s t line) block)) (machine_script script past)
 
--- the blocks after a fork
-after_fork : (script : Script) (past : List Event) (t line : ℕ) (reply : Reply) (name : List ℕ) → command_at script t line ≡ Some (commands.Fork name)
-    → (machine script (Outer t line reply ∷ past)).blocks ≡ changed t (outer_own script (Some (commands.Fork name)) reply) (changed (block_named script name) (born t (slice_get (machine script past).blocks t)) (machine script past).blocks)
-after_fork script past t line reply name at =
+-- the blocks after an outer line
+pub after_outer : (script : Script) (past : List Event) (t line : ℕ) (reply : Reply) (command : Command) → command_at script t line ≡ Some command
+    → (machine script (Outer t line reply ∷ past)).blocks ≡ changed t (outer_own script (Some command) reply) (reach_of script t command reply (machine script past).blocks)
+after_outer script past t line reply command at =
     let blocks = (machine script past).blocks in
     ap (λ (s : Script). changed t (outer_own s (command_at s t line) reply) (outer_reach s t (command_at s t line) reply blocks)) (machine_script script past)
-    ∙ ap (λ (command : Option Command). changed t (outer_own script command reply) (outer_reach script t command reply blocks)) at
+    ∙ ap (λ (found : Option Command). changed t (outer_own script found reply) (outer_reach script t found reply blocks)) at
 
 -- a fork's own block
 pub forked_block : ForkedBlock
@@ -130,7 +145,7 @@ forked_block script past t line reply name block at apart here =
     let c = block_named script name in
     let f = outer_own script (Some (commands.Fork name)) reply in
     let g = born t (slice_get blocks t) in
-    ap (λ (bs : List BlockState). slice_get bs t) (after_fork script past t line reply name at) ∙ changed_same t f (changed c g blocks)
+    ap (λ (bs : List BlockState). slice_get bs t) (after_outer script past t line reply (commands.Fork name) at) ∙ changed_same t f (changed c g blocks)
     ∙ ap (option_map f) (changed_other c t g blocks (λ (same : c ≡ t). apart (sym same)) ∙ here)
 
 -- a fork's child
@@ -142,7 +157,7 @@ born_block script past t line reply name block state at here birth =
     let g = born t (slice_get blocks t) in
     let is_born : g state ≡ record { stage = Ready; task = child_of block.task; parent = Some t; pending = [] } =
     ap (λ (parent : Option BlockState). born t parent state) here ∙ ap (λ (s : Stage). bear t block.task s state) birth.unborn in
-    ap (λ (bs : List BlockState). slice_get bs c) (after_fork script past t line reply name at) ∙ changed_other t c f (changed c g blocks) birth.apart
+    ap (λ (bs : List BlockState). slice_get bs c) (after_outer script past t line reply (commands.Fork name) at) ∙ changed_other t c f (changed c g blocks) birth.apart
     ∙ changed_same c g blocks ∙ ap (option_map g) birth.here ∙ ap Some is_born
 
 -- a fork leaves the others
@@ -152,7 +167,7 @@ fork_others script past t line v reply name at other apart =
     let c = block_named script name in
     let f = outer_own script (Some (commands.Fork name)) reply in
     let g = born t (slice_get blocks t) in
-    ap (λ (bs : List BlockState). slice_get bs v) (after_fork script past t line reply name at) ∙ changed_other t v f (changed c g blocks) other ∙ changed_other c v g blocks apart
+    ap (λ (bs : List BlockState). slice_get bs v) (after_outer script past t line reply (commands.Fork name) at) ∙ changed_other t v f (changed c g blocks) other ∙ changed_other c v g blocks apart
 
 -- the place of a block in a changed list
 map_at : (f : BlockState → BlockState) (blocks : List BlockState) (t : ℕ) (block : BlockState) → slice_get blocks t ≡ Some block → slice_get (map f blocks) t ≡ Some (f block)
@@ -165,6 +180,13 @@ pub ended_block : EndedBlock
 ended_block script past t block here =
     let m = machine script past in
     changed_same t (own m.script (End t)) (map (freed t) m.blocks) ∙ ap (option_map (own m.script (End t))) (map_at (freed t) m.blocks t block here)
+
+-- a kill's own block
+pub killed_block : KilledBlock
+killed_block script past t signo why block here =
+    let m = machine script past in
+    let f = own m.script (Kill t signo why) in
+    changed_same t f (map (freed t) m.blocks) ∙ ap (option_map f) (map_at (freed t) m.blocks t block here)
 
 -- a Start leaves the others
 pub start_others : StartOthers
@@ -179,3 +201,9 @@ pub end_others : EndOthers
 end_others script past t v plain other =
     let m = machine script past in
     changed_other t v (own m.script (End t)) (map (freed t) m.blocks) other ∙ ap (λ (blocks : List BlockState). slice_get blocks v) (plain_freed t m.blocks plain)
+
+-- so does a kill
+pub killed_others : KilledOthers
+killed_others script past t v signo why plain other =
+    let m = machine script past in
+    changed_other t v (own m.script (Kill t signo why)) (map (freed t) m.blocks) other ∙ ap (λ (blocks : List BlockState). slice_get blocks v) (plain_freed t m.blocks plain)

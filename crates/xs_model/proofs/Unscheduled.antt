@@ -13,7 +13,7 @@ use Rattle.xs_model.specs.Note.{task_of, act_of, mark}
 use Rattle.xs_model.specs.State.{Machine, turn_of, none_lives}
 use Rattle.xs_model.specs.Machine.{after, IsStep, machine}
 use Rattle.xs_model.specs.Counts.{numbers_of, exec_of, is_section_act, in_section, reloads, saves, is_return_line, counted_by, is_event_on, counts_of, file_of, file_after, remaining}
-use Rattle.xs_model.specs.Laws.{scheduled, MachineUnscheduled, LegalUnscheduled, WholeUnscheduled, MarkUnscheduled, CountsUnscheduled, RemainsUnscheduled}
+use Rattle.xs_model.specs.Runs.{scheduled, MachineUnscheduled, LegalUnscheduled, WholeUnscheduled, MarkUnscheduled, CountsUnscheduled, RemainsUnscheduled}
 
 -- the machine of the script with another schedule
 abbrev with_schedule : List ℕ → Machine → Machine

@@ -31,6 +31,9 @@ abbrev pub body_lines : List Block → ℕ
 body_lines [] = 0
 body_lines (block ∷ blocks) = length block.body + body_lines blocks
 
--- the most events of a run
+-- the most events of a run of these blocks, and of a script
+abbrev pub most_of : List Block → ℕ
+most_of blocks = 4 * body_lines blocks + 2 * (all_kill_lines blocks * longest_handler blocks) + 8 * length blocks
+
 abbrev pub most_events : Script → ℕ
-most_events script = 4 * body_lines script.blocks + 2 * (all_kill_lines script.blocks * longest_handler script.blocks) + 8 * length script.blocks
+most_events script = most_of script.blocks

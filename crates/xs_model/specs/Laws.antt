@@ -1,5 +1,5 @@
--- The laws of the machine, as statements.
-use Rattle.std.specs.Prelude.{◌≡◌, ℕ, ◌<◌, ◌≤◌, true, false, ◌&&◌, ◌==◌, List, [], ◌∷◌, ◌++◌, length, slice_get, Option, Some, None}
+-- The laws of the machine, as statements. Those of whole runs are in Runs.antt.
+use Rattle.std.specs.Prelude.{◌≡◌, ℕ, ◌<◌, ◌≤◌, Bool, true, false, ◌&&◌, ◌||◌, ◌==◌, List, [], ◌∷◌, ◌++◌, length, slice_get, Option, Some, None}
 use Rattle.std.specs.List.{AllByRecursion}
 use Rattle.xs_base.specs.declared.words.How.{How}
 use Rattle.xs_base.specs.declared.words.Signo.{Signo}
@@ -10,20 +10,19 @@ use Rattle.xs_model.specs.declared.script.Order.{Order}
 use Rattle.xs_model.specs.declared.script.Block.{Block}
 use Rattle.xs_model.specs.declared.script.Script.{Script}
 use Rattle.xs_model.specs.declared.event.Reply.{Reply}
-use Rattle.xs_model.specs.declared.event.Reply.TheVariants as replies
+use Rattle.xs_model.specs.declared.event.Why.{Why}
 use Rattle.xs_model.specs.declared.event.Event.{Event}
-use Rattle.xs_model.specs.declared.event.Event.TheVariants.{Start, Local, Outer, Grow, Kill, End}
-use Rattle.xs_model.specs.Script.{IsValid, IsBuilt, IsBuiltCommand, is_outer, is_fork, block_named, command_at, is_user}
-use Rattle.xs_model.specs.Line.{line_at, next_line, local_reply, traps, refusal}
-use Rattle.xs_model.specs.Note.{Sets, task_of, act_of, notes_of, is_at, cpu_of, mark, last}
+use Rattle.xs_model.specs.declared.event.Event.TheVariants.{Start, Local, Outer, Kill, End}
+use Rattle.xs_model.specs.Script.{IsValid, IsBuilt, IsBuiltCommand, is_outer, is_fork, is_kill, is_return, block_named, command_at, is_user}
+use Rattle.xs_model.specs.Line.{line_at, next_line, local_reply, traps, refusal, killed}
+use Rattle.xs_model.specs.Note.{Sets, task_of, is_count, act_of, notes_of, is_at, cpu_of, mark, last}
 use Rattle.xs_model.specs.Held.{sets_block, held}
 use Rattle.xs_model.specs.declared.stage.Stage.TheVariants.{Unborn, Ready, Turn}
-use Rattle.xs_model.specs.State.{BlockState, is_plain, is_ready, is_active, stage_at, turn_of, has_turn, none_lives}
-use Rattle.xs_model.specs.Due.{how_of, signal_of, due}
+use Rattle.xs_model.specs.State.{BlockState, is_plain, is_ready, lives, is_active, stage_at, turn_of, has_turn, none_lives}
+use Rattle.xs_model.specs.Outer.{insert, outer_reply}
+use Rattle.xs_model.specs.Due.{violation, how_of, signal_of}
 use Rattle.xs_model.specs.Machine.{started, goes_on, ran_line, ended_with, may_act, IsStep, machine, IsLegalPast, IsMachineOf}
-use Rattle.xs_model.specs.History.{IsWhole}
 use Rattle.xs_model.specs.Ready.{one_if, occurs, ready_list}
-use Rattle.xs_model.specs.Replay.{IsReplay}
 use Rattle.xs_model.specs.Counts.{is_event_on, counts_of, remains}
 use Rattle.xs_model.specs.Bound.{most_events}
 
@@ -144,10 +143,20 @@ ForkRises = (script : Script) (past : List Event) (t line cpu ran : ℕ) (reply 
     → IsInTurn script past t cpu ran block lines → command_at script t line ≡ Some (commands.Fork name) → IsBirth script past t (block_named script name) state
     → ready_list script (Outer t line reply ∷ past) ≡ ready_list script past ++ block_named script name ∷ t ∷ []
 
--- Where no block waits or is stopped, an end makes nobody ready.
+-- A `kill` line makes its own block ready, and no other.
+abbrev pub SentRises : Type 0
+SentRises = (script : Script) (past : List Event) (t line cpu ran : ℕ) (reply : Reply) (name : List ℕ) (signo : Signo) (block : BlockState) (lines : Block)
+    → IsInTurn script past t cpu ran block lines → command_at script t line ≡ Some (commands.Kill name signo)
+    → ready_list script (Outer t line reply ∷ past) ≡ ready_list script past ++ t ∷ []
+
+-- Where no block waits or is stopped, an end makes nobody ready, and neither does a kill.
 abbrev pub EndKeeps : Type 0
 EndKeeps = (script : Script) (past : List Event) (t : ℕ) → AllByRecursion (λ (block : BlockState). is_plain block.stage ≡ true) (machine script past).blocks
     → ready_list script (End t ∷ past) ≡ ready_list script past
+
+abbrev pub KillKeeps : Type 0
+KillKeeps = (script : Script) (past : List Event) (t : ℕ) (signo : Signo) (why : Why) → AllByRecursion (λ (block : BlockState). is_plain block.stage ≡ true) (machine script past).blocks
+    → ready_list script (Kill t signo why ∷ past) ≡ ready_list script past
 
 -- ---- events that a processor or a block doesn't see
 
@@ -208,11 +217,19 @@ LocalIsStep = (script : Script) (past : List Event) (t cpu ran : ℕ) (block : B
     → line_at lines block.task ≡ Some order → is_outer order.command ≡ false → traps block.task order.command ≡ false → refusal block.task order.command ≡ None
     → IsStep (machine script past) (Local t order.number (local_reply block.task order.command))
 
--- The event of a fork is a step, however many Local events the turn has made.
-abbrev pub ForkIsStep : Type 0
-ForkIsStep = (script : Script) (past : List Event) (t : ℕ) (name : List ℕ) (block : BlockState) (order : Order)
-    → may_act (machine script past).committing t ≡ true → IsAtFork script past t name block order
-    → IsStep (machine script past) (Outer t order.number replies.Done)
+-- The event of an outer line is a step, however many Local events the turn has made.
+abbrev pub OuterIsStep : Type 0
+OuterIsStep = (script : Script) (past : List Event) (t cpu ran : ℕ) (block : BlockState) (lines : Block) (order : Order)
+    → may_act (machine script past).committing t ≡ true → IsInTurn script past t cpu ran block lines
+    → line_at lines block.task ≡ Some order → is_outer order.command ≡ true
+    → IsStep (machine script past) (Outer t order.number (outer_reply script (machine script past).blocks t order.command))
+
+-- The kill by a return that is refused is a step, however many Local events the turn has made.
+abbrev pub RefusalIsStep : Type 0
+RefusalIsStep = (script : Script) (past : List Event) (t cpu ran : ℕ) (block : BlockState) (lines : Block) (order : Order) (why : Why)
+    → may_act (machine script past).committing t ≡ true → IsInTurn script past t cpu ran block lines
+    → line_at lines block.task ≡ Some order → refusal block.task order.command ≡ Some why
+    → IsStep (machine script past) (Kill t violation why)
 
 -- The end of a body within the quantum is a step.
 abbrev pub EndIsStep : Type 0
@@ -248,12 +265,33 @@ BornBlock = (script : Script) (past : List Event) (t line : ℕ) (reply : Reply)
     → slice_get (machine script past).blocks t ≡ Some block → IsBirth script past t (block_named script name) state
     → slice_get (machine script (Outer t line reply ∷ past)).blocks (block_named script name) ≡ Some (record { stage = Ready; task = child_of block.task; parent = Some t; pending = [] })
 
+-- the pending signals of a block, which is sent one or not
+abbrev pub pending_after : Bool → Signo → List Signo → List Signo
+pending_after true signo pending = insert signo pending
+pending_after false signo pending = pending
+
+-- What a `kill` line makes of its own block, to which it may send the signal itself, and of another one.
+abbrev pub SentOwn : Type 0
+SentOwn = (script : Script) (past : List Event) (t line : ℕ) (reply : Reply) (name : List ℕ) (signo : Signo) (block : BlockState) → command_at script t line ≡ Some (commands.Kill name signo)
+    → slice_get (machine script past).blocks t ≡ Some block
+    → slice_get (machine script (Outer t line reply ∷ past)).blocks t ≡ Some (record block { stage = Ready; task = parked (next_line block.task); pending = pending_after (is_count reply && (block_named script name == t)) signo block.pending })
+
+abbrev pub SentOther : Type 0
+SentOther = (script : Script) (past : List Event) (t line other : ℕ) (reply : Reply) (name : List ℕ) (signo : Signo) (block : BlockState) → command_at script t line ≡ Some (commands.Kill name signo)
+    → (t ≡ other → ⊥) → slice_get (machine script past).blocks other ≡ Some block
+    → slice_get (machine script (Outer t line reply ∷ past)).blocks other ≡ Some (record block { pending = pending_after (is_count reply && (block_named script name == other)) signo block.pending })
+
+-- a task that is killed has ended
+abbrev pub KilledBlock : Type 0
+KilledBlock = (script : Script) (past : List Event) (t : ℕ) (signo : Signo) (why : Why) (block : BlockState) → slice_get (machine script past).blocks t ≡ Some block
+    → slice_get (machine script (Kill t signo why ∷ past)).blocks t ≡ Some (ended_with (killed why block.task) block)
+
 abbrev pub EndedBlock : Type 0
 EndedBlock = (script : Script) (past : List Event) (t : ℕ) (block : BlockState) → slice_get (machine script past).blocks t ≡ Some block
     → slice_get (machine script (End t ∷ past)).blocks t ≡ Some (ended_with block.task block)
 
--- A Start and a local line leave the other blocks, and so does an end where no block waits or is stopped. A fork leaves
--- those that aren't its child.
+-- A Start and a local line leave the other blocks, and so do an end and a kill where no block waits or is stopped. A fork
+-- leaves those that aren't its child.
 abbrev pub StartOthers : Type 0
 StartOthers = (script : Script) (past : List Event) (t cpu other : ℕ) (how : How) (signal : Option Signo) → (t ≡ other → ⊥)
     → slice_get (machine script (Start t cpu how signal ∷ past)).blocks other ≡ slice_get (machine script past).blocks other
@@ -271,6 +309,10 @@ abbrev pub EndOthers : Type 0
 EndOthers = (script : Script) (past : List Event) (t other : ℕ) → AllByRecursion (λ (block : BlockState). is_plain block.stage ≡ true) (machine script past).blocks
     → (t ≡ other → ⊥) → slice_get (machine script (End t ∷ past)).blocks other ≡ slice_get (machine script past).blocks other
 
+abbrev pub KilledOthers : Type 0
+KilledOthers = (script : Script) (past : List Event) (t other : ℕ) (signo : Signo) (why : Why) → AllByRecursion (λ (block : BlockState). is_plain block.stage ≡ true) (machine script past).blocks
+    → (t ≡ other → ⊥) → slice_get (machine script (Kill t signo why ∷ past)).blocks other ≡ slice_get (machine script past).blocks other
+
 -- The block is still there, with the private task that it had.
 pub record HasTask (blocks : List BlockState) (t : ℕ) (task : PrivateTask) : Type 0 where
   pub block : BlockState
@@ -283,44 +325,63 @@ TaskStays = (script : Script) (past : List Event) (event : Event) (t : ℕ) (blo
     → (task_of event ≡ t → ⊥) → (act_of script event ≡ Sets t → ⊥) → slice_get (machine script past).blocks t ≡ Some block → (block.stage ≡ Unborn → ⊥)
     → HasTask (machine script (event ∷ past)).blocks t block.task
 
+-- ---- signals and lines
+
+-- An outer line stands in a body: no handler runs at it. A return stands in a handler, which runs.
+abbrev pub OuterOutside : Type 0
+OuterOutside = (script : Script) (t : ℕ) (lines : Block) (task : PrivateTask) (order : Order) → IsValid script → slice_get script.blocks t ≡ Some lines
+    → line_at lines task ≡ Some order → is_outer order.command ≡ true → task.handling ≡ false
+
+abbrev pub ReturnInside : Type 0
+ReturnInside = (script : Script) (t : ℕ) (lines : Block) (task : PrivateTask) (order : Order) → IsValid script → slice_get script.blocks t ≡ Some lines
+    → line_at lines task ≡ Some order → is_return order.command ≡ true → task.handling ≡ true
+
+-- A `kill` line is one of a user task, and names a block that is a user task.
+abbrev pub SentToUser : Type 0
+SentToUser = (script : Script) (t : ℕ) (lines : Block) (task : PrivateTask) (order : Order) (name : List ℕ) (signo : Signo) → IsValid script → slice_get script.blocks t ≡ Some lines
+    → line_at lines task ≡ Some order → order.command ≡ commands.Kill name signo
+    → (is_user script t ≡ true) × (block_named script name < length script.blocks) × (is_user script (block_named script name) ≡ true)
+
+-- A kernel thread has no signal, and no handler runs.
+abbrev pub ThreadsQuiet : Type 0
+ThreadsQuiet = (script : Script) (past : List Event) (t : ℕ) (block : BlockState) → IsValid script → IsLegalPast script past → is_user script t ≡ false
+    → slice_get (machine script past).blocks t ≡ Some block → (block.pending ≡ []) × (block.task.handling ≡ false)
+
+-- Pending signals stand in the order of their numbers, each once.
+abbrev pub ArePending : ℕ → List Signo → Type 0
+ArePending last [] = Unit {0}
+ArePending last (signo ∷ pending) = (last < signo.number) × ArePending signo.number pending
+
+abbrev pub PendingRise : Type 0
+PendingRise = (script : Script) (past : List Event) (t : ℕ) (block : BlockState) → slice_get (machine script past).blocks t ≡ Some block → ArePending 0 block.pending
+
+-- A block that isn't born, or has ended, has no pending signal.
+abbrev pub QuietUnlessAlive : Type 0
+QuietUnlessAlive = (script : Script) (past : List Event) (t : ℕ) (block : BlockState) → IsValid script → IsLegalPast script past
+    → slice_get (machine script past).blocks t ≡ Some block → lives block.stage ≡ false → block.pending ≡ []
+
 -- ---- scripts of the forms of this version
 
--- A block that isn't stopped and doesn't wait, with no handler that runs, no pending signal, and no room for TILEDATA.
+-- A block that isn't stopped and doesn't wait, with no room for TILEDATA.
 pub record IsPlainBlock (block : BlockState) : Type 0 where
   pub stage : is_plain block.stage ≡ true
-  pub outside : block.task.handling ≡ false
-  pub quiet : block.pending ≡ []
   pub small : block.task.large ≡ false
-
--- a Start without a signal, a local line, a fork or an end
-abbrev pub IsPlainEvent : Script → Event → Type 0
-IsPlainEvent script (Start t cpu how signal) = signal ≡ None
-IsPlainEvent script (Local t line reply) = Unit {0}
-IsPlainEvent script (Outer t line reply) = (name : List ℕ) × (command_at script t line ≡ Some (commands.Fork name)) × (reply ≡ replies.Done)
-IsPlainEvent script (Grow t) = ⊥
-IsPlainEvent script (Kill t signo why) = ⊥
-IsPlainEvent script (End t) = Unit {0}
 
 -- The blocks of such a script are plain.
 abbrev pub BuiltBlocks : Type 0
 BuiltBlocks = (script : Script) (past : List Event) → IsBuilt script → IsLegalPast script past → AllByRecursion IsPlainBlock (machine script past).blocks
 
--- So are its events.
-abbrev pub BuiltEvents : Type 0
-BuiltEvents = (script : Script) (past : List Event) → IsValid script → IsBuilt script → IsLegalPast script past → AllByRecursion (IsPlainEvent script) past
-
--- An end in such a script makes nobody ready.
+-- An end in such a script makes nobody ready, and neither does a kill.
 abbrev pub BuiltEnds : Type 0
 BuiltEnds = (script : Script) (past : List Event) (t : ℕ) → IsBuilt script → IsLegalPast script past → ready_list script (End t ∷ past) ≡ ready_list script past
 
--- A line of such a script is a fork or local, doesn't trap, and is no return.
+abbrev pub BuiltKills : Type 0
+BuiltKills = (script : Script) (past : List Event) (t : ℕ) (signo : Signo) (why : Why) → IsBuilt script → IsLegalPast script past → ready_list script (Kill t signo why ∷ past) ≡ ready_list script past
+
+-- An outer line of such a script is a fork or a `kill`, and no line of it traps.
 abbrev pub BuiltLines : Type 0
 BuiltLines = (task : PrivateTask) (command : Command) → IsBuiltCommand command
-    → (is_outer command ≡ is_fork command) × (traps task command ≡ false) × (refusal task command ≡ None)
-
--- A script has one replay at most.
-abbrev pub OneReplay : Type 0
-OneReplay = (script : Script) (one other : List Event) → IsReplay script one → IsReplay script other → one ≡ other
+    → (is_outer command ≡ (is_fork command || is_kill command)) × (traps task command ≡ false)
 
 -- While a block lives, one is ready or in a turn.
 abbrev pub NeverStuck : Type 0
@@ -330,44 +391,3 @@ NeverStuck = (script : Script) (past : List Event) → IsValid script → IsLega
 -- No history has more events than the bound of its script.
 abbrev pub FewEvents : Type 0
 FewEvents = (script : Script) (past : List Event) → IsValid script → IsLegalPast script past → length past ≤ most_events script
-
--- ---- a turn goes on
-
--- While a turn lasts, its Local events are fewer than the quantum.
-abbrev pub TurnsShort : Type 0
-TurnsShort = (script : Script) (past : List Event) (t cpu ran : ℕ) → IsValid script
-    → stage_at (machine script past).blocks t ≡ Turn cpu ran → ran < script.quantum
-
--- A block in a turn has a next event.
-abbrev pub NeverIdle : Type 0
-NeverIdle = (script : Script) (past : List Event) (t cpu : ℕ) → IsValid script → IsLegalPast script past
-    → turn_of (machine script past).blocks t ≡ Some cpu → (event : Event) × (due (machine script past) t ≡ Some event)
-
--- ---- the schedule
-
--- the script with another schedule
-abbrev pub scheduled : List ℕ → Script → Script
-scheduled sched script = record script { sched = sched }
-
--- Only the replay looks at the schedule. The blocks after a past don't depend on it, nor does which commit is open.
-abbrev pub MachineUnscheduled : Type 0
-MachineUnscheduled = (script : Script) (sched : List ℕ) (past : List Event)
-    → ((machine (scheduled sched script) past).blocks ≡ (machine script past).blocks) × ((machine (scheduled sched script) past).committing ≡ (machine script past).committing)
-
--- A legal past is legal with any schedule.
-abbrev pub LegalUnscheduled : Type 0
-LegalUnscheduled = (script : Script) (sched : List ℕ) (past : List Event) → IsLegalPast script past → IsLegalPast (scheduled sched script) past
-
--- A whole history is whole with any.
-abbrev pub WholeUnscheduled : Type 0
-WholeUnscheduled = (script : Script) (sched : List ℕ) (history : List Event) → IsWhole script history → IsWhole (scheduled sched script) history
-
--- The marks of a past, its counts and what remains in a bank don't depend on it.
-abbrev pub MarkUnscheduled : Type 0
-MarkUnscheduled = (script : Script) (sched : List ℕ) (past : List Event) (cpu : ℕ) → mark (scheduled sched script) past cpu ≡ mark script past cpu
-
-abbrev pub CountsUnscheduled : Type 0
-CountsUnscheduled = (script : Script) (sched : List ℕ) (past : List Event) (cpu : ℕ) → counts_of (scheduled sched script) past cpu ≡ counts_of script past cpu
-
-abbrev pub RemainsUnscheduled : Type 0
-RemainsUnscheduled = (script : Script) (sched : List ℕ) (past : List Event) (cpu : ℕ) → remains (scheduled sched script) past cpu ≡ remains script past cpu

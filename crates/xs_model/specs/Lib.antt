@@ -14,3 +14,4 @@ pub mod Ready
 pub mod Replay
 pub mod Counts
 pub mod Laws
+pub mod Runs

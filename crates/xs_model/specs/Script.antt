@@ -79,6 +79,10 @@ abbrev pub is_fork : Command → Bool
 is_fork (Fork name) = true
 is_fork other = false
 
+abbrev pub is_kill : Command → Bool
+is_kill (Kill name signo) = true
+is_kill other = false
+
 abbrev pub is_yield : Command → Bool
 is_yield Yield = true
 is_yield other = false
@@ -130,10 +134,18 @@ abbrev pub AreNumbered : ℕ → List Order → Type 0
 AreNumbered number [] = Unit {0}
 AreNumbered number (order ∷ orders) = (order.number ≡ number) × AreNumbered (number + 1) orders
 
--- The numbers of the orders are those of their lines, where line `first` is the first block's own first line.
+-- how many lines a handler has, with the one that begins it
+abbrev pub handler_span : List Order → ℕ
+handler_span [] = 0
+handler_span (order ∷ orders) = length orders + 2
+
+-- The numbers of the orders are those of their lines, where line `first` is the first block's own first line: a handler's
+-- lines stand after the line that begins it, and this one after those of the body.
 abbrev pub AreBlocksNumbered : ℕ → List Block → Type 0
 AreBlocksNumbered first [] = Unit {0}
-AreBlocksNumbered first (block ∷ blocks) = AreNumbered (first + 1) block.body × AreBlocksNumbered (first + length block.body + 2) blocks
+AreBlocksNumbered first (block ∷ blocks) =
+    AreNumbered (first + 1) block.body × AreNumbered (first + length block.body + 2) block.handler
+    × AreBlocksNumbered (first + length block.body + handler_span block.handler + 2) blocks
 
 -- Numbers of lines that rise, each above the one before, the first above `last`.
 abbrev pub AreRising : ℕ → List ℕ → Type 0
@@ -219,16 +231,17 @@ IsBuiltCommand (Set reg bytes) = IsBuiltName reg
 IsBuiltCommand (Get reg) = IsBuiltName reg
 IsBuiltCommand (Ksec byte) = Unit {0}
 IsBuiltCommand Yield = Unit {0}
+IsBuiltCommand (Peek at len) = Unit {0}
+IsBuiltCommand (Poke at bytes) = Unit {0}
+IsBuiltCommand Sigreturn = Unit {0}
 IsBuiltCommand (Fork name) = Unit {0}
+IsBuiltCommand (Kill name signo) = Unit {0}
 IsBuiltCommand other = ⊥
 
--- a kind of block that the program has
-abbrev pub is_built_kind : BlockKind → Bool
-is_built_kind Task = true
-is_built_kind Child = true
-is_built_kind Kthread = true
+abbrev pub AreBuilt : List Order → Type 0
+AreBuilt orders = AllByRecursion (λ (order : Order). IsBuiltCommand order.command) orders
 
--- A script of the forms of this version: blocks without handlers, and commands that the program has.
+-- A script of the forms of this version: the lines of its bodies and of its handlers are commands that the program has.
 pub record IsBuilt (script : Script) : Type 0 where
-  pub kinds : AllByRecursion (λ (block : Block). (is_built_kind block.kind ≡ true) × (block.handler ≡ [])) script.blocks
-  pub commands : AllByRecursion (λ (block : Block). AllByRecursion (λ (order : Order). IsBuiltCommand order.command) block.body) script.blocks
+  pub bodies : AllByRecursion (λ (block : Block). AreBuilt block.body) script.blocks
+  pub handlers : AllByRecursion (λ (block : Block). AreBuilt block.handler) script.blocks

@@ -1,6 +1,7 @@
 //! The laws of the machine, for proofs: a caller has a law by calling its function, which does nothing.
 
-ghost use Rattle.xs_model.specs.Laws.{LinesFound, TurnsKnown, TurnsApart, TurnsMarked, TwoNumbers, ReadyOnce, FirstReady, NobodyReady, StartTakes, LocalKeeps, LocalRises, EndKeeps, BuiltBlocks, BuiltEvents, BuiltEnds, BuiltLines, MarkUnseen, CountsUnseen, RemainsUnseen, LastUnseen, HeldUnseen, MachineKnown, TasksValid, StartIsStep, LocalIsStep, EndIsStep, FreeTells, FreeFound, StartedBlock, RanBlock, EndedBlock, StartOthers, LocalOthers, EndOthers, TaskStays, OneReplay, NeverStuck, FewEvents, TurnsShort, NeverIdle, ForkBears, BornByFork, UnbornUnseen, ForkIsStep, ForkRises, ForkedBlock, BornBlock, ForkOthers, MachineUnscheduled, LegalUnscheduled, WholeUnscheduled, MarkUnscheduled, CountsUnscheduled, RemainsUnscheduled};
+ghost use Rattle.xs_model.specs.Laws.{LinesFound, TurnsKnown, TurnsApart, TurnsMarked, TwoNumbers, ReadyOnce, FirstReady, NobodyReady, StartTakes, LocalKeeps, LocalRises, EndKeeps, KillKeeps, SentRises, BuiltBlocks, BuiltEnds, BuiltKills, BuiltLines, MarkUnseen, CountsUnseen, RemainsUnseen, LastUnseen, HeldUnseen, MachineKnown, TasksValid, StartIsStep, LocalIsStep, EndIsStep, FreeTells, FreeFound, StartedBlock, RanBlock, EndedBlock, SentOwn, SentOther, KilledBlock, KilledOthers, OuterOutside, ReturnInside, SentToUser, ThreadsQuiet, PendingRise, QuietUnlessAlive, StartOthers, LocalOthers, EndOthers, TaskStays, NeverStuck, FewEvents, ForkBears, BornByFork, UnbornUnseen, OuterIsStep, RefusalIsStep, ForkRises, ForkedBlock, BornBlock, ForkOthers};
+ghost use Rattle.xs_model.specs.Runs.{OneReplay, TurnsShort, NeverIdle, MachineUnscheduled, LegalUnscheduled, WholeUnscheduled, MarkUnscheduled, CountsUnscheduled, RemainsUnscheduled};
 
 /// A line of a valid script is found by its number.
 pub fn lines_found()
@@ -28,22 +29,34 @@ pub fn ready_once()
 {}
 
 /// Whom an event makes ready: a Start nobody, a local line its own block where it ends the turn, a fork its child and
-/// then its own block, and an end nobody where no block waits or is stopped.
+/// then its own block, a `kill` line its own block, and an end or a kill nobody where no block waits or is stopped.
 pub fn risers_known()
     ensures start { StartTakes }
     ensures goes_on { LocalKeeps }
     ensures ends { LocalRises }
     ensures fork { ForkRises }
+    ensures sent { SentRises }
     ensures end { EndKeeps }
+    ensures kill { KillKeeps }
 {}
 
-/// A script of the forms of this version has plain blocks, plain events and plain lines, and an end in it makes nobody
-/// ready.
+/// A script of the forms of this version has plain blocks and lines, and an end or a kill in it makes nobody ready.
 pub fn built_is_plain()
     ensures blocks { BuiltBlocks }
-    ensures events { BuiltEvents }
     ensures end { BuiltEnds }
+    ensures kill { BuiltKills }
     ensures lines { BuiltLines }
+{}
+
+/// Where lines stand that reach another block or return from a handler, and to whom signals are sent; which signals are
+/// pending of a block.
+pub fn signals_known()
+    ensures outer { OuterOutside }
+    ensures inside { ReturnInside }
+    ensures users { SentToUser }
+    ensures threads { ThreadsQuiet }
+    ensures rise { PendingRise }
+    ensures quiet { QuietUnlessAlive }
 {}
 
 /// At a fork the child isn't born: a block is born by a fork alone, each child is forked by one line at most, and who
@@ -81,11 +94,12 @@ pub fn machine_known()
     ensures valid { TasksValid }
 {}
 
-/// Which Start, local line, fork and end is a step.
+/// Which Start, local line, outer line, refused return and end is a step.
 pub fn steps_known()
     ensures start { StartIsStep }
     ensures local { LocalIsStep }
-    ensures fork { ForkIsStep }
+    ensures outer { OuterIsStep }
+    ensures refused { RefusalIsStep }
     ensures end { EndIsStep }
 {}
 
@@ -95,18 +109,22 @@ pub fn free_processors_known()
     ensures found { FreeFound }
 {}
 
-/// What a Start, a local line, a fork and an end make of their own block, and a fork of its child; and that they leave
-/// the others.
+/// What a Start, a local line, a fork, a `kill` line, an end and a kill make of their own block, a fork of its child and
+/// a `kill` line of the block to which it sends its signal; and that they leave the others.
 pub fn blocks_known()
     ensures started { StartedBlock }
     ensures ran { RanBlock }
     ensures forked { ForkedBlock }
     ensures born { BornBlock }
+    ensures sent { SentOwn }
+    ensures sent_other { SentOther }
     ensures ended { EndedBlock }
+    ensures killed { KilledBlock }
     ensures start_others { StartOthers }
     ensures local_others { LocalOthers }
     ensures fork_others { ForkOthers }
     ensures end_others { EndOthers }
+    ensures kill_others { KilledOthers }
 {}
 
 /// Another block's event leaves the private task of a block that was born, unless it sets its registers.

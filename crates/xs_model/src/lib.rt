@@ -4,6 +4,7 @@
 //! histories, and the laws of the machine, each on a function that a caller has it from.
 #![tactic(auto)]
 
+mod bound;
 mod copying;
 mod event;
 mod items;
@@ -12,12 +13,13 @@ mod name;
 mod script;
 mod stage;
 
+pub use bound::most_events;
 pub use event::{Event, History, Reply, Why};
 pub use items::Items;
 pub use laws::{
     a_fork_bears, blocks_known, built_is_plain, few_events, free_processors_known, lines_found,
     machine_known, never_idle, never_stuck, one_replay, ready_once, risers_known, schedule_unseen,
-    steps_known, task_stays, turns_known, two_numbers, unseen_stays,
+    signals_known, steps_known, task_stays, turns_known, two_numbers, unseen_stays,
 };
 pub use name::Name;
 pub use script::{Block, BlockKind, Command, Named, Order, Script};

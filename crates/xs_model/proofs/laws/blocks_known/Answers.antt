@@ -1,4 +1,5 @@
-use Rattle.xs_model.proofs.StepLaws.{started_block, ran_block, forked_block, born_block, ended_block, start_others, local_others, fork_others, end_others}
+use Rattle.xs_model.proofs.StepLaws.{started_block, ran_block, forked_block, born_block, ended_block, killed_block, start_others, local_others, fork_others, end_others, killed_others}
+use Rattle.xs_model.proofs.SentLaws.{sent_own, sent_other}
 use Rattle.xs_model.proofs.laws.blocks_known.Goals as goal
 
 pub returns-clause-started : goal.returns-clause-started
@@ -27,3 +28,15 @@ returns-clause-born c = born_block
 
 pub returns-clause-fork_others : goal.returns-clause-fork_others
 returns-clause-fork_others c = fork_others
+
+pub returns-clause-sent : goal.returns-clause-sent
+returns-clause-sent c = sent_own
+
+pub returns-clause-sent_other : goal.returns-clause-sent_other
+returns-clause-sent_other c = sent_other
+
+pub returns-clause-killed : goal.returns-clause-killed
+returns-clause-killed c = killed_block
+
+pub returns-clause-kill_others : goal.returns-clause-kill_others
+returns-clause-kill_others c = killed_others

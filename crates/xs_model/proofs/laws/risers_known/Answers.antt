@@ -1,4 +1,5 @@
-use Rattle.xs_model.proofs.RiserLaws.{start_takes, local_keeps, local_rises, fork_rises, end_keeps}
+use Rattle.xs_model.proofs.RiserLaws.{start_takes, local_keeps, local_rises, fork_rises, end_keeps, kill_keeps}
+use Rattle.xs_model.proofs.SentLaws.{sent_rises}
 use Rattle.xs_model.proofs.laws.risers_known.Goals as goal
 
 pub returns-clause-start : goal.returns-clause-start
@@ -15,3 +16,9 @@ returns-clause-end c = end_keeps
 
 pub returns-clause-fork : goal.returns-clause-fork
 returns-clause-fork c = fork_rises
+
+pub returns-clause-sent : goal.returns-clause-sent
+returns-clause-sent c = sent_rises
+
+pub returns-clause-kill : goal.returns-clause-kill
+returns-clause-kill c = kill_keeps
