@@ -180,19 +180,22 @@ copied_area rows lease new bits control file area class id form are good stands 
         first false false true n off on = absurd (true≢false off)
         first false false false n off on = absurd (false≢true on)
 
--- its marks are those of the other area that its class has a place for
-pub copied_marks : (rows : List Row) (lease : Lease) (new from : List ℕ) (c : ℕ) → IsTaskArea rows lease → ((c : ℕ) → has (xstate_bv new) c ≡ is_named rows lease.area.bytes.items (xstate_bv from) (control_in from) c) → control_in new ≡ control_in from → is_marked_in new c ≡ (is_marked_in from c && has (class_features rows lease.class) c)
-copied_marks rows lease new from c area are is =
-    ap (λ b. b || ((c == 1) && not (control_in new == initial_mxcsr))) (are c ∙ named rows lease area (xstate_bv from) (control_in from) c)
-    ∙ ap (λ n. ((has (xstate_bv from) c && has (class_features rows lease.class) c) || ((c == 1) && not (control_in from == initial_mxcsr))) || ((c == 1) && not (n == initial_mxcsr))) is
-    ∙ twice (has (xstate_bv from) c && has (class_features rows lease.class) c) ((c == 1) && not (control_in from == initial_mxcsr))
-    ∙ within (cases_eq c 1)
+-- its marks are the components of the class in these bits, and SSE where MXCSR isn't initial
+pub named_marks : (rows : List Row) (lease : Lease) (new : List ℕ) (bits control c : ℕ) → IsTaskArea rows lease → ((c : ℕ) → has (xstate_bv new) c ≡ is_named rows lease.area.bytes.items bits control c) → control_in new ≡ control → is_marked_in new c ≡ ((has bits c && has (class_features rows lease.class) c) || ((c == 1) && not (control == initial_mxcsr)))
+named_marks rows lease new bits control c area are is =
+    ap (λ b. b || ((c == 1) && not (control_in new == initial_mxcsr))) (are c ∙ named rows lease area bits control c)
+    ∙ ap (λ n. ((has bits c && has (class_features rows lease.class) c) || ((c == 1) && not (control == initial_mxcsr))) || ((c == 1) && not (n == initial_mxcsr))) is
+    ∙ twice (has bits c && has (class_features rows lease.class) c) ((c == 1) && not (control == initial_mxcsr))
   where
     twice : (a b : Bool) → ((a || b) || b) ≡ (a || b)
     twice true b = refl
     twice false true = refl
     twice false false = refl
 
+-- after a copy its marks are those of the other area that its class has a place for
+pub copied_marks : (rows : List Row) (lease : Lease) (new from : List ℕ) (c : ℕ) → IsTaskArea rows lease → ((c : ℕ) → has (xstate_bv new) c ≡ is_named rows lease.area.bytes.items (xstate_bv from) (control_in from) c) → control_in new ≡ control_in from → is_marked_in new c ≡ (is_marked_in from c && has (class_features rows lease.class) c)
+copied_marks rows lease new from c area are is = named_marks rows lease new (xstate_bv from) (control_in from) c area are is ∙ within (cases_eq c 1)
+  where
     on : (a b n : Bool) → b ≡ true → ((a && b) || n) ≡ ((a || n) && b)
     on true true n h = refl
     on false true true h = refl

@@ -6,10 +6,12 @@
 mod forking;
 mod laws;
 mod memory;
+mod putting;
 mod task;
 
 pub use forking::{copy_lease, fork_into, inherit};
-pub use laws::a_saved_task_is_parked;
+pub use laws::{a_saved_task_is_parked, an_area_has_its_places};
 pub use memory::Mem;
+pub use putting::put_parts;
 pub use task::Task;
 pub use xs_area::{Area, Class, Lease};
