@@ -1,0 +1,5 @@
+pub mod CheckLemmas
+pub mod MarkLemmas
+pub mod ReplyLemmas
+pub mod LegacyLemmas
+pub mod WriteLemmas
