@@ -1,12 +1,13 @@
 -- One line more of the blocks, where the second pass finds nothing wrong with it, and what it finds.
-use Rattle.std.proofs.Common.{◌≡◌, ℕ, ◌+◌, List, [], ◌∷◌, ◌++◌, length, ◌<◌, true, Option, Some, None, Ok, Err, Result, OnOk, IfErr, inl, inr, refl, sym, ◌∙◌, ap, subst, arith, length-append}
+use Rattle.std.proofs.Common.{◌≡◌, ℕ, ◌+◌, Bool, true, false, ◌&&◌, List, [], ◌∷◌, ◌++◌, length, ◌<◌, Option, Some, None, Ok, Err, Result, OnOk, IfErr, inl, inr, refl, sym, ◌∙◌, ap, subst, arith, length-append}
 use Rattle.std.specs.List.{AllByRecursion, flat_map}
 use Rattle.std.proofs.lemmas.List.{append-nil}
 use Rattle.xs_model.specs.declared.script.Block.{Block}
 use Rattle.xs_model.specs.declared.script.Command.{Command}
 use Rattle.xs_model.specs.declared.script.Command.TheVariants as commands
 use Rattle.xs_model.specs.Names.{forked_name}
-use Rattle.xs_model.specs.Script.{AreDistinct}
+use Rattle.xs_model.specs.Script.{AreDistinct, AreBlocksNumbered}
+use Rattle.xs_script.specs.declared.body.Begun.{Begun}
 use Rattle.xs_script.specs.declared.body.Body.{Body}
 use Rattle.xs_script.specs.declared.commands.Scope.{Scope}
 use Rattle.xs_script.specs.declared.line.Line.{Line}
@@ -17,62 +18,69 @@ use Rattle.xs_script.specs.declared.refusal.ScriptError.TheVariants as errors
 use Rattle.xs_script.specs.ScriptLine.{IsLine, line_text, kept_line, kept_command}
 use Rattle.xs_script.specs.Grammar.{lines_text, block_lines}
 use Rattle.xs_script.specs.LineOrder.{Stand, AtBlock, may_end, next}
-use Rattle.xs_script.specs.Refusal.{AreLines, Fails, rows_of_line, fork_of_line, forks_of, CommandFails, IsKnown, AreKnown}
+use Rattle.xs_script.specs.Refusal.{AreLines, Fails, rows_of_line, in_handler_after, fork_of_line, forks_of, is_among, is_outer_line, AreOutside, CommandFails, IsKnown, AreKnown}
 use Rattle.xs_script.specs.Front.{IsFront, IsNext, ExplainsLine, ExplainsNext}
 use Rattle.xs_script.specs.Commands.{PassesCommand}
 use Rattle.xs_script.specs.Outline.{AreWholeBlocks}
-use Rattle.xs_script.specs.Body.{names_of, with_begun, blocks_of, begun_stand, body_stand, begun_lines, lines_of_body, AreBlocks, TakesLine, PassesLine, Adds, ReadsLine, LineNames, ExplainsAdded, FailsHere, ExplainsBody, IsReadSoFar, ByBlockLine, ByBlockCommand, ExplainsBlocks, AreBlocksOf}
+use Rattle.xs_script.specs.Body.{names_of, begun_stand, begun_inside, body_stand, begun_lines, lines_of_body, TakesLine, PassesLine, Adds, ReadsLine, LineNames, ExplainsAdded, FailsHere, ExplainsBody, IsReadSoFar, ByBlockLine, ByBlockCommand, ExplainsBlocks, AreBlocksOf}
 use Rattle.xs_script.proofs.Fronts.{lines_more, front_none, front_push, front_fails}
 use Rattle.xs_script.proofs.KeptOrder.{kept_next}
 use Rattle.xs_script.proofs.HeadSteps.{next_fails}
 use Rattle.xs_script.proofs.Spellings.{one_first_line}
 use Rattle.xs_script.proofs.BodyLines.{all_push, distinct_push, no_table}
 use Rattle.xs_script.proofs.Children.{forks_push}
-use Rattle.xs_script.proofs.KnownLines.{known_command, kept_fails}
+use Rattle.xs_script.proofs.KnownLines.{and_false, fork_parts, known_command, passes_outside, kept_fails}
 use Rattle.xs_script.proofs.OneRefusal.{not_over}
 use Rattle.xs_script.proofs.WholeScripts.{IsAmongBlocks, among_step}
+use Rattle.xs_script.proofs.Stands.{HasNoLimit, step_within, body_inside, leads_inside, outside_push}
 
 -- ---- a line with which nothing is wrong
 
--- It is kept whole and known, and forks no child again.
-pub record IsKept (scope : Scope) (forked : List (List ℕ)) (l : Line) (after : List (List ℕ)) : Type 0 where
+-- It is kept whole and known, forks no child again, and is no outer command in a handler.
+pub record IsKept (scope : Scope) (inside : Bool) (forked : List (List ℕ)) (l : Line) (after : List (List ℕ)) : Type 0 where
   pub whole : kept_line l ≡ l
   pub known : IsKnown scope l
   pub forked_is : after ≡ forked ++ fork_of_line l
   pub once : AreDistinct forked → AreDistinct after
+  pub outside : (inside && is_outer_line l) ≡ false
 
-command_once : (scope : Scope) (forked after : List (List ℕ)) (command : Command) → PassesCommand scope forked command → after ≡ forked ++ forked_name command → AreDistinct forked → AreDistinct after
-command_once scope forked after (commands.Fork name) h is d = subst AreDistinct (sym is) (distinct_push forked name d h.1)
-command_once scope forked after other h is d = subst AreDistinct (sym (is ∙ append-nil forked)) d
+command_once : (scope : Scope) (inside : Bool) (forked after : List (List ℕ)) (command : Command) → PassesCommand scope inside forked command → after ≡ forked ++ forked_name command → AreDistinct forked → AreDistinct after
+command_once scope inside forked after (commands.Fork name) h is d =
+    subst AreDistinct (sym is) (distinct_push forked name d (fork_parts (is_among name scope.children) (is_among name forked) inside h).1)
+command_once scope inside forked after other h is d = subst AreDistinct (sym (is ∙ append-nil forked)) d
 
-plain_kept : (scope : Scope) (forked after : List (List ℕ)) (l : Line) → kept_line l ≡ l → IsKnown scope l → fork_of_line l ≡ [] → after ≡ forked → IsKept scope forked l after
-plain_kept scope forked after l whole known none same = record {
+plain_kept : (scope : Scope) (inside : Bool) (forked after : List (List ℕ)) (l : Line) → kept_line l ≡ l → IsKnown scope l → fork_of_line l ≡ [] → is_outer_line l ≡ false → after ≡ forked → IsKept scope inside forked l after
+plain_kept scope inside forked after l whole known none local same = record {
   whole = whole;
   known = known;
   forked_is = rw none (same ∙ sym (append-nil forked));
   once = λ d. subst AreDistinct (sym same) d;
+  outside = rw local (and_false inside);
 }
 
-line_kept : (scope : Scope) (forked after : List (List ℕ)) (l : Line) → IsLine l → rows_of_line (kept_line l) ≡ [] → PassesLine scope forked (kept_line l) after → IsKept scope forked l after
-line_kept scope forked after lines.Version fits bare h = plain_kept scope forked after lines.Version refl tt refl h
-line_kept scope forked after (lines.Machine named) fits bare h = plain_kept scope forked after (lines.Machine named) refl tt refl h
-line_kept scope forked after (lines.Row r) fits bare h = absurd (cc bare)
-line_kept scope forked after (lines.Cpus n) fits bare h = plain_kept scope forked after (lines.Cpus n) refl tt refl h
-line_kept scope forked after (lines.Quantum n) fits bare h = plain_kept scope forked after (lines.Quantum n) refl tt refl h
-line_kept scope forked after (lines.Large n) fits bare h = plain_kept scope forked after (lines.Large n) refl tt refl h
-line_kept scope forked after (lines.Sched entries) fits bare h = plain_kept scope forked after (lines.Sched entries) refl tt refl h
-line_kept scope forked after (lines.Begin kind name) fits bare h = plain_kept scope forked after (lines.Begin kind name) refl tt refl h
-line_kept scope forked after (lines.Order command) fits bare h =
-    let k = known_command scope forked command fits h.0 in
+line_kept : (scope : Scope) (inside : Bool) (forked after : List (List ℕ)) (l : Line) → IsLine l → HasNoLimit l → rows_of_line (kept_line l) ≡ [] → PassesLine scope inside forked (kept_line l) after → IsKept scope inside forked l after
+line_kept scope inside forked after lines.Version fits within bare h = plain_kept scope inside forked after lines.Version refl tt refl refl h
+line_kept scope inside forked after (lines.Machine named) fits within bare h = plain_kept scope inside forked after (lines.Machine named) refl tt refl refl h
+line_kept scope inside forked after (lines.Row r) fits within bare h = absurd (cc bare)
+line_kept scope inside forked after (lines.Cpus n) fits within bare h = plain_kept scope inside forked after (lines.Cpus n) refl tt refl refl h
+line_kept scope inside forked after (lines.Quantum n) fits within bare h = plain_kept scope inside forked after (lines.Quantum n) refl tt refl refl h
+line_kept scope inside forked after (lines.Large n) fits within bare h = plain_kept scope inside forked after (lines.Large n) refl tt refl refl h
+line_kept scope inside forked after (lines.Sched entries) fits within bare h = plain_kept scope inside forked after (lines.Sched entries) refl tt refl refl h
+line_kept scope inside forked after (lines.Begin kind name) fits within bare h = plain_kept scope inside forked after (lines.Begin kind name) refl tt refl refl h
+line_kept scope inside forked after (lines.Order command) fits within bare h =
+    let k = known_command scope inside forked command fits within h.0 in
     record {
       whole = ap lines.Order k.0;
       known = k.1;
       forked_is = h.1 ∙ ap (λ (c : Command). forked ++ forked_name c) k.0;
-      once = command_once scope forked after (kept_command command) h.0 h.1;
+      once = command_once scope inside forked after (kept_command command) h.0 h.1;
+      outside = passes_outside scope inside forked command fits h.0;
     }
-line_kept scope forked after lines.End fits bare h = plain_kept scope forked after lines.End refl tt refl h
+line_kept scope inside forked after (lines.NoSignal name number) fits within bare h = plain_kept scope inside forked after (lines.NoSignal name number) refl tt refl refl h
+line_kept scope inside forked after lines.Handler fits within bare h = plain_kept scope inside forked after lines.Handler refl tt refl refl h
+line_kept scope inside forked after lines.End fits within bare h = plain_kept scope inside forked after lines.End refl tt refl refl h
 
-body_among : (blocks : List Block) (begun : Option Block) → IsAmongBlocks (begun_stand blocks begun)
+body_among : (blocks : List Block) (begun : Option Begun) → IsAmongBlocks (begun_stand blocks begun)
 body_among blocks None = tt
 body_among blocks (Some b) = tt
 
@@ -80,9 +88,9 @@ body_among blocks (Some b) = tt
 pub reads_none : (scope : Scope) (first : ℕ) (text : List ℕ) (body : Body) → body.blocks ≡ [] → body.begun ≡ None → body.forked ≡ [] → IsReadSoFar scope first text body first text
 reads_none scope first text body blocks begun forked =
     rw (blocks, begun, forked) record {
-      fits = record { few = omega arith; distinct = tt; numbered = tt; plain = tt };
+      numbered = record { whole = tt; begun = tt };
       front = front_none (AtBlock []) text;
-      known = record { each = tt; once = tt };
+      known = record { each = tt; once = tt; outside = tt };
       forked_is = refl;
       next = omega arith;
     }
@@ -95,11 +103,10 @@ some_blocks (b ∷ blocks) h = omega arith
 pub reads_all : (scope : Scope) (first number : ℕ) (text left : List ℕ) (body : Body) (blocks : List Block) → length left ≡ 0 → IsReadSoFar scope first text body number left → body.blocks ≡ blocks → body.begun ≡ None → may_end (body_stand body) ≡ true → AreBlocksOf scope first text blocks
 reads_all scope first number text [] body blocks over h is none ends =
     let later = flat_map block_lines blocks in
-    let lined : lines_of_body body ≡ later = ap (λ (begun : Option Block). flat_map block_lines body.blocks ++ begun_lines begun) none ∙ append-nil (flat_map block_lines body.blocks) ∙ ap (λ (bs : List Block). flat_map block_lines bs) is in
-    let all : blocks_of body ≡ blocks = ap (with_begun body.blocks) none ∙ is in
+    let lined : lines_of_body body ≡ later = ap (λ (begun : Option Begun). flat_map block_lines body.blocks ++ begun_lines begun) none ∙ append-nil (flat_map block_lines body.blocks) ∙ ap (λ (bs : List Block). flat_map block_lines bs) is in
     let stand : body_stand body ≡ AtBlock (names_of blocks) = ap (begun_stand body.blocks) none ∙ ap (λ (bs : List Block). AtBlock (names_of bs)) is in
     record {
-      fits = subst (AreBlocks first) all h.fits;
+      numbered = subst (AreBlocksNumbered first) is h.numbered.whole;
       some = some_blocks blocks (sym (ap may_end stand) ∙ ends);
       front = subst (λ (s : Stand). IsFront (AtBlock []) text later s []) stand (subst (λ (ls : List Line). IsFront (AtBlock []) text ls (body_stand body) []) lined h.front);
       known = subst (AreKnown scope) lined h.known;
@@ -110,19 +117,24 @@ reads_all scope first number text (b ∷ left) body blocks over h is none ends =
 pub reads_on : (scope : Scope) (first number : ℕ) (text left rest : List ℕ) (body after : Body) → IsReadSoFar scope first text body number left → ReadsLine scope number body left after rest → IsReadSoFar scope first text after (number + 1) rest
 reads_on scope first number text left rest body after h step =
     let taken = step.adds.taken in
-    let bare = (among_step (body_stand body) (body_stand after) (kept_line step.line) (body_among body.blocks body.begun) taken.leads).0 in
-    let k = line_kept scope body.forked after.forked step.line step.fits bare step.adds.passes in
+    let stand = body_stand body in
+    let inside = begun_inside body.begun in
+    let leads = sym (kept_next stand step.line) ∙ taken.leads in
+    let bare = (among_step stand (body_stand after) (kept_line step.line) (body_among body.blocks body.begun) taken.leads).0 in
+    let k = line_kept scope inside body.forked after.forked step.line step.fits (step_within stand (body_stand after) step.line leads) bare step.adds.passes in
     let so_far = lines_of_body body in
     let came : lines_of_body after ≡ so_far ++ step.line ∷ [] = taken.came ∙ ap (λ (l : Line). so_far ++ l ∷ []) k.whole in
     let forks : after.forked ≡ forks_of (lines_of_body after) = k.forked_is ∙ ap (λ (names : List (List ℕ)). names ++ fork_of_line step.line) h.forked_is ∙ sym (ap forks_of came ∙ forks_push so_far step.line) in
     let long : length (lines_of_body after) ≡ length so_far + 1 = ap length came ∙ length-append so_far (step.line ∷ []) in
+    let here : inside ≡ in_handler_after false so_far = body_inside body.blocks body.begun ∙ leads_inside (AtBlock []) stand so_far tt h.front.leads in
     record {
-      fits = taken.fits first h.next h.fits;
+      numbered = taken.numbered first h.next h.numbered;
       front = subst (λ (ls : List Line). IsFront (AtBlock []) text ls (body_stand after) rest) (sym came)
-          (front_push (AtBlock []) (body_stand body) (body_stand after) text left rest so_far step.line h.front step.fits step.spelled (sym (kept_next (body_stand body) step.line) ∙ taken.leads));
+          (front_push (AtBlock []) stand (body_stand after) text left rest so_far step.line h.front step.fits step.spelled leads);
       known = record {
         each = subst (λ (ls : List Line). AllByRecursion (IsKnown scope) ls) (sym came) (all_push (IsKnown scope) so_far step.line h.known.each k.known);
         once = subst AreDistinct forks (k.once (subst AreDistinct (sym h.forked_is) h.known.once));
+        outside = subst (AreOutside false) (sym came) (outside_push false so_far step.line h.known.outside (subst (λ (t : Bool). (t && is_outer_line step.line) ≡ false) here k.outside));
       };
       forked_is = forks;
       next = omega (arith, h.next, long);
@@ -131,14 +143,14 @@ reads_on scope first number text left rest body after h step =
 -- ---- what is found
 
 -- a command that is taken, whatever was forked
-pub order_adds : (scope : Scope) (number : ℕ) (body after : Body) (forked : List (List ℕ)) (command : Command) → PassesCommand scope body.forked command → forked ≡ body.forked ++ forked_name command → TakesLine number (record { blocks = body.blocks; begun = body.begun; forked = forked }) (lines.Order command) after → after.forked ≡ forked → Adds scope number body (lines.Order command) after
+pub order_adds : (scope : Scope) (number : ℕ) (body after : Body) (forked : List (List ℕ)) (command : Command) → PassesCommand scope (begun_inside body.begun) body.forked command → forked ≡ body.forked ++ forked_name command → TakesLine number (record { blocks = body.blocks; begun = body.begun; forked = forked }) (lines.Order command) after → after.forked ≡ forked → Adds scope number body (lines.Order command) after
 order_adds scope number body after forked command passes more t same = record {
-  taken = record { leads = t.leads; came = t.came; fits = t.fits };
+  taken = record { leads = t.leads; came = t.came; numbered = λ first here h. let n = t.numbered first here (record { whole = h.whole; begun = h.begun }) in record { whole = n.whole; begun = n.begun } };
   passes = (passes, same ∙ more);
 }
 
 -- whatever its end is
-pub order_added : (scope : Scope) (number : ℕ) (body after : Body) (forked : List (List ℕ)) (command : Command) (r : Result Unit ScriptError) → PassesCommand scope body.forked command → forked ≡ body.forked ++ forked_name command → OnOk r (TakesLine number (record { blocks = body.blocks; begun = body.begun; forked = forked }) (lines.Order command) after) → after.forked ≡ forked → OnOk r (Adds scope number body (lines.Order command) after)
+pub order_added : (scope : Scope) (number : ℕ) (body after : Body) (forked : List (List ℕ)) (command : Command) (r : Result Unit ScriptError) → PassesCommand scope (begun_inside body.begun) body.forked command → forked ≡ body.forked ++ forked_name command → OnOk r (TakesLine number (record { blocks = body.blocks; begun = body.begun; forked = forked }) (lines.Order command) after) → after.forked ≡ forked → OnOk r (Adds scope number body (lines.Order command) after)
 order_added scope number body after forked command (Ok u) passes more t same = order_adds scope number body after forked command passes more t same
 order_added scope number body after forked command (Err e) passes more t same = tt
 
@@ -147,24 +159,27 @@ order_refused scope number body command (Ok u) h = tt
 order_refused scope number body command (Err (errors.Refused at kind)) h = (h.0, inl h.1)
 order_refused scope number body command (Err errors.Memory) h = tt
 
-kept_here : (scope : Scope) (forked : List (List ℕ)) (l : Line) (text rest : List ℕ) (kind : Kind) → IsLine l → text ≡ line_text l ++ 10 ∷ rest → LineNames scope forked (kept_line l) kind → FailsHere scope forked text kind
-kept_here scope forked (lines.Order command) text rest kind fits e why = record { command = command; rest = rest; fits = fits; spelled = e; fails = kept_fails scope forked command kind why }
-kept_here scope forked lines.Version text rest kind fits e why = absurd why
-kept_here scope forked (lines.Machine named) text rest kind fits e why = absurd why
-kept_here scope forked (lines.Row r) text rest kind fits e why = absurd why
-kept_here scope forked (lines.Cpus n) text rest kind fits e why = absurd why
-kept_here scope forked (lines.Quantum n) text rest kind fits e why = absurd why
-kept_here scope forked (lines.Large n) text rest kind fits e why = absurd why
-kept_here scope forked (lines.Sched entries) text rest kind fits e why = absurd why
-kept_here scope forked (lines.Begin block name) text rest kind fits e why = absurd why
-kept_here scope forked lines.End text rest kind fits e why = absurd why
+kept_here : (scope : Scope) (inside : Bool) (forked : List (List ℕ)) (l : Line) (text rest : List ℕ) (kind : Kind) → IsLine l → text ≡ line_text l ++ 10 ∷ rest → LineNames scope inside forked (kept_line l) kind → FailsHere scope inside forked text kind
+kept_here scope inside forked (lines.Order command) text rest kind fits e why =
+    record { command = command; rest = rest; fits = fits; spelled = e; fails = kept_fails scope inside forked command kind why }
+kept_here scope inside forked lines.Version text rest kind fits e why = absurd why
+kept_here scope inside forked (lines.Machine named) text rest kind fits e why = absurd why
+kept_here scope inside forked (lines.Row r) text rest kind fits e why = absurd why
+kept_here scope inside forked (lines.Cpus n) text rest kind fits e why = absurd why
+kept_here scope inside forked (lines.Quantum n) text rest kind fits e why = absurd why
+kept_here scope inside forked (lines.Large n) text rest kind fits e why = absurd why
+kept_here scope inside forked (lines.Sched entries) text rest kind fits e why = absurd why
+kept_here scope inside forked (lines.Begin block name) text rest kind fits e why = absurd why
+kept_here scope inside forked (lines.NoSignal name number) text rest kind fits e why = absurd why
+kept_here scope inside forked lines.Handler text rest kind fits e why = absurd why
+kept_here scope inside forked lines.End text rest kind fits e why = absurd why
 
 -- what the line that is kept is refused with
 pub added_explains : (scope : Scope) (body : Body) (number : ℕ) (text : List ℕ) (kept : Line) (rest : List ℕ) (e : ScriptError) → IsNext text kept rest → ExplainsAdded scope body number kept e → ExplainsBody scope body number text e
 added_explains scope body number text kept rest (errors.Refused at kind) first (here, inl leads) =
     inl (subst (λ (n : ℕ). Fails (body_stand body) number text n kind) (sym here) (next_fails (body_stand body) number text kept rest kind (no_table body.blocks body.begun text) first leads))
 added_explains scope body number text kept rest (errors.Refused at kind) first (here, inr why) =
-    inr (here, kept_here scope body.forked first.line text rest kind first.fits first.spelled (subst (λ (l : Line). LineNames scope body.forked l kind) first.kept_is why))
+    inr (here, kept_here scope (begun_inside body.begun) body.forked first.line text rest kind first.fits first.spelled (subst (λ (l : Line). LineNames scope (begun_inside body.begun) body.forked l kind) first.kept_is why))
 added_explains scope body number text kept rest errors.Memory first h = tt
 
 -- the lines that a text is, after some of them and one more
@@ -181,20 +196,22 @@ lines_split (k ∷ a) (m ∷ b) l rest fa fb fl e =
     (r.0, cc (same.0, r.1))
 
 -- a refusal of the next line
-pub body_explains : (scope : Scope) (first number : ℕ) (text left : List ℕ) (body : Body) (e : ScriptError) → AreWholeBlocks text scope.children → IsReadSoFar scope first text body number left → ExplainsBody scope body number left e → ExplainsBlocks scope first text e
+pub body_explains : (scope : Scope) (first number : ℕ) (text left : List ℕ) (body : Body) (e : ScriptError) → AreWholeBlocks text scope.children scope.handled → IsReadSoFar scope first text body number left → ExplainsBody scope body number left e → ExplainsBlocks scope first text e
 body_explains scope first number text left body (errors.Refused at kind) whole h (inl why) =
     ByBlockLine (front_fails (AtBlock []) (body_stand body) first text left (lines_of_body body) at kind h.front (subst (λ (n : ℕ). Fails (body_stand body) n left at kind) h.next why))
 body_explains scope first number text left body (errors.Refused at kind) whole h (inr (here, f)) =
     let e : lines_text whole.lines ≡ lines_text (lines_of_body body) ++ (line_text (lines.Order f.command) ++ 10 ∷ f.rest) =
     sym (append-nil (lines_text whole.lines)) ∙ sym whole.front.parts ∙ h.front.parts ∙ ap (λ (bs : List ℕ). lines_text (lines_of_body body) ++ bs) f.spelled in
     let s = lines_split whole.lines (lines_of_body body) (lines.Order f.command) f.rest whole.front.lines_fit h.front.lines_fit f.fits e in
-    ByBlockCommand whole.lines whole.stand whole.front whole.ends whole.children_are (record {
+    ByBlockCommand whole.lines whole.stand whole.front whole.ends whole.children_are whole.handled_are (record {
       done = lines_of_body body;
       command = f.command;
       later = s.0;
       split = s.1;
       known = h.known;
-      fails = subst (λ (names : List (List ℕ)). CommandFails scope names f.command kind) h.forked_is f.fails;
+      fails =
+          subst (λ (t : Bool). CommandFails scope t (forks_of (lines_of_body body)) f.command kind) (body_inside body.blocks body.begun ∙ leads_inside (AtBlock []) (body_stand body) (lines_of_body body) tt h.front.leads)
+          (subst (λ (names : List (List ℕ)). CommandFails scope (begun_inside body.begun) names f.command kind) h.forked_is f.fails);
       number_is = here ∙ h.next;
     })
 body_explains scope first number text left body errors.Memory whole h why = tt

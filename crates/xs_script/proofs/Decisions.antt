@@ -15,12 +15,13 @@ use Rattle.xs_model.specs.declared.script.Command.TheVariants as commands
 use Rattle.xs_model.specs.Script.{is_name}
 use Rattle.xs_script.specs.declared.line.Line.{Line}
 use Rattle.xs_script.specs.declared.line.Line.TheVariants as lines
-use Rattle.xs_script.specs.ScriptLine.{IsNumber, IsLine, machine_name, row_text, entries_text, line_text, is_register_word}
+use Rattle.xs_script.specs.ScriptLine.{IsNumber, IsLine, machine_name, row_text, kill_text, entries_text, line_text, is_register_word}
 use Rattle.xs_script.specs.Reads.{Lacks}
 use Rattle.xs_script.specs.Parts.{IsValue, is_hex_text}
 use Rattle.xs_script.specs.Refusal.{NoLine}
-use Rattle.xs_script.proofs.Cuts.{one_cut, no_cut, Lacks-register}
+use Rattle.xs_script.proofs.Cuts.{one_cut, no_cut, Lacks-name, Lacks-register}
 use Rattle.xs_script.proofs.Entries.{lacks_space}
+use Rattle.xs_script.proofs.Spellings.{signal_number}
 use Rattle.xs_script.proofs.HexText.{hex_text, hex_text_bytes}
 use Rattle.xs_script.proofs.Readings.{length_hex, no_bytes, no_line, other_line}
 
@@ -255,6 +256,11 @@ record IsOther (bytes : List ℕ) : Type 0 where
   get : IsTextOf (List ℕ) (λ x. is_register_word x ≡ true) (λ x. codes "get " ++ x) bytes → ⊥
   ksec : IsTextOf ℕ (λ n. n < 256) (λ n. codes "ksec " ++ encode_lower (n ∷ [])) bytes → ⊥
   fork : IsTextOf (List ℕ) (λ x. is_name x ≡ true) (λ x. codes "fork " ++ x) bytes → ⊥
+  peek : IsTextOf (ℕ × ℕ) (λ p. IsNumber p.0 × IsNumber p.1) (λ p. codes "peek " ++ (decimal p.0 ++ 32 ∷ decimal p.1)) bytes → ⊥
+  poke : IsTextOf (ℕ × List ℕ) (λ p. IsNumber p.0 × IsValue p.1) (λ p. codes "poke " ++ (decimal p.0 ++ 32 ∷ encode_lower p.1)) bytes → ⊥
+  kill : IsTextOf (List ℕ × ℕ) (λ p. (is_name p.0 ≡ true) × IsNumber p.1) (λ p. codes "kill " ++ (p.0 ++ 32 ∷ decimal p.1)) bytes → ⊥
+  returns : bytes ≡ codes "sigreturn" → ⊥
+  handler : bytes ≡ codes "handler" → ⊥
   yields : bytes ≡ codes "yield" → ⊥
   last : bytes ≡ codes "end" → ⊥
 
@@ -267,15 +273,21 @@ no_line_of bytes o (lines.Cpus n) fits e = o.cpus (n, fits, e)
 no_line_of bytes o (lines.Quantum n) fits e = o.quantum (n, fits, e)
 no_line_of bytes o (lines.Large n) fits e = o.large (n, fits, e)
 no_line_of bytes o (lines.Sched entries) fits e = o.sched (entries, fits, e)
-no_line_of bytes o (lines.Begin blocks.Task name) fits e = o.task (name, fits.1, e)
-no_line_of bytes o (lines.Begin blocks.Child name) fits e = o.child (name, fits.1, e)
-no_line_of bytes o (lines.Begin blocks.Kthread name) fits e = o.kthread (name, fits.1, e)
+no_line_of bytes o (lines.Begin blocks.Task name) fits e = o.task (name, fits, e)
+no_line_of bytes o (lines.Begin blocks.Child name) fits e = o.child (name, fits, e)
+no_line_of bytes o (lines.Begin blocks.Kthread name) fits e = o.kthread (name, fits, e)
 no_line_of bytes o (lines.Order (commands.Set reg value)) fits e = o.set ((reg, value), (fits.0, (fits.1, fits.2)), e)
 no_line_of bytes o (lines.Order (commands.Get reg)) fits e = o.get (reg, fits, e)
 no_line_of bytes o (lines.Order (commands.Ksec byte)) fits e = o.ksec (byte, fits, e)
 no_line_of bytes o (lines.Order commands.Yield) fits e = o.yields e
 no_line_of bytes o (lines.Order (commands.Fork name)) fits e = o.fork (name, fits, e)
+no_line_of bytes o (lines.Order (commands.Peek at len)) fits e = o.peek ((at, len), (fits.0, fits.1), e)
+no_line_of bytes o (lines.Order (commands.Poke at value)) fits e = o.poke ((at, value), (fits.0, (fits.1, fits.2)), e)
+no_line_of bytes o (lines.Order commands.Sigreturn) fits e = o.returns e
+no_line_of bytes o (lines.Order (commands.Kill name signo)) fits e = o.kill ((name, signo.number), (fits, signal_number signo), e)
 no_line_of bytes o (lines.Order other) fits e = absurd fits
+no_line_of bytes o (lines.NoSignal name number) fits e = o.kill ((name, number), (fits.0, fits.1), e)
+no_line_of bytes o lines.Handler fits e = o.handler e
 no_line_of bytes o lines.End fits e = o.last e
 
 -- the bytes are the text of a line, or of none
@@ -288,19 +300,43 @@ line_or_none bytes =
     or_else _ _ (word_and (codes "quantum ") ℕ IsNumber decimal number_or_none bytes) (λ h. (lines.Quantum h.0, h.1, h.2)) (λ quantum.
     or_else _ _ (word_and (codes "large ") ℕ IsNumber decimal number_or_none bytes) (λ h. (lines.Large h.0, h.1, h.2)) (λ large.
     or_else _ _ (word_and (codes "sched") (List ℕ) AreNumbers entries_text (λ rest. entries_or_none (suc (length rest)) rest (omega arith)) bytes) (λ h. (lines.Sched h.0, h.1, h.2)) (λ sched.
-    or_else _ _ (word_and (codes "task ") (List ℕ) (λ x. is_name x ≡ true) (λ x. x) (passing_or_not is_name) bytes) (λ h. (lines.Begin blocks.Task h.0, (refl, h.1), h.2)) (λ task.
-    or_else _ _ (word_and (codes "child ") (List ℕ) (λ x. is_name x ≡ true) (λ x. x) (passing_or_not is_name) bytes) (λ h. (lines.Begin blocks.Child h.0, (refl, h.1), h.2)) (λ child.
-    or_else _ _ (word_and (codes "kthread ") (List ℕ) (λ x. is_name x ≡ true) (λ x. x) (passing_or_not is_name) bytes) (λ h. (lines.Begin blocks.Kthread h.0, (refl, h.1), h.2)) (λ kthread.
+    or_else _ _ (word_and (codes "task ") (List ℕ) (λ x. is_name x ≡ true) (λ x. x) (passing_or_not is_name) bytes) (λ h. (lines.Begin blocks.Task h.0, h.1, h.2)) (λ task.
+    or_else _ _ (word_and (codes "child ") (List ℕ) (λ x. is_name x ≡ true) (λ x. x) (passing_or_not is_name) bytes) (λ h. (lines.Begin blocks.Child h.0, h.1, h.2)) (λ child.
+    or_else _ _ (word_and (codes "kthread ") (List ℕ) (λ x. is_name x ≡ true) (λ x. x) (passing_or_not is_name) bytes) (λ h. (lines.Begin blocks.Kthread h.0, h.1, h.2)) (λ kthread.
     or_else _ _ (word_and (codes "set ") (List ℕ × List ℕ) (λ p. (is_register_word p.0 ≡ true) × IsValue p.1) (λ p. p.0 ++ 32 ∷ encode_lower p.1) set_or_none bytes) (λ h. (lines.Order (commands.Set h.0.0 h.0.1), (h.1.0, h.1.1.0, h.1.1.1), h.2)) (λ set.
     or_else _ _ (word_and (codes "get ") (List ℕ) (λ x. is_register_word x ≡ true) (λ x. x) (passing_or_not is_register_word) bytes) (λ h. (lines.Order (commands.Get h.0), h.1, h.2)) (λ get.
     or_else _ _ (word_and (codes "ksec ") ℕ (λ n. n < 256) (λ n. encode_lower (n ∷ [])) byte_or_none bytes) (λ h. (lines.Order (commands.Ksec h.0), h.1, h.2)) (λ ksec.
     or_else _ _ (word_and (codes "fork ") (List ℕ) (λ x. is_name x ≡ true) (λ x. x) (passing_or_not is_name) bytes) (λ h. (lines.Order (commands.Fork h.0), h.1, h.2)) (λ fork.
+    or_else _ _ (word_and (codes "peek ") (ℕ × ℕ) (λ p. IsNumber p.0 × IsNumber p.1) (λ p. decimal p.0 ++ 32 ∷ decimal p.1) peek_or_none bytes) (λ h. (lines.Order (commands.Peek h.0.0 h.0.1), (h.1.0, h.1.1), h.2)) (λ peek.
+    or_else _ _ (word_and (codes "poke ") (ℕ × List ℕ) (λ p. IsNumber p.0 × IsValue p.1) (λ p. decimal p.0 ++ 32 ∷ encode_lower p.1) poke_or_none bytes) (λ h. (lines.Order (commands.Poke h.0.0 h.0.1), (h.1.0, h.1.1.0, h.1.1.1), h.2)) (λ poke.
+    or_else _ _ (word_and (codes "kill ") (List ℕ × ℕ) (λ p. (is_name p.0 ≡ true) × IsNumber p.1) (λ p. p.0 ++ 32 ∷ decimal p.1) kill_or_none bytes) (λ h. kill_line h.0.0 h.0.1 h.1.0 h.1.1 h.2) (λ kill.
+    or_else _ _ (same_bytes bytes (codes "sigreturn")) (λ e. (lines.Order commands.Sigreturn, tt, e)) (λ returns.
+    or_else _ _ (same_bytes bytes (codes "handler")) (λ e. (lines.Handler, tt, e)) (λ handler.
     or_else _ _ (same_bytes bytes (codes "yield")) (λ e. (lines.Order commands.Yield, tt, e)) (λ yields.
     or_else _ _ (same_bytes bytes (codes "end")) (λ e. (lines.End, tt, e)) (λ last.
-    inr (λ h. no_line_of bytes (record { version = version; machine = machine; row = row; cpus = cpus; quantum = quantum; large = large; sched = sched; task = task; child = child; kthread = kthread; set = set; get = get; ksec = ksec; fork = fork; yields = yields; last = last }) h.0 h.1 h.2)))))))))))))))))
+    inr (λ h. no_line_of bytes (record { version = version; machine = machine; row = row; cpus = cpus; quantum = quantum; large = large; sched = sched; task = task; child = child; kthread = kthread; set = set; get = get; ksec = ksec; fork = fork; peek = peek; poke = poke; kill = kill; returns = returns; handler = handler; yields = yields; last = last }) h.0 h.1 h.2))))))))))))))))))))))
   where
     set_or_none : (rest : List ℕ) → IsDecided (IsTextOf (List ℕ × List ℕ) (λ p. (is_register_word p.0 ≡ true) × IsValue p.1) (λ p. p.0 ++ 32 ∷ encode_lower p.1) rest)
     set_or_none = two_and (List ℕ) (List ℕ) (λ x. is_register_word x ≡ true) IsValue (λ x. x) encode_lower (λ x fits. Lacks-register 32 x refl fits) (passing_or_not is_register_word) value_or_none
+
+    peek_or_none : (rest : List ℕ) → IsDecided (IsTextOf (ℕ × ℕ) (λ p. IsNumber p.0 × IsNumber p.1) (λ p. decimal p.0 ++ 32 ∷ decimal p.1) rest)
+    peek_or_none = two_and ℕ ℕ IsNumber IsNumber decimal decimal lacks_space number_or_none number_or_none
+
+    poke_or_none : (rest : List ℕ) → IsDecided (IsTextOf (ℕ × List ℕ) (λ p. IsNumber p.0 × IsValue p.1) (λ p. decimal p.0 ++ 32 ∷ encode_lower p.1) rest)
+    poke_or_none = two_and ℕ (List ℕ) IsNumber IsValue decimal encode_lower lacks_space number_or_none value_or_none
+
+    kill_or_none : (rest : List ℕ) → IsDecided (IsTextOf (List ℕ × ℕ) (λ p. (is_name p.0 ≡ true) × IsNumber p.1) (λ p. p.0 ++ 32 ∷ decimal p.1) rest)
+    kill_or_none = two_and (List ℕ) ℕ (λ x. is_name x ≡ true) IsNumber (λ x. x) decimal (λ x fits. Lacks-name 32 x refl refl fits) (passing_or_not is_name) number_or_none
+
+    -- a number is that of a signal, or of none
+    kill_line : (name : List ℕ) (number : ℕ) → is_name name ≡ true → IsNumber number → bytes ≡ kill_text name number → IsTextOf Line IsLine line_text bytes
+    kill_line name number fits small e = elim (cases_lt 31 number) [
+      | inl above ↦ (lines.NoSignal name number, (fits, small, λ range. absurd (omega (arith, above, range.1))), e)
+      | inr low ↦ elim (cases_lt 0 number) [
+        | inl some ↦ (lines.Order (commands.Kill name (record { number = number; in_range = (omega arith, omega arith) })), fits, e)
+        | inr none ↦ (lines.NoSignal name number, (fits, small, λ range. absurd (omega (arith, none, range.0))), e)
+      ]
+    ]
 
 -- A text has a first line that is spelled, or it has none.
 pub first_or_none : (text : List ℕ) → ((l : Line) × (rest : List ℕ) × IsLine l × (text ≡ line_text l ++ 10 ∷ rest)) ⊎ NoLine text

@@ -26,7 +26,7 @@ all_below cpus (n ∷ entries) h =
     let first : nat_lt n cpus ≡ true = lt-ltb n cpus h.0 in
     rw (first, all_below cpus entries h.1) refl
 
-at_most : (a b : ℕ) → nat_le a b ≡ true → a ≤ b
+pub at_most : (a b : ℕ) → nat_le a b ≡ true → a ≤ b
 at_most a b h = grind (arith, nat_tests)
 
 -- what the test of a line's entries tells

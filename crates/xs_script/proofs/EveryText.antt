@@ -1,41 +1,48 @@
 -- Every text passes or is refused by a line, and lines that pass have known registers or a first command that fails.
-use Rattle.std.proofs.Common.{◌≡◌, ◌⊎◌, ℕ, zero, suc, ◌+◌, ◌<◌, ◌≤◌, ◌^◌, Bool, true, false, List, [], ◌∷◌, ◌++◌, length, Option, Some, None, Result, Ok, Err, inl, inr, refl, sym, ◌∙◌, ap, subst, arith, length-append}
+use Rattle.std.proofs.Common.{◌≡◌, ◌⊎◌, ℕ, zero, suc, ◌+◌, ◌<◌, ◌≤◌, ◌^◌, Bool, true, false, ◌&&◌, List, [], ◌∷◌, ◌++◌, length, Option, Some, None, Result, Ok, Err, inl, inr, refl, sym, ◌∙◌, ap, subst, arith, length-append}
+use Rattle.std.proofs.lemmas.Bool.{cases_lt}
 use Rattle.std.proofs.lemmas.List.{append_assoc, append-nil, length-map}
 use Rattle.std.specs.List.{AllByRecursion, flat_map}
 use Rattle.xs_base.specs.declared.component.Row.{Row}
 use Rattle.xs_base.specs.declared.component.Place.{Place}
+use Rattle.xs_base.specs.declared.words.Signo.{Signo}
 use Rattle.xs_base.specs.declared.layout_error.LayoutError.{LayoutError}
 use Rattle.xs_base.specs.Register.{IsRegister}
+use Rattle.xs_base.specs.Task.{frame_length}
 use Rattle.xs_model.specs.declared.script.Command.{Command}
 use Rattle.xs_model.specs.declared.script.Command.TheVariants as commands
 use Rattle.xs_model.specs.declared.script.Named.{Named}
 use Rattle.xs_model.specs.declared.script.Block.{Block}
 use Rattle.xs_model.specs.declared.script.Script.{Script}
 use Rattle.xs_model.specs.Names.{forked_name, all_forked_names}
-use Rattle.xs_model.specs.Script.{AreDistinct, AreBlocksNumbered, fits_register, is_built}
+use Rattle.xs_model.specs.Bound.{most_events}
+use Rattle.xs_model.specs.Script.{AreDistinct, AreBlocksNumbered, is_outer, is_caught, fits_memory, fits_register, is_built}
 use Rattle.xs_script.specs.declared.commands.Scope.{Scope}
 use Rattle.xs_script.specs.declared.line.Line.{Line}
 use Rattle.xs_script.specs.declared.line.Line.TheVariants as lines
 use Rattle.xs_script.specs.declared.refusal.Kind.{Kind}
-use Rattle.xs_script.specs.declared.refusal.Kind.TheVariants.{NotBuilt, BadLine, Layout, Repeated, UnknownName}
+use Rattle.xs_script.specs.declared.refusal.Kind.TheVariants.{NotBuilt, BadLine, Layout, Repeated, UnknownName, OuterInHandler, TooMuch}
 use Rattle.xs_script.specs.ScriptLine.{IsLine, IsCommandLine, line_text}
-use Rattle.xs_script.specs.Grammar.{lines_text, block_lines, row_lines, head_lines, sched_lines, script_lines, Spells}
-use Rattle.xs_script.specs.LineOrder.{Stand, AtVersion, AtBlock, may_end, next}
+use Rattle.xs_script.specs.Grammar.{lines_text, block_lines, row_lines, head_lines, sched_lines, script_lines, AreGroups, Spells}
+use Rattle.xs_script.specs.LineOrder.{Stand, AtVersion, AtBlock, command_limit, may_end, next}
 use Rattle.xs_script.specs.Body.{names_of}
 use Rattle.xs_script.specs.Refusal as refusals
-use Rattle.xs_script.specs.Refusal.{AreLines, Early, Misspelled, Misplaced, Fails, Table, Here, table_fault, is_unbuilt, RefusesLine, Passes, table_of, children_of, fork_of_line, forks_of, scope_of, is_among, IsKnown, IsKnownCommand, AreKnown, CommandFails, Refuses, ByLine, ByCommand}
+use Rattle.xs_script.specs.Refusal.{AreLines, Early, Misspelled, Misplaced, Fails, Table, Here, table_fault, is_unbuilt, RefusesLine, Passes, in_handler_after, fork_of_line, forks_of, scope_of, is_among, is_outer_line, AreOutside, IsKnown, IsKnownCommand, AreKnown, CommandFails, IsScriptOf, Refuses, ByLine, ByCommand, ByEvents}
 use Rattle.xs_script.specs.Front.{IsFront}
 use Rattle.xs_script.proofs.Fronts.{front_push, front_none}
 use Rattle.xs_script.proofs.Decisions.{first_or_none}
 use Rattle.xs_script.proofs.Places.{place_or_none}
-use Rattle.xs_script.proofs.BodyLines.{all_push, all_parts, distinct_push}
-use Rattle.xs_script.proofs.Children.{child_names, forks_push, no_children, no_forks, front_no_names, blocks_forks, blocks_named}
-use Rattle.xs_script.proofs.EventBound.{few_events}
+use Rattle.xs_script.proofs.BlockParts.{all_parts}
+use Rattle.xs_script.proofs.BodyLines.{all_push, distinct_push}
+use Rattle.xs_script.proofs.Children.{block_scope, forks_push, outside_front, no_forks, front_no_names, blocks_forks, blocks_named}
+use Rattle.xs_script.proofs.EventBound.{lines_short}
 use Rattle.xs_script.proofs.Numbering.{blocks_rise}
-use Rattle.xs_script.proofs.KnownLines.{names_fit, kinds_built, plain_handlers, blocks_known}
+use Rattle.xs_script.proofs.KnownLines.{and_false, frame_fits, signal_fits, names_fit, ordered_forks, blocks_known}
 use Rattle.xs_script.proofs.EntryTests.{joined}
-use Rattle.xs_script.proofs.WholeScripts.{blocks_no_rows, sched_no_rows, no_rows_table, table_of_lines, same_scope}
-use Rattle.xs_script.proofs.ReadScripts.{AreLater, IsMachine, blocks_read, script_read}
+use Rattle.xs_script.proofs.WholeScripts.{parted_lines, script_scope}
+use Rattle.xs_script.proofs.Stands.{HasNoLimit, leads_within, outside_push}
+use Rattle.xs_script.proofs.ReadBlocks.{AreLater, blocks_read}
+use Rattle.xs_script.proofs.ReadScripts.{IsMachine, script_read}
 
 -- ---- the first pass
 
@@ -100,76 +107,89 @@ same_names forked d = subst AreDistinct (sym (append-nil forked)) d
 -- what follows from each case
 module _ (A : Type 0) where
   -- a value fits its register or fails
-  step_value : (scope : Scope) (forked : List (List ℕ)) (reg bytes : List ℕ) (place : Place) (b : Bool) → fits_register place bytes ≡ b → IsRegister scope.layout reg place → is_built place ≡ true → AllByRecursion (λ byte. byte < 256) bytes → (IsKnownCommand scope (commands.Set reg bytes) → A) → ((kind : Kind) → CommandFails scope forked (commands.Set reg bytes) kind → A) → A
-  step_value scope forked reg bytes place true is here built small known fails = known ((place, here, is, small), (place, here.0, built), tt)
-  step_value scope forked reg bytes place false is here built small known fails = fails BadLine (refusals.Misfit reg bytes place here built is)
+  step_value : (scope : Scope) (inside : Bool) (forked : List (List ℕ)) (reg bytes : List ℕ) (place : Place) (b : Bool) → fits_register place bytes ≡ b → IsRegister scope.layout reg place → is_built place ≡ true → AllByRecursion (λ byte. byte < 256) bytes → (IsKnownCommand scope (commands.Set reg bytes) → A) → ((kind : Kind) → CommandFails scope inside forked (commands.Set reg bytes) kind → A) → A
+  step_value scope inside forked reg bytes place true is here built small known fails = known ((place, here, is, small), (place, here.0, built), tt)
+  step_value scope inside forked reg bytes place false is here built small known fails = fails BadLine (refusals.Misfit reg bytes place here built is)
 
   -- a place is one that is built, or the command fails
-  step_place : (scope : Scope) (forked : List (List ℕ)) (command : Command) (place : Place) (b : Bool) → is_built place ≡ b → ((kind : Kind) → CommandFails scope forked command kind → A) → ((is_built place ≡ false) → CommandFails scope forked command NotBuilt) → (is_built place ≡ true → A) → A
-  step_place scope forked command place true is fails unbuilt go = go is
-  step_place scope forked command place false is fails unbuilt go = fails NotBuilt (unbuilt is)
+  step_place : (scope : Scope) (inside : Bool) (forked : List (List ℕ)) (command : Command) (place : Place) (b : Bool) → is_built place ≡ b → ((kind : Kind) → CommandFails scope inside forked command kind → A) → ((is_built place ≡ false) → CommandFails scope inside forked command NotBuilt) → (is_built place ≡ true → A) → A
+  step_place scope inside forked command place true is fails unbuilt go = go is
+  step_place scope inside forked command place false is fails unbuilt go = fails NotBuilt (unbuilt is)
 
-  -- a fork names a child that none before it forks, or fails
-  step_fork : (scope : Scope) (forked : List (List ℕ)) (name : List ℕ) (b c : Bool) → is_among name scope.children ≡ b → is_among name forked ≡ c → (is_among name scope.children ≡ true → is_among name forked ≡ false → A) → ((kind : Kind) → CommandFails scope forked (commands.Fork name) kind → A) → A
-  step_fork scope forked name false c child again known fails = fails UnknownName (refusals.NoChild name child)
-  step_fork scope forked name true true child again known fails = fails Repeated (refusals.Again name child again)
-  step_fork scope forked name true false child again known fails = known child again
+  -- a fork names a child that none before it forks, outside of handlers, or fails
+  step_fork : (scope : Scope) (inside : Bool) (forked : List (List ℕ)) (name : List ℕ) (b c d : Bool) → is_among name scope.children ≡ b → is_among name forked ≡ c → inside ≡ d → (is_among name scope.children ≡ true → is_among name forked ≡ false → inside ≡ false → A) → ((kind : Kind) → CommandFails scope inside forked (commands.Fork name) kind → A) → A
+  step_fork scope inside forked name false c d child again in_one known fails = fails UnknownName (refusals.Misnamed (commands.Fork name) UnknownName (rw child refl))
+  step_fork scope inside forked name true true d child again in_one known fails = fails Repeated (refusals.Misnamed (commands.Fork name) Repeated (rw (child, again) refl))
+  step_fork scope inside forked name true false true child again in_one known fails = fails OuterInHandler (refusals.Misnamed (commands.Fork name) OuterInHandler (rw (child, again, in_one) refl))
+  step_fork scope inside forked name true false false child again in_one known fails = known child again in_one
 
-  -- A command is known and forks no child again, or it fails.
-  known_or_fails : (scope : Scope) (forked : List (List ℕ)) (command : Command) → IsCommandLine command → (IsKnownCommand scope command → (AreDistinct forked → AreDistinct (forked ++ forked_name command)) → A) → ((kind : Kind) → CommandFails scope forked command kind → A) → A
-  known_or_fails scope forked (commands.Set reg bytes) fits known fails = elim (place_or_none scope.layout reg) [
+  -- a signal goes to a block with a handler, from outside of handlers, or the line fails
+  step_kill : (scope : Scope) (inside : Bool) (forked : List (List ℕ)) (name : List ℕ) (signo : Signo) (b d : Bool) → is_among name scope.handled ≡ b → inside ≡ d → (is_among name scope.handled ≡ true → inside ≡ false → A) → ((kind : Kind) → CommandFails scope inside forked (commands.Kill name signo) kind → A) → A
+  step_kill scope inside forked name signo false d handled in_one known fails = fails UnknownName (refusals.Misnamed (commands.Kill name signo) UnknownName (rw handled refl))
+  step_kill scope inside forked name signo true true handled in_one known fails = fails OuterInHandler (refusals.Misnamed (commands.Kill name signo) OuterInHandler (rw (handled, in_one) refl))
+  step_kill scope inside forked name signo true false handled in_one known fails = known handled in_one
+
+  -- A command is known, forks no child again and is no outer one in a handler, or it fails.
+  known_or_fails : (scope : Scope) (inside : Bool) (forked : List (List ℕ)) (command : Command) → IsCommandLine command → command_limit command ≡ None → (IsKnownCommand scope command → (AreDistinct forked → AreDistinct (forked ++ forked_name command)) → (inside && is_outer command) ≡ false → A) → ((kind : Kind) → CommandFails scope inside forked command kind → A) → A
+  known_or_fails scope inside forked (commands.Set reg bytes) fits within known fails = elim (place_or_none scope.layout reg) [
     | inr none ↦ fails UnknownName (refusals.Unknown (commands.Set reg bytes) reg refl none)
     | inl p ↦
-        step_place scope forked (commands.Set reg bytes) p.0 (is_built p.0) refl fails (refusals.Unbuilt (commands.Set reg bytes) reg p.0 refl p.1) (λ built.
-        step_value scope forked reg bytes p.0 (fits_register p.0 bytes) refl p.1 built fits.2 (λ k. known k (same_names forked)) fails)
+        step_place scope inside forked (commands.Set reg bytes) p.0 (is_built p.0) refl fails (refusals.Unbuilt (commands.Set reg bytes) reg p.0 refl p.1) (λ built.
+        step_value scope inside forked reg bytes p.0 (fits_register p.0 bytes) refl p.1 built fits.2 (λ k. known k (same_names forked) (and_false inside)) fails)
   ]
-  known_or_fails scope forked (commands.Get reg) fits known fails = elim (place_or_none scope.layout reg) [
+  known_or_fails scope inside forked (commands.Get reg) fits within known fails = elim (place_or_none scope.layout reg) [
     | inr none ↦ fails UnknownName (refusals.Unknown (commands.Get reg) reg refl none)
     | inl p ↦
-        step_place scope forked (commands.Get reg) p.0 (is_built p.0) refl fails (refusals.Unbuilt (commands.Get reg) reg p.0 refl p.1) (λ built.
-        known ((p.0, p.1), (p.0, p.1.0, built), tt) (same_names forked))
+        step_place scope inside forked (commands.Get reg) p.0 (is_built p.0) refl fails (refusals.Unbuilt (commands.Get reg) reg p.0 refl p.1) (λ built.
+        known ((p.0, p.1), (p.0, p.1.0, built), tt) (same_names forked) (and_false inside))
   ]
-  known_or_fails scope forked (commands.Ksec byte) fits known fails = known (fits, tt, tt) (same_names forked)
-  known_or_fails scope forked commands.Yield fits known fails = known (tt, tt, tt) (same_names forked)
-  known_or_fails scope forked (commands.Fork name) fits known fails =
-      step_fork scope forked name (is_among name scope.children) (is_among name forked) refl refl (λ child new. known (tt, tt, child) (λ d. distinct_push forked name d new)) fails
-  known_or_fails scope forked other fits known fails = absurd fits
+  known_or_fails scope inside forked (commands.Ksec byte) fits within known fails = known (fits, tt, tt) (same_names forked) (and_false inside)
+  known_or_fails scope inside forked commands.Yield fits within known fails = known (tt, tt, tt) (same_names forked) (and_false inside)
+  known_or_fails scope inside forked (commands.Peek at len) fits within known fails = known (frame_fits (fits_memory frame_length at len) within, tt, tt) (same_names forked) (and_false inside)
+  known_or_fails scope inside forked (commands.Poke at bytes) fits within known fails =
+      known ((frame_fits (fits_memory frame_length at (length bytes)) within, fits.2), tt, tt) (same_names forked) (and_false inside)
+  known_or_fails scope inside forked commands.Sigreturn fits within known fails = known (tt, tt, tt) (same_names forked) (and_false inside)
+  known_or_fails scope inside forked (commands.Fork name) fits within known fails =
+      step_fork scope inside forked name (is_among name scope.children) (is_among name forked) inside refl refl refl
+      (λ child new out. known (tt, tt, child) (λ d. distinct_push forked name d new) (ap (λ (t : Bool). t && true) out)) fails
+  known_or_fails scope inside forked (commands.Kill name signo) fits within known fails =
+      step_kill scope inside forked name signo (is_among name scope.handled) inside refl refl
+      (λ handled out. known (signal_fits (is_caught signo.number) within, tt, handled) (same_names forked) (ap (λ (t : Bool). t && true) out)) fails
+  known_or_fails scope inside forked other fits within known fails = absurd fits
 
   -- so a line is known, or is a command that fails
-  line_known_or_fails : (scope : Scope) (forked : List (List ℕ)) (l : Line) → IsLine l → (IsKnown scope l → (AreDistinct forked → AreDistinct (forked ++ fork_of_line l)) → A) → ((command : Command) (kind : Kind) → l ≡ lines.Order command → CommandFails scope forked command kind → A) → A
-  line_known_or_fails scope forked lines.Version fits known fails = known tt (same_names forked)
-  line_known_or_fails scope forked (lines.Machine named) fits known fails = known tt (same_names forked)
-  line_known_or_fails scope forked (lines.Row r) fits known fails = known tt (same_names forked)
-  line_known_or_fails scope forked (lines.Cpus n) fits known fails = known tt (same_names forked)
-  line_known_or_fails scope forked (lines.Quantum n) fits known fails = known tt (same_names forked)
-  line_known_or_fails scope forked (lines.Large n) fits known fails = known tt (same_names forked)
-  line_known_or_fails scope forked (lines.Sched entries) fits known fails = known tt (same_names forked)
-  line_known_or_fails scope forked (lines.Begin kind name) fits known fails = known tt (same_names forked)
-  line_known_or_fails scope forked (lines.Order command) fits known fails = known_or_fails scope forked command fits known (λ kind f. fails command kind refl f)
-  line_known_or_fails scope forked lines.End fits known fails = known tt (same_names forked)
+  line_known_or_fails : (scope : Scope) (inside : Bool) (forked : List (List ℕ)) (l : Line) → IsLine l → HasNoLimit l → (IsKnown scope l → (AreDistinct forked → AreDistinct (forked ++ fork_of_line l)) → (inside && is_outer_line l) ≡ false → A) → ((command : Command) (kind : Kind) → l ≡ lines.Order command → CommandFails scope inside forked command kind → A) → A
+  line_known_or_fails scope inside forked lines.Version fits within known fails = known tt (same_names forked) (and_false inside)
+  line_known_or_fails scope inside forked (lines.Machine named) fits within known fails = known tt (same_names forked) (and_false inside)
+  line_known_or_fails scope inside forked (lines.Row r) fits within known fails = known tt (same_names forked) (and_false inside)
+  line_known_or_fails scope inside forked (lines.Cpus n) fits within known fails = known tt (same_names forked) (and_false inside)
+  line_known_or_fails scope inside forked (lines.Quantum n) fits within known fails = known tt (same_names forked) (and_false inside)
+  line_known_or_fails scope inside forked (lines.Large n) fits within known fails = known tt (same_names forked) (and_false inside)
+  line_known_or_fails scope inside forked (lines.Sched entries) fits within known fails = known tt (same_names forked) (and_false inside)
+  line_known_or_fails scope inside forked (lines.Begin kind name) fits within known fails = known tt (same_names forked) (and_false inside)
+  line_known_or_fails scope inside forked (lines.Order command) fits within known fails = known_or_fails scope inside forked command fits within known (λ kind f. fails command kind refl f)
+  line_known_or_fails scope inside forked (lines.NoSignal name number) fits within known fails = known tt (same_names forked) (and_false inside)
+  line_known_or_fails scope inside forked lines.Handler fits within known fails = known tt (same_names forked) (and_false inside)
+  line_known_or_fails scope inside forked lines.End fits within known fails = known tt (same_names forked) (and_false inside)
 
   -- Lines are known, or one of them is the first command that fails.
-  pub lines_known_or_fail : (scope : Scope) (done ls : List Line) → AreKnown scope done → AreLines ls → (AreKnown scope (done ++ ls) → A) → ((d : List Line) (command : Command) (later : List Line) (kind : Kind) → done ++ ls ≡ d ++ lines.Order command ∷ later → AreKnown scope d → CommandFails scope (forks_of d) command kind → A) → A
-  lines_known_or_fail scope done [] before fits known fails = known (subst (λ (xs : List Line). AreKnown scope xs) (sym (append-nil done)) before)
-  lines_known_or_fail scope done (l ∷ ls) before fits known fails =
-      line_known_or_fails scope (forks_of done) l fits.0
-      (λ here once.
+  pub lines_known_or_fail : (scope : Scope) (done ls : List Line) → AreKnown scope done → AreLines ls → AllByRecursion HasNoLimit ls → (AreKnown scope (done ++ ls) → A) → ((d : List Line) (command : Command) (later : List Line) (kind : Kind) → done ++ ls ≡ d ++ lines.Order command ∷ later → AreKnown scope d → CommandFails scope (in_handler_after false d) (forks_of d) command kind → A) → A
+  lines_known_or_fail scope done [] before fits within known fails = known (subst (λ (xs : List Line). AreKnown scope xs) (sym (append-nil done)) before)
+  lines_known_or_fail scope done (l ∷ ls) before fits within known fails =
+      line_known_or_fails scope (in_handler_after false done) (forks_of done) l fits.0 within.0
+      (λ here once out.
       let same : (done ++ l ∷ []) ++ ls ≡ done ++ l ∷ ls = append_assoc done (l ∷ []) ls in
-      let so_far : AreKnown scope (done ++ l ∷ []) = record { each = all_push (IsKnown scope) done l before.each here; once = subst AreDistinct (sym (forks_push done l)) (once before.once) } in
-      lines_known_or_fail scope (done ++ l ∷ []) ls so_far fits.1
+      let so_far : AreKnown scope (done ++ l ∷ []) = record {
+        each = all_push (IsKnown scope) done l before.each here;
+        once = subst AreDistinct (sym (forks_push done l)) (once before.once);
+        outside = outside_push false done l before.outside out;
+      } in
+      lines_known_or_fail scope (done ++ l ∷ []) ls so_far fits.1 within.1
       (λ all. known (subst (λ (xs : List Line). AreKnown scope xs) same all))
       (λ d command later kind e front f. fails d command later kind (sym same ∙ e) front f))
       (λ command kind is f. fails done command ls kind (ap (λ (x : Line). done ++ x ∷ ls) is) before f)
 
--- ---- both passes
-
--- lines are no more than the bytes of their text
-lines_short : (ls : List Line) → length ls ≤ length (lines_text ls)
-lines_short [] = omega arith
-lines_short (l ∷ ls) =
-    let first : length (line_text l ++ 10 ∷ []) ≡ length (line_text l) + 1 = length-append (line_text l) (10 ∷ []) in
-    let both : length (lines_text (l ∷ ls)) ≡ length (line_text l ++ 10 ∷ []) + length (lines_text ls) = length-append (line_text l ++ 10 ∷ []) (lines_text ls) in
-    omega (arith, first, both, lines_short ls)
+-- ---- the passes together
 
 -- the script of these numbers
 abbrev script_of : Named → List Row → ℕ → ℕ → ℕ → List ℕ → List Block → Script
@@ -202,77 +222,100 @@ groups_some : (groups : List (List ℕ)) → AreLines (sched_lines groups) → A
 groups_some [] h = tt
 groups_some (g ∷ groups) h = (h.0.0, groups_some groups h.1)
 
--- A text that passes spells the script of its machine, its schedule and its blocks, where the lines are known.
-blocks_spell : (text : List ℕ) (ls : List Line) → length text ≤ 1048576 → (p : Passes text ls) (m : IsMachine ls p.stand) (blocks : List Block) → m.numbers.sched.later ≡ flat_map block_lines blocks → AreBlocksNumbered (length (front_of ls p.stand m) + length m.numbers.sched.groups + 1) blocks → AreLater [] blocks p.stand → AreKnown (scope_of ls) ls → Spells text (whole_of ls p.stand m blocks)
-blocks_spell text ls short p m blocks is numbered h known =
+-- Lines in which nothing is wrong are those of a script, which they spell where it hasn't too many events.
+pub record IsRead (text : List ℕ) (script : Script) : Type 0 where
+  pub read : IsScriptOf text script
+  pub spells : most_events script ≤ 1048576 → Spells text script
+
+-- the script of a machine, its schedule and its blocks, where the lines are known
+blocks_spell : (text : List ℕ) (ls : List Line) → (p : Passes text ls) (m : IsMachine ls p.stand) (blocks : List Block) → m.numbers.sched.later ≡ flat_map block_lines blocks → AreBlocksNumbered (length (front_of ls p.stand m) + length m.numbers.sched.groups + 1) blocks → AreLater [] blocks p.stand → AreKnown (scope_of ls) ls → IsRead text (whole_of ls p.stand m blocks)
+blocks_spell text ls p m blocks is numbered h known =
     let script = whole_of ls p.stand m blocks in
     let front = front_of ls p.stand m in
     let groups = m.numbers.sched.groups in
     let bodies = flat_map block_lines blocks in
-    let later = sched_lines groups ++ bodies in
     let before = front ++ sched_lines groups in
     let lines_are : ls ≡ script_lines script groups = front_split ls p.stand m ∙ ap (λ (xs : List Line). front ++ (sched_lines groups ++ xs)) is in
-    let parted : ls ≡ before ++ bodies = lines_are ∙ sym (append_assoc front (sched_lines groups) bodies) in
-    let table : table_of ls ≡ m.layout = ap table_of lines_are ∙ table_of_lines script later m.is_table (no_rows_table later (sched_no_rows groups bodies (blocks_no_rows blocks))) in
+    let parted : ls ≡ before ++ bodies = lines_are ∙ parted_lines script groups in
     let bare = front_no_names script groups in
-    let names : children_of ls ≡ child_names blocks = ap children_of parted ∙ no_children before bodies bare in
-    let forks : forks_of ls ≡ all_forked_names blocks = ap forks_of parted ∙ no_forks before bodies bare ∙ blocks_forks blocks in
-    let scope : Scope = record { layout = m.layout; children = child_names blocks } in
-    let scope_is : scope_of ls ≡ scope = same_scope (table_of ls) m.layout (children_of ls) (child_names blocks) table names in
+    let forks : forks_of ls ≡ all_forked_names blocks = ap forks_of parted ∙ no_forks before bodies bare ∙ blocks_forks blocks (ordered_forks blocks h.ordered) in
+    let scope = block_scope m.layout blocks in
+    let scope_is : scope_of ls ≡ scope = ap scope_of lines_are ∙ script_scope script groups m.is_table in
     let all = subst (λ (xs : List Line). AllByRecursion (IsKnown scope) xs) parted (subst (λ (x : Scope). AllByRecursion (IsKnown x) ls) scope_is known.each) in
-    let commands = blocks_known scope blocks h.plain (all_parts (IsKnown scope) before bodies all).1 in
-    let later_fits = (all_parts IsLine front later (subst AreLines lines_are p.lines_fit)).1 in
+    let commands = blocks_known scope blocks h.ordered (all_parts (IsKnown scope) before bodies all).1 in
+    let later_fits = (all_parts IsLine front (sched_lines groups ++ bodies) (subst AreLines lines_are p.lines_fit)).1 in
     let fit = all_parts IsLine (sched_lines groups) bodies later_fits in
-    let handlers = plain_handlers blocks h.plain in
-    let few = few_blocks blocks p.stand h in
+    let grouped : AreGroups groups (joined groups) = record { some = groups_some groups fit.0; joined = refl } in
+    let distinct = h.distinct tt in
     record {
-      valid = record {
-        layout = m.layout_fits;
-        machine = m.is_table;
-        cpus = m.numbers.cpus_fits;
-        quantum = m.numbers.quantum_fits;
-        large = m.numbers.large_fits;
-        entries = m.numbers.sched.below;
-        schedule = omega (arith, m.numbers.sched.few);
-        some = some_block blocks p.stand h.ends p.whole;
-        few = few;
-        names = names_fit blocks fit.1;
-        distinct = h.distinct tt;
-        rising = blocks_rise 0 (length front + length groups + 1) blocks (omega arith) handlers numbered;
-        bodies = commands.bodies;
-        named = blocks_named blocks blocks (h.distinct tt) commands.built commands.named;
-        forked = subst AreDistinct forks known.once;
-        events = few_events text before script short (p.spelled ∙ ap lines_text parted) few commands.built;
+      read = record {
+        groups = groups;
+        grouped = grouped;
+        table = m.is_table;
+        numbered = numbered;
+        passes = subst (Passes text) lines_are p;
+        known = subst (λ (xs : List Line). AreKnown (scope_of xs) xs) lines_are known;
       };
-      built = record { kinds = kinds_built blocks fit.1 handlers; commands = commands.built };
-      groups = groups;
-      grouped = record { some = groups_some groups fit.0; joined = refl };
-      numbered = numbered;
-      spelled = p.spelled ∙ ap lines_text lines_are;
+      spells = λ events. record {
+        valid = record {
+          layout = m.layout_fits;
+          machine = m.is_table;
+          cpus = m.numbers.cpus_fits;
+          quantum = m.numbers.quantum_fits;
+          large = m.numbers.large_fits;
+          entries = m.numbers.sched.below;
+          schedule = omega (arith, m.numbers.sched.few);
+          some = some_block blocks p.stand h.ends p.whole;
+          few = few_blocks blocks p.stand h;
+          names = names_fit blocks fit.1;
+          distinct = distinct;
+          rising = blocks_rise 0 (length front + length groups + 1) blocks (omega arith) numbered;
+          bodies = commands.bodies;
+          named = blocks_named m.layout blocks blocks distinct commands.built commands.named;
+          forked = subst AreDistinct forks known.once;
+          events = events;
+        };
+        built = record { bodies = commands.built; handlers = commands.handled };
+        groups = groups;
+        grouped = grouped;
+        numbered = numbered;
+        spelled = p.spelled ∙ ap lines_text lines_are;
+      };
     }
 
-machine_spells : (text : List ℕ) (ls : List Line) → length text ≤ 1048576 → (p : Passes text ls) → IsMachine ls p.stand → AreKnown (scope_of ls) ls → (script : Script) × Spells text script
+machine_spells : (text : List ℕ) (ls : List Line) → length text ≤ 1048576 → (p : Passes text ls) → IsMachine ls p.stand → AreKnown (scope_of ls) ls → (script : Script) × IsRead text script
 machine_spells text ls short p m known =
     let few : length ls ≤ length text = rw p.spelled (lines_short ls) in
     let sched = m.numbers.sched in
     let front = front_of ls p.stand m in
-    let long : length ls ≡ length front + length (sched_lines sched.groups ++ sched.later) = ap length (front_split ls p.stand m) ∙ length-append front (sched_lines sched.groups ++ sched.later) in
+    let before = front ++ sched_lines sched.groups in
+    let split = front_split ls p.stand m in
+    let long : length ls ≡ length front + length (sched_lines sched.groups ++ sched.later) = ap length split ∙ length-append front (sched_lines sched.groups ++ sched.later) in
     let parts : length (sched_lines sched.groups ++ sched.later) ≡ length (sched_lines sched.groups) + length sched.later = length-append (sched_lines sched.groups) sched.later in
     let groups : length (sched_lines sched.groups) ≡ length sched.groups = length-map sched.groups lines.Sched in
     let room : length front + length sched.groups + 1 + length sched.later < 2 ^ 32 = omega (arith, short, few, long, parts, groups) in
-    let (blocks, is, numbered, h) = blocks_read (AtBlock []) sched.later p.stand (length front + length sched.groups + 1) room sched.leads p.whole in
-    (whole_of ls p.stand m blocks, blocks_spell text ls short p m blocks is numbered h known)
+    let joined : ls ≡ before ++ sched.later = split ∙ sym (append_assoc front (sched_lines sched.groups) sched.later) in
+    let out = outside_front before sched.later (front_no_names (whole_of ls p.stand m []) sched.groups) (subst (AreOutside false) joined known.outside) in
+    let (blocks, is, numbered, h) = blocks_read (AtBlock []) sched.later p.stand (length front + length sched.groups + 1) room sched.leads out p.whole in
+    (whole_of ls p.stand m blocks, blocks_spell text ls p m blocks is numbered h known)
 
--- Such a text spells a script.
-known_spells : (text : List ℕ) (ls : List Line) → length text ≤ 1048576 → Passes text ls → AreKnown (scope_of ls) ls → (script : Script) × Spells text script
-known_spells text ls short p known = machine_spells text ls short p (script_read ls p.stand p.leads p.whole) known
+-- Such a text is that of a script.
+pub known_read : (text : List ℕ) (ls : List Line) → length text ≤ 1048576 → Passes text ls → AreKnown (scope_of ls) ls → (script : Script) × IsRead text script
+known_read text ls short p known = machine_spells text ls short p (script_read ls p.stand p.leads p.whole) known
+
+-- A script has too many events, or its text spells it.
+bounded : (text : List ℕ) (script : Script) → IsRead text script → ((script : Script) × Spells text script) ⊎ ((number : ℕ) × (kind : Kind) × Refuses text number kind)
+bounded text script h = elim (cases_lt 1048576 (most_events script)) [
+  | inl many ↦ inr (0, TooMuch (most_events script), ByEvents (record { script = script; read = h.read; many = many; number_is = refl; kind_is = refl }))
+  | inr few ↦ inl (script, h.spells (omega arith))
+]
 
 -- A text within the limit spells a script or is refused.
 pub every_text : (text : List ℕ) → length text ≤ 1048576 → ((script : Script) × Spells text script) ⊎ ((number : ℕ) × (kind : Kind) × Refuses text number kind)
 every_text text short = elim (passes_or_not text) [
   | inl r ↦ inr (r.0, r.1, ByLine r.2)
-  | inr p ↦ lines_known_or_fail _ (scope_of p.0) [] p.0 (record { each = tt; once = tt }) p.1.lines_fit
-      (λ known. inl (known_spells text p.0 short p.1 known))
+  | inr p ↦ lines_known_or_fail _ (scope_of p.0) [] p.0 (record { each = tt; once = tt; outside = tt }) p.1.lines_fit (leads_within AtVersion p.1.stand p.0 p.1.leads)
+      (λ known. let r = known_read text p.0 short p.1 known in bounded text r.0 r.1)
       (λ d command later kind e front f.
       let scope : scope_of p.0 ≡ scope_of (d ++ lines.Order command ∷ later) = ap scope_of e in
       inr (
@@ -284,7 +327,7 @@ every_text text short = elim (passes_or_not text) [
           later = later;
           passes = subst (λ (xs : List Line). Passes text xs) e p.1;
           known = subst (λ (x : Scope). AreKnown x d) scope front;
-          fails = subst (λ (x : Scope). CommandFails x (forks_of d) command kind) scope f;
+          fails = subst (λ (x : Scope). CommandFails x (in_handler_after false d) (forks_of d) command kind) scope f;
           number_is = refl;
         }),
       ))

@@ -22,6 +22,8 @@ is_row_line (lines.Large n) = false
 is_row_line (lines.Sched entries) = false
 is_row_line (lines.Begin kind name) = false
 is_row_line (lines.Order command) = false
+is_row_line (lines.NoSignal name number) = false
+is_row_line lines.Handler = false
 is_row_line lines.End = false
 
 -- the first line of a text that begins with a line is that line
@@ -45,7 +47,13 @@ row_word (lines.Order (commands.Get reg)) = refl
 row_word (lines.Order (commands.Ksec byte)) = refl
 row_word (lines.Order commands.Yield) = refl
 row_word (lines.Order (commands.Fork name)) = refl
+row_word (lines.Order (commands.Peek at len)) = refl
+row_word (lines.Order (commands.Poke at bytes)) = refl
+row_word (lines.Order commands.Sigreturn) = refl
+row_word (lines.Order (commands.Kill name signo)) = refl
 row_word (lines.Order other) = refl
+row_word (lines.NoSignal name number) = refl
+row_word lines.Handler = refl
 row_word lines.End = refl
 
 -- a row begins with the word, and no other line does
@@ -80,7 +88,13 @@ built_line (lines.Order (commands.Get reg)) fits = refl
 built_line (lines.Order (commands.Ksec byte)) fits = refl
 built_line (lines.Order commands.Yield) fits = refl
 built_line (lines.Order (commands.Fork name)) fits = refl
+built_line (lines.Order (commands.Peek at len)) fits = refl
+built_line (lines.Order (commands.Poke at bytes)) fits = refl
+built_line (lines.Order commands.Sigreturn) fits = refl
+built_line (lines.Order (commands.Kill name signo)) fits = refl
 built_line (lines.Order other) fits = absurd fits
+built_line (lines.NoSignal name number) fits = refl
+built_line lines.Handler fits = refl
 built_line lines.End fits = refl
 
 -- a line is of a form that this version has

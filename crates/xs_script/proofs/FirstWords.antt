@@ -6,12 +6,12 @@ use Rattle.xs_base.specs.declared.component.Row.{Row}
 use Rattle.xs_model.specs.declared.script.BlockKind.{BlockKind}
 use Rattle.xs_model.specs.declared.script.BlockKind.TheVariants as blocks
 use Rattle.xs_model.specs.declared.script.Command.TheVariants as commands
-use Rattle.xs_model.specs.Script.{is_name, is_built_kind}
+use Rattle.xs_model.specs.Script.{is_name}
 use Rattle.xs_script.specs.declared.line.Line.{Line}
 use Rattle.xs_script.specs.declared.line.Line.TheVariants as lines
 use Rattle.xs_script.specs.ScriptLine.{line_text, IsLine, IsNumber, row_text, entries_text, block_word, is_register_word}
-use Rattle.xs_script.specs.Parts.{IsValue, IsBlockLine, IsHeadLine}
-use Rattle.xs_script.proofs.Spellings.{kind_of, kind_is}
+use Rattle.xs_script.specs.Parts.{IsValue, IsBlockLine, IsSignalLine, IsHeadLine}
+use Rattle.xs_script.proofs.Spellings.{kind_of, kind_is, signal_number}
 
 -- The words after a first word, where they are those of no line of its kind. Then the whole is no line.
 pub no_get : (words : List ℕ) → ((reg : List ℕ) → is_register_word reg ≡ true → words ≡ reg → ⊥) → (l : Line) → IsBlockLine l → codes "get " ++ words ≡ line_text l → ⊥
@@ -30,22 +30,35 @@ pub no_fork : (words : List ℕ) → ((name : List ℕ) → is_name name ≡ tru
 no_fork words none (lines.Order (commands.Fork name)) fits e = none name fits (append_cancel_left (codes "fork ") words name e)
 no_fork words none l fits e = let k = ap kind_of e ∙ kind_is l in omega arith
 
+pub no_peek : (words : List ℕ) → ((at len : ℕ) → IsNumber at → IsNumber len → words ≡ decimal at ++ 32 ∷ decimal len → ⊥) → (l : Line) → IsSignalLine l → codes "peek " ++ words ≡ line_text l → ⊥
+no_peek words none (lines.Order (commands.Peek at len)) fits e = none at len fits.0 fits.1 (append_cancel_left (codes "peek ") words (decimal at ++ 32 ∷ decimal len) e)
+no_peek words none l fits e = let k = ap kind_of e ∙ kind_is l in omega arith
+
+pub no_poke : (words : List ℕ) → ((at : ℕ) (bytes : List ℕ) → IsNumber at → IsValue bytes → words ≡ decimal at ++ 32 ∷ encode_lower bytes → ⊥) → (l : Line) → IsSignalLine l → codes "poke " ++ words ≡ line_text l → ⊥
+no_poke words none (lines.Order (commands.Poke at bytes)) fits e = none at bytes fits.0 (fits.1, fits.2) (append_cancel_left (codes "poke ") words (decimal at ++ 32 ∷ encode_lower bytes) e)
+no_poke words none l fits e = let k = ap kind_of e ∙ kind_is l in omega arith
+
+pub no_kill : (words : List ℕ) → ((name : List ℕ) (number : ℕ) → is_name name ≡ true → IsNumber number → words ≡ name ++ 32 ∷ decimal number → ⊥) → (l : Line) → IsSignalLine l → codes "kill " ++ words ≡ line_text l → ⊥
+no_kill words none (lines.Order (commands.Kill name signo)) fits e = none name signo.number fits (signal_number signo) (append_cancel_left (codes "kill ") words (name ++ 32 ∷ decimal signo.number) e)
+no_kill words none (lines.NoSignal name number) fits e = none name number fits.0 fits.1 (append_cancel_left (codes "kill ") words (name ++ 32 ∷ decimal number) e)
+no_kill words none l fits e = let k = ap kind_of e ∙ kind_is l in omega arith
+
 no_task : (words : List ℕ) → ((name : List ℕ) → is_name name ≡ true → words ≡ name → ⊥) → (l : Line) → IsBlockLine l → codes "task " ++ words ≡ line_text l → ⊥
-no_task words none (lines.Begin blocks.Task name) fits e = none name fits.1 (append_cancel_left (codes "task ") words name e)
+no_task words none (lines.Begin blocks.Task name) fits e = none name fits (append_cancel_left (codes "task ") words name e)
 no_task words none l fits e = let k = ap kind_of e ∙ kind_is l in omega arith
 
 no_child : (words : List ℕ) → ((name : List ℕ) → is_name name ≡ true → words ≡ name → ⊥) → (l : Line) → IsBlockLine l → codes "child " ++ words ≡ line_text l → ⊥
-no_child words none (lines.Begin blocks.Child name) fits e = none name fits.1 (append_cancel_left (codes "child ") words name e)
+no_child words none (lines.Begin blocks.Child name) fits e = none name fits (append_cancel_left (codes "child ") words name e)
 no_child words none l fits e = let k = ap kind_of e ∙ kind_is l in omega arith
 
 no_kthread : (words : List ℕ) → ((name : List ℕ) → is_name name ≡ true → words ≡ name → ⊥) → (l : Line) → IsBlockLine l → codes "kthread " ++ words ≡ line_text l → ⊥
-no_kthread words none (lines.Begin blocks.Kthread name) fits e = none name fits.1 (append_cancel_left (codes "kthread ") words name e)
+no_kthread words none (lines.Begin blocks.Kthread name) fits e = none name fits (append_cancel_left (codes "kthread ") words name e)
 no_kthread words none l fits e = let k = ap kind_of e ∙ kind_is l in omega arith
 
-pub no_begin : (kind : BlockKind) (words : List ℕ) → is_built_kind kind ≡ true → ((name : List ℕ) → is_name name ≡ true → words ≡ name → ⊥) → (l : Line) → IsBlockLine l → block_word kind ++ words ≡ line_text l → ⊥
-no_begin blocks.Task words built none l fits e = no_task words none l fits e
-no_begin blocks.Child words built none l fits e = no_child words none l fits e
-no_begin blocks.Kthread words built none l fits e = no_kthread words none l fits e
+pub no_begin : (kind : BlockKind) (words : List ℕ) → ((name : List ℕ) → is_name name ≡ true → words ≡ name → ⊥) → (l : Line) → IsBlockLine l → block_word kind ++ words ≡ line_text l → ⊥
+no_begin blocks.Task words none l fits e = no_task words none l fits e
+no_begin blocks.Child words none l fits e = no_child words none l fits e
+no_begin blocks.Kthread words none l fits e = no_kthread words none l fits e
 
 pub no_sched : (words : List ℕ) → ((entries : List ℕ) → IsLine (lines.Sched entries) → 32 ∷ words ≡ entries_text entries → ⊥) → (l : Line) → IsLine l → codes "sched " ++ words ≡ line_text l → ⊥
 no_sched words none (lines.Sched entries) fits e = none entries fits (append_cancel_left (codes "sched") (32 ∷ words) (entries_text entries) e)

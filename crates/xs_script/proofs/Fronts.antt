@@ -2,7 +2,6 @@
 use Rattle.std.proofs.Common.{◌≡◌, ℕ, ◌+◌, false, List, [], ◌∷◌, ◌++◌, length, Ok, Err, inl, inr, refl, sym, ◌∙◌, ap, subst, arith, length-append}
 use Rattle.std.proofs.lemmas.List.{append_assoc}
 use Rattle.std.proofs.lemmas.List.Concat.{flat_map-append}
-use Rattle.std.specs.List.{AllByRecursion}
 use Rattle.xs_script.specs.declared.line.Line.{Line}
 use Rattle.xs_script.specs.declared.line.Line.TheVariants as lines
 use Rattle.xs_script.specs.declared.refusal.Kind.{Kind}
@@ -15,6 +14,7 @@ use Rattle.xs_script.specs.declared.refusal.ScriptError.{ScriptError}
 use Rattle.xs_script.specs.declared.refusal.ScriptError.TheVariants as errors
 use Rattle.xs_script.specs.Parts.{NoPlainLine}
 use Rattle.xs_script.proofs.Decisions.{first_or_none}
+use Rattle.xs_script.proofs.BlockParts.{all_join}
 use Rattle.xs_script.specs.Front.{IsFront, RefusesFrom, ExplainsFrom, ExplainsLine}
 
 -- a text's first line, and the text after it
@@ -24,11 +24,6 @@ lines_more l ls rest = append_assoc (line_text l ++ 10 ∷ []) (lines_text ls) r
 -- the text of lines and of lines after them
 pub lines_join : (a b : List Line) (rest : List ℕ) → lines_text (a ++ b) ++ rest ≡ lines_text a ++ (lines_text b ++ rest)
 lines_join a b rest = ap (λ (t : List ℕ). t ++ rest) (flat_map-append (λ (line : Line). line_text line ++ 10 ∷ []) a b) ∙ append_assoc (lines_text a) (lines_text b) rest
-
--- what holds of the elements of two lists
-pub all_join : {A : Type 0} (P : A → Type 0) (xs ys : List A) → AllByRecursion P xs → AllByRecursion P ys → AllByRecursion P (xs ++ ys)
-all_join P [] ys h g = g
-all_join P (x ∷ xs) ys h g = (h.0, all_join P xs ys h.1 g)
 
 -- lines that lead on from where others led
 pub leads_join : (from mid to : Stand) (a b : List Line) → Leads from a mid → Leads mid b to → Leads from (a ++ b) to
@@ -90,7 +85,7 @@ sched_fails (AtQuantum cpus) entries h = refl
 sched_fails (AtLarge cpus) entries h = refl
 sched_fails (AtSched cpus count) entries h = cc h
 sched_fails (AtBlock names) entries h = refl
-sched_fails (InBlock kind names) entries h = refl
+sched_fails (InBlock part kind names) entries h = refl
 
 line_misplaced : (stand : Stand) (text : List ℕ) (l : Line) (rest : List ℕ) → takes_sched stand ≡ false → is_unbuilt text ≡ false → NoPlainLine text → IsLine l → text ≡ line_text l ++ 10 ∷ rest → LineFails stand text BadLine
 line_misplaced stand text (lines.Sched entries) rest other built none fits e = Misplaced (lines.Sched entries) rest BadLine built fits e (sched_fails stand entries other)
@@ -102,6 +97,8 @@ line_misplaced stand text (lines.Quantum n) rest other built none fits e = absur
 line_misplaced stand text (lines.Large n) rest other built none fits e = absurd (none (lines.Large n) rest fits e)
 line_misplaced stand text (lines.Begin kind name) rest other built none fits e = absurd (none (lines.Begin kind name) rest fits e)
 line_misplaced stand text (lines.Order command) rest other built none fits e = absurd (none (lines.Order command) rest fits e)
+line_misplaced stand text (lines.NoSignal name number) rest other built none fits e = absurd (none (lines.NoSignal name number) rest fits e)
+line_misplaced stand text lines.Handler rest other built none fits e = absurd (none lines.Handler rest fits e)
 line_misplaced stand text lines.End rest other built none fits e = absurd (none lines.End rest fits e)
 
 -- a text whose first line is at most one of a schedule fails where none may stand

@@ -12,6 +12,8 @@ pub mod Kept
 pub mod HeadRows
 pub mod Fronts
 pub mod KeptOrder
+pub mod BlockParts
+pub mod NamedBlocks
 pub mod HeadSteps
 pub mod Readings
 pub mod BodyLines
@@ -25,10 +27,13 @@ pub mod Outlines
 pub mod Numbering
 pub mod OneRefusal
 pub mod WholeScripts
+pub mod Stands
 pub mod BlockLines
 pub mod SpelledLines
 pub mod OneScript
+pub mod ReadBlocks
 pub mod ReadScripts
 pub mod Decisions
 pub mod Places
 pub mod EveryText
+pub mod OneText

@@ -1,5 +1,5 @@
--- A text has one refusal at most.
-use Rattle.std.proofs.Common.{◌≡◌, ℕ, ◌+◌, true, false, List, [], ◌∷◌, ◌++◌, length, Option, Some, None, Ok, codes, refl, sym, ◌∙◌, ap, subst, arith}
+-- A text has one refusal by a line or by a command at most.
+use Rattle.std.proofs.Common.{◌≡◌, ℕ, ◌+◌, Bool, true, false, ◌&&◌, List, [], ◌∷◌, ◌++◌, length, Option, Some, None, Ok, codes, refl, sym, ◌∙◌, ap, subst, arith}
 use Rattle.std.specs.Prelude.{bytes_eq}
 use Rattle.std.specs.List.{AllByRecursion}
 use Rattle.std.proofs.lemmas.List.{append_assoc, append-nil}
@@ -12,7 +12,7 @@ use Rattle.xs_base.proofs.Registers.{one_place}
 use Rattle.xs_model.specs.declared.script.Command.{Command}
 use Rattle.xs_model.specs.declared.script.Command.TheVariants as commands
 use Rattle.xs_model.specs.Names.{forked_name}
-use Rattle.xs_model.specs.Script.{AreDistinct, fits_register, is_built}
+use Rattle.xs_model.specs.Script.{AreDistinct, is_outer, fits_register, is_built}
 use Rattle.xs_script.specs.declared.commands.Scope.{Scope}
 use Rattle.xs_script.specs.declared.line.Line.{Line}
 use Rattle.xs_script.specs.declared.line.Line.TheVariants as lines
@@ -20,7 +20,7 @@ use Rattle.xs_script.specs.declared.refusal.Kind.{Kind}
 use Rattle.xs_script.specs.ScriptLine.{line_text, IsLine}
 use Rattle.xs_script.specs.Grammar.{lines_text}
 use Rattle.xs_script.specs.LineOrder.{Stand, AtVersion, AtMachine, AtRow, AtCpus, AtQuantum, AtLarge, AtSched, AtBlock, InBlock, next, may_end, after_rows, Leads}
-use Rattle.xs_script.specs.Refusal.{AreLines, first_word, is_unbuilt, unbuilt_words, table_fault, LineFails, Early, Unbuilt, Misspelled, Misplaced, Fails, Table, Here, RefusesLine, Passes, fork_of_line, forks_of, scope_of, IsKnown, IsKnownCommand, register_of, CommandFails, RefusesCommand, Refuses, ByLine, ByCommand}
+use Rattle.xs_script.specs.Refusal.{AreLines, first_word, is_unbuilt, unbuilt_words, table_fault, LineFails, Early, Unbuilt, Misspelled, Misplaced, Fails, Table, Here, RefusesLine, Passes, in_handler, in_handler_after, fork_of_line, forks_of, scope_of, is_outer_line, NamesOne, outer_fault, name_fault, AreOutside, IsKnown, IsKnownCommand, register_of, CommandFails, RefusesCommand}
 use Rattle.xs_script.specs.Refusal as refusals
 use Rattle.xs_script.proofs.FirstLines.{row_begins, not_unbuilt, is_row_line}
 use Rattle.xs_script.proofs.Spellings.{one_first_line}
@@ -62,6 +62,8 @@ rows_no_fault rows mid (lines.Large n) text word leads = absurd (cc leads)
 rows_no_fault rows mid (lines.Sched entries) text word leads = absurd (cc leads)
 rows_no_fault rows mid (lines.Begin kind name) text word leads = absurd (cc leads)
 rows_no_fault rows mid (lines.Order command) text word leads = absurd (cc leads)
+rows_no_fault rows mid (lines.NoSignal name number) text word leads = absurd (cc leads)
+rows_no_fault rows mid lines.Handler text word leads = absurd (cc leads)
 rows_no_fault rows mid lines.End text word leads = absurd (cc leads)
 
 no_fault : (stand mid : Stand) (l : Line) (text rest : List ℕ) → IsLine l → text ≡ line_text l ++ 10 ∷ rest → next stand l ≡ Ok mid → table_fault stand text ≡ None
@@ -73,7 +75,7 @@ no_fault (AtQuantum cpus) mid l text rest fits e leads = refl
 no_fault (AtLarge cpus) mid l text rest fits e leads = refl
 no_fault (AtSched cpus count) mid l text rest fits e leads = refl
 no_fault (AtBlock names) mid l text rest fits e leads = refl
-no_fault (InBlock kind names) mid l text rest fits e leads = refl
+no_fault (InBlock part kind names) mid l text rest fits e leads = refl
 
 -- a line that leads on doesn't fail
 leads_not_line : (stand mid : Stand) (l : Line) (text rest : List ℕ) (kind : Kind) → IsLine l → text ≡ line_text l ++ 10 ∷ rest → next stand l ≡ Ok mid → LineFails stand text kind → ⊥
@@ -98,7 +100,7 @@ no_fault_at_end (AtQuantum cpus) text h = absurd (cc h)
 no_fault_at_end (AtLarge cpus) text h = absurd (cc h)
 no_fault_at_end (AtSched cpus count) text h = absurd (cc h)
 no_fault_at_end (AtBlock names) text h = refl
-no_fault_at_end (InBlock kind names) text h = absurd (cc h)
+no_fault_at_end (InBlock part kind names) text h = absurd (cc h)
 
 end_not_line : (stand : Stand) (text : List ℕ) (kind : Kind) → text ≡ [] → may_end stand ≡ true → LineFails stand text kind → ⊥
 end_not_line stand text _ e end (Early none early) = cc (sym end ∙ early)
@@ -222,49 +224,63 @@ known_fits : (scope : Scope) (reg bytes : List ℕ) (q : Place) → IsKnownComma
 known_fits scope reg bytes q ((place, here, fits, bytes_are), built, child) there wrong =
     cc (sym fits ∙ ap (λ (p : Place). fits_register p bytes) (one_place reg place q here.0 there.0) ∙ wrong)
 
--- a known command that forks no child again doesn't fail
-pub known_not_fails : (scope : Scope) (forked : List (List ℕ)) (command : Command) (kind : Kind) → IsKnownCommand scope command → AreDistinct (forked ++ forked_name command) → CommandFails scope forked command kind → ⊥
-known_not_fails scope forked command _ known once (refusals.Unknown _ reg named none) =
+-- a command with a register names no block
+register_unnamed : (scope : Scope) (inside : Bool) (forked : List (List ℕ)) (command : Command) (reg : List ℕ) → register_of command ≡ Some reg → name_fault scope inside forked command ≡ None
+register_unnamed scope inside forked (commands.Set word bytes) reg named = refl
+register_unnamed scope inside forked (commands.Get word) reg named = refl
+register_unnamed scope inside forked other reg named = absurd (cc named)
+
+-- nor is a known command refused by the block that it names
+known_named : (scope : Scope) (inside : Bool) (forked : List (List ℕ)) (command : Command) → NamesOne scope command → AreDistinct (forked ++ forked_name command) → (inside && is_outer command) ≡ false → name_fault scope inside forked command ≡ None
+known_named scope inside forked (commands.Fork name) named once out = rw (named, another forked [] name once) (outside inside out)
+  where
+    outside : (inside : Bool) → (inside && true) ≡ false → outer_fault inside ≡ None
+    outside true h = absurd (cc h)
+    outside false h = refl
+known_named scope inside forked (commands.Kill name signo) named once out = rw named (outside inside out)
+  where
+    outside : (inside : Bool) → (inside && true) ≡ false → outer_fault inside ≡ None
+    outside true h = absurd (cc h)
+    outside false h = refl
+known_named scope inside forked other named once out = refl
+
+-- a known command that forks no child again, and is no outer one in a handler, doesn't fail
+pub known_not_fails : (scope : Scope) (inside : Bool) (forked : List (List ℕ)) (command : Command) (kind : Kind) → IsKnownCommand scope command → AreDistinct (forked ++ forked_name command) → (inside && is_outer command) ≡ false → CommandFails scope inside forked command kind → ⊥
+known_not_fails scope inside forked command _ known once out (refusals.Unknown _ reg named none) =
     let h = known_register scope command reg named known in
     none h.0 h.1
-known_not_fails scope forked command _ known once (refusals.Unbuilt _ reg q named there unready) =
+known_not_fails scope inside forked command _ known once out (refusals.Unbuilt _ reg q named there unready) =
     let (place, here, built) = known_register scope command reg named known in
     cc (sym built ∙ ap is_built (one_place reg place q here.0 there.0) ∙ unready)
-known_not_fails scope forked _ _ known once (refusals.Misfit reg bytes q there ready wrong) = known_fits scope reg bytes q known there wrong
-known_not_fails scope forked _ _ known once (refusals.NoChild name none) = cc (sym known.2 ∙ none)
-known_not_fails scope forked _ _ known once (refusals.Again name child again) = cc (sym again ∙ another forked [] name once)
+known_not_fails scope inside forked _ _ known once out (refusals.Misfit reg bytes q there ready wrong) = known_fits scope reg bytes q known there wrong
+known_not_fails scope inside forked command kind known once out (refusals.Misnamed _ _ why) = cc (sym (known_named scope inside forked command known.2 once out) ∙ why)
 
 -- a command fails with one kind
-one_command_cause : (scope : Scope) (forked : List (List ℕ)) (command : Command) (k j : Kind) → CommandFails scope forked command k → CommandFails scope forked command j → k ≡ j
-one_command_cause scope forked command _ _ (refusals.Unknown _ reg named none) (refusals.Unknown _ reg' named' none') = refl
-one_command_cause scope forked command _ _ (refusals.Unknown _ reg named none) (refusals.Unbuilt _ reg' q named' there unready) =
+one_command_cause : (scope : Scope) (inside : Bool) (forked : List (List ℕ)) (command : Command) (k j : Kind) → CommandFails scope inside forked command k → CommandFails scope inside forked command j → k ≡ j
+one_command_cause scope inside forked command _ _ (refusals.Unknown _ reg named none) (refusals.Unknown _ reg' named' none') = refl
+one_command_cause scope inside forked command _ _ (refusals.Unknown _ reg named none) (refusals.Unbuilt _ reg' q named' there unready) =
     absurd (none q (subst (λ (r : List ℕ). IsRegister scope.layout r q) (one_register command reg' reg named' named) there))
-one_command_cause scope forked command _ _ (refusals.Unknown _ reg named none) (refusals.Misfit reg' bytes q there ready wrong) =
+one_command_cause scope inside forked command _ _ (refusals.Unknown _ reg named none) (refusals.Misfit reg' bytes q there ready wrong) =
     absurd (none q (subst (λ (r : List ℕ). IsRegister scope.layout r q) (one_register (commands.Set reg' bytes) reg' reg refl named) there))
-one_command_cause scope forked command _ _ (refusals.Unbuilt _ reg p named here unready) (refusals.Unknown _ reg' named' none) =
+one_command_cause scope inside forked command _ _ (refusals.Unknown _ reg named none) (refusals.Misnamed _ kind why) = absurd (cc (sym (register_unnamed scope inside forked command reg named) ∙ why))
+one_command_cause scope inside forked command _ _ (refusals.Unbuilt _ reg p named here unready) (refusals.Unknown _ reg' named' none) =
     absurd (none p (subst (λ (r : List ℕ). IsRegister scope.layout r p) (one_register command reg reg' named named') here))
-one_command_cause scope forked command _ _ (refusals.Unbuilt _ reg p named here unready) (refusals.Unbuilt _ reg' q named' there unready') = refl
-one_command_cause scope forked command _ _ (refusals.Unbuilt _ reg p named here unready) (refusals.Misfit reg' bytes q there ready wrong) =
+one_command_cause scope inside forked command _ _ (refusals.Unbuilt _ reg p named here unready) (refusals.Unbuilt _ reg' q named' there unready') = refl
+one_command_cause scope inside forked command _ _ (refusals.Unbuilt _ reg p named here unready) (refusals.Misfit reg' bytes q there ready wrong) =
     let same = same_place scope.layout (commands.Set reg' bytes) reg reg' p q named refl here there in
     absurd (cc (sym ready ∙ ap is_built (sym same) ∙ unready))
-one_command_cause scope forked command _ _ (refusals.Misfit reg bytes p here ready wrong) (refusals.Unknown _ reg' named' none) =
+one_command_cause scope inside forked command _ _ (refusals.Unbuilt _ reg p named here unready) (refusals.Misnamed _ kind why) = absurd (cc (sym (register_unnamed scope inside forked command reg named) ∙ why))
+one_command_cause scope inside forked command _ _ (refusals.Misfit reg bytes p here ready wrong) (refusals.Unknown _ reg' named' none) =
     absurd (none p (subst (λ (r : List ℕ). IsRegister scope.layout r p) (one_register (commands.Set reg bytes) reg reg' refl named') here))
-one_command_cause scope forked command _ _ (refusals.Misfit reg bytes p here ready wrong) (refusals.Unbuilt _ reg' q named' there unready) =
+one_command_cause scope inside forked command _ _ (refusals.Misfit reg bytes p here ready wrong) (refusals.Unbuilt _ reg' q named' there unready) =
     let same = same_place scope.layout (commands.Set reg bytes) reg reg' p q refl named' here there in
     absurd (cc (sym ready ∙ ap is_built same ∙ unready))
-one_command_cause scope forked command _ _ (refusals.Misfit reg bytes p here ready wrong) (refusals.Misfit _ _ q there ready' wrong') = refl
-one_command_cause scope forked command _ _ (refusals.Unknown _ reg named none) (refusals.NoChild name none') = refl
-one_command_cause scope forked command _ _ (refusals.Unknown _ reg named none) (refusals.Again name child again) = absurd (cc named)
-one_command_cause scope forked command _ _ (refusals.Unbuilt _ reg p named here unready) (refusals.NoChild name none) = absurd (cc named)
-one_command_cause scope forked command _ _ (refusals.Unbuilt _ reg p named here unready) (refusals.Again name child again) = absurd (cc named)
-one_command_cause scope forked command _ _ (refusals.NoChild name none) (refusals.Unknown _ reg named none') = refl
-one_command_cause scope forked command _ _ (refusals.NoChild name none) (refusals.Unbuilt _ reg p named here unready) = absurd (cc named)
-one_command_cause scope forked command _ _ (refusals.NoChild name none) (refusals.NoChild _ none') = refl
-one_command_cause scope forked command _ _ (refusals.NoChild name none) (refusals.Again _ child again) = absurd (cc (sym none ∙ child))
-one_command_cause scope forked command _ _ (refusals.Again name child again) (refusals.Unknown _ reg named none) = absurd (cc named)
-one_command_cause scope forked command _ _ (refusals.Again name child again) (refusals.Unbuilt _ reg p named here unready) = absurd (cc named)
-one_command_cause scope forked command _ _ (refusals.Again name child again) (refusals.NoChild _ none) = absurd (cc (sym none ∙ child))
-one_command_cause scope forked command _ _ (refusals.Again name child again) (refusals.Again _ child' again') = refl
+one_command_cause scope inside forked command _ _ (refusals.Misfit reg bytes p here ready wrong) (refusals.Misfit _ _ q there ready' wrong') = refl
+one_command_cause scope inside forked command _ _ (refusals.Misfit reg bytes p here ready wrong) (refusals.Misnamed _ kind why) = absurd (cc why)
+one_command_cause scope inside forked command _ _ (refusals.Misnamed _ kind why) (refusals.Unknown _ reg named none) = absurd (cc (sym (register_unnamed scope inside forked command reg named) ∙ why))
+one_command_cause scope inside forked command _ _ (refusals.Misnamed _ kind why) (refusals.Unbuilt _ reg p named here unready) = absurd (cc (sym (register_unnamed scope inside forked command reg named) ∙ why))
+one_command_cause scope inside forked command _ _ (refusals.Misnamed _ kind why) (refusals.Misfit reg bytes p here ready wrong) = absurd (cc why)
+one_command_cause scope inside forked command _ _ (refusals.Misnamed _ kind why) (refusals.Misnamed _ other why') = cc (sym why ∙ why')
 
 -- where lines fork no child again, the first of them doesn't
 first_once : (forked : List (List ℕ)) (l : Line) (ls : List Line) (command : Command) → l ≡ lines.Order command → AreDistinct (forked ++ forks_of (l ∷ ls)) → AreDistinct (forked ++ forked_name command)
@@ -273,40 +289,49 @@ first_once forked l ls command same h =
     distinct_front (forked ++ forked_name command) (forks_of ls) (subst AreDistinct (ap (λ (names : List (List ℕ)). forked ++ names) here ∙ sym (append_assoc forked (forked_name command) (forks_of ls))) h)
 
 -- among lines the first command that fails is one
-first_command : (scope : Scope) (forked : List (List ℕ)) (a b la lb : List Line) (c d : Command) (k j : Kind) → a ++ lines.Order c ∷ la ≡ b ++ lines.Order d ∷ lb → AllByRecursion (IsKnown scope) a → AllByRecursion (IsKnown scope) b → AreDistinct (forked ++ forks_of a) → AreDistinct (forked ++ forks_of b) → CommandFails scope (forked ++ forks_of a) c k → CommandFails scope (forked ++ forks_of b) d j → (length a ≡ length b) × (k ≡ j)
-first_command scope forked [] [] la lb c d k j e ha hb oa ob fc fd =
+first_command : (scope : Scope) (inside : Bool) (forked : List (List ℕ)) (a b la lb : List Line) (c d : Command) (k j : Kind) → a ++ lines.Order c ∷ la ≡ b ++ lines.Order d ∷ lb → AllByRecursion (IsKnown scope) a → AllByRecursion (IsKnown scope) b → AreDistinct (forked ++ forks_of a) → AreDistinct (forked ++ forks_of b) → AreOutside inside a → AreOutside inside b → CommandFails scope (in_handler_after inside a) (forked ++ forks_of a) c k → CommandFails scope (in_handler_after inside b) (forked ++ forks_of b) d j → (length a ≡ length b) × (k ≡ j)
+first_command scope inside forked [] [] la lb c d k j e ha hb oa ob ia ib fc fd =
     let same : d ≡ c = cc e in
-    (refl, one_command_cause scope (forked ++ []) c k j fc (subst (λ (x : Command). CommandFails scope (forked ++ []) x j) same fd))
-first_command scope forked [] (l ∷ b) la lb c d k j e ha hb oa ob fc fd =
+    (refl, one_command_cause scope inside (forked ++ []) c k j fc (subst (λ (x : Command). CommandFails scope inside (forked ++ []) x j) same fd))
+first_command scope inside forked [] (l ∷ b) la lb c d k j e ha hb oa ob ia ib fc fd =
     let same : l ≡ lines.Order c = cc e in
-    absurd (known_not_fails scope forked c k (subst (IsKnown scope) same hb.0) (first_once forked l b c same ob) (subst (λ (names : List (List ℕ)). CommandFails scope names c k) (append-nil forked) fc))
-first_command scope forked (l ∷ a) [] la lb c d k j e ha hb oa ob fc fd =
+    absurd (known_not_fails scope inside forked c k (subst (IsKnown scope) same hb.0) (first_once forked l b c same ob) (ap (λ (x : Line). inside && is_outer_line x) (sym same) ∙ ib.0) (subst (λ (names : List (List ℕ)). CommandFails scope inside names c k) (append-nil forked) fc))
+first_command scope inside forked (l ∷ a) [] la lb c d k j e ha hb oa ob ia ib fc fd =
     let same : l ≡ lines.Order d = cc e in
-    absurd (known_not_fails scope forked d j (subst (IsKnown scope) same ha.0) (first_once forked l a d same oa) (subst (λ (names : List (List ℕ)). CommandFails scope names d j) (append-nil forked) fd))
-first_command scope forked (l ∷ a) (l' ∷ b) la lb c d k j e ha hb oa ob fc fd =
+    absurd (known_not_fails scope inside forked d j (subst (IsKnown scope) same ha.0) (first_once forked l a d same oa) (ap (λ (x : Line). inside && is_outer_line x) (sym same) ∙ ia.0) (subst (λ (names : List (List ℕ)). CommandFails scope inside names d j) (append-nil forked) fd))
+first_command scope inside forked (l ∷ a) (l' ∷ b) la lb c d k j e ha hb oa ob ia ib fc fd =
     let same : l' ≡ l = cc e in
     let rest : a ++ lines.Order c ∷ la ≡ b ++ lines.Order d ∷ lb = cc e in
     let more = forked ++ fork_of_line l in
+    let next = in_handler inside l in
     let mine : forked ++ forks_of (l ∷ a) ≡ more ++ forks_of a = sym (append_assoc forked (fork_of_line l) (forks_of a)) in
     let yours : forked ++ forks_of (l' ∷ b) ≡ more ++ forks_of b = ap (λ (x : Line). forked ++ (fork_of_line x ++ forks_of b)) same ∙ sym (append_assoc forked (fork_of_line l) (forks_of b)) in
-    let r = first_command scope more a b la lb c d k j rest ha.1 hb.1 (subst AreDistinct mine oa) (subst AreDistinct yours ob) (subst (λ (names : List (List ℕ)). CommandFails scope names c k) mine fc) (subst (λ (names : List (List ℕ)). CommandFails scope names d j) yours fd) in
+    let ended : in_handler inside l' ≡ next = ap (in_handler inside) same in
+    let failed = subst (λ (t : Bool). CommandFails scope (in_handler_after t b) (forked ++ forks_of (l' ∷ b)) d j) ended fd in
+    let r = first_command scope next more a b la lb c d k j rest ha.1 hb.1 (subst AreDistinct mine oa) (subst AreDistinct yours ob) ia.1 (subst (λ (t : Bool). AreOutside t b) ended ib.1)
+    (subst (λ (names : List (List ℕ)). CommandFails scope (in_handler_after next a) names c k) mine fc)
+    (subst (λ (names : List (List ℕ)). CommandFails scope (in_handler_after next b) names d j) yours failed) in
     (omega (arith, r.0), r.1)
 
-one_command_refusal : (text : List ℕ) (m n : ℕ) (k j : Kind) → RefusesCommand text m k → RefusesCommand text n j → (m ≡ n) × (k ≡ j)
+pub one_command_refusal : (text : List ℕ) (m n : ℕ) (k j : Kind) → RefusesCommand text m k → RefusesCommand text n j → (m ≡ n) × (k ≡ j)
 one_command_refusal text m n k j r s =
     let mine = r.done ++ lines.Order r.command ∷ r.later in
     let yours = s.done ++ lines.Order s.command ∷ s.later in
     let same : mine ≡ yours = one_lines mine yours r.passes.lines_fit s.passes.lines_fit (sym r.passes.spelled ∙ s.passes.spelled) in
     let scope : scope_of yours ≡ scope_of mine = ap scope_of (sym same) in
     let known = subst (λ (x : Scope). AllByRecursion (IsKnown x) s.done) scope s.known.each in
-    let fails = subst (λ (x : Scope). CommandFails x (forks_of s.done) s.command j) scope s.fails in
-    let first = first_command (scope_of mine) [] r.done s.done r.later s.later r.command s.command k j same r.known.each known r.known.once s.known.once r.fails fails in
+    let fails = subst (λ (x : Scope). CommandFails x (in_handler_after false s.done) (forks_of s.done) s.command j) scope s.fails in
+    let first = first_command (scope_of mine) false [] r.done s.done r.later s.later r.command s.command k j same r.known.each known r.known.once s.known.once r.known.outside s.known.outside r.fails fails in
     (omega (arith, r.number_is, s.number_is, first.0), first.1)
 
--- ---- both passes
-
-pub one_refusal : (text : List ℕ) (m n : ℕ) (k j : Kind) → Refuses text m k → Refuses text n j → (m ≡ n) × (k ≡ j)
-one_refusal text m n k j (ByLine r) (ByLine s) = one_line_refusal text m n k j r s
-one_refusal text m n k j (ByLine r) (ByCommand s) = absurd (passes_not_refused text _ m k s.passes r)
-one_refusal text m n k j (ByCommand r) (ByLine s) = absurd (passes_not_refused text _ n j r.passes s)
-one_refusal text m n k j (ByCommand r) (ByCommand s) = one_command_refusal text m n k j r s
+-- lines in which nothing is wrong have no such command
+pub known_not_refused : (scope : Scope) (inside : Bool) (forked : List (List ℕ)) (a later : List Line) (c : Command) (k : Kind) → AllByRecursion (IsKnown scope) (a ++ lines.Order c ∷ later) → AreDistinct (forked ++ forks_of (a ++ lines.Order c ∷ later)) → AreOutside inside (a ++ lines.Order c ∷ later) → CommandFails scope (in_handler_after inside a) (forked ++ forks_of a) c k → ⊥
+known_not_refused scope inside forked [] later c k known once out fails =
+    known_not_fails scope inside forked c k known.0 (first_once forked (lines.Order c) later c refl once) out.0 (subst (λ (names : List (List ℕ)). CommandFails scope inside names c k) (append-nil forked) fails)
+known_not_refused scope inside forked (l ∷ a) later c k known once out fails =
+    let more = forked ++ fork_of_line l in
+    let ls = a ++ lines.Order c ∷ later in
+    let all : forked ++ (fork_of_line l ++ forks_of ls) ≡ more ++ forks_of ls = sym (append_assoc forked (fork_of_line l) (forks_of ls)) in
+    let mine : forked ++ (fork_of_line l ++ forks_of a) ≡ more ++ forks_of a = sym (append_assoc forked (fork_of_line l) (forks_of a)) in
+    known_not_refused scope (in_handler inside l) more a later c k known.1 (subst AreDistinct all once) out.1
+    (subst (λ (names : List (List ℕ)). CommandFails scope (in_handler_after (in_handler inside l) a) names c k) mine fails)

@@ -1,7 +1,7 @@
--- The script that lines are which pass.
-use Rattle.std.proofs.Common.{◌≡◌, ℕ, ◌+◌, ◌^◌, ◌<◌, ◌≤◌, Bool, true, false, ◌&&◌, nat_le, List, [], ◌∷◌, ◌++◌, length, map, Option, Some, None, Ok, Err, refl, sym, ◌∙◌, ap, subst, arith, length-append}
-use Rattle.std.specs.Prelude.{bytes_eq, if◌then◌else◌}
-use Rattle.std.specs.List.{AllByRecursion, flat_map, list_any, list_all}
+-- The script that lines are which pass: its schedule, its numbers and its machine.
+use Rattle.std.proofs.Common.{◌≡◌, ℕ, ◌+◌, ◌<◌, ◌≤◌, Bool, true, false, ◌&&◌, nat_le, List, [], ◌∷◌, ◌++◌, length, map, Option, Some, None, Ok, Err, refl, sym, ◌∙◌, ap, subst, arith, length-append}
+use Rattle.std.specs.Prelude.{if◌then◌else◌}
+use Rattle.std.specs.List.{AllByRecursion}
 use Rattle.std.proofs.lemmas.Bool.{and_parts}
 use Rattle.std.proofs.lemmas.Bool.Decides.{nat_tests}
 use Rattle.std.proofs.lemmas.List.{append_assoc, append-nil}
@@ -11,121 +11,17 @@ use Rattle.xs_base.specs.Layout.{IsLayout, row_error, table_error, first_row_fau
 use Rattle.xs_base.proofs.LayoutLemmas.{amx_is_layout, avx_is_layout}
 use Rattle.xs_model.specs.declared.script.Named.{Named}
 use Rattle.xs_model.specs.declared.script.Named.TheVariants.{Amx, Avx, Rows}
-use Rattle.xs_model.specs.declared.script.BlockKind.{BlockKind}
-use Rattle.xs_model.specs.declared.script.BlockKind.TheVariants as kinds
-use Rattle.xs_model.specs.declared.script.Order.{Order}
-use Rattle.xs_model.specs.declared.script.Block.{Block}
-use Rattle.xs_model.specs.Script.{IsTableOf, AreDistinct, AreNumbered, AreBlocksNumbered, fits_kind, is_kernel_command}
+use Rattle.xs_model.specs.Script.{IsTableOf}
 use Rattle.xs_script.specs.declared.line.Line.{Line}
 use Rattle.xs_script.specs.declared.line.Line.TheVariants as lines
-use Rattle.xs_script.specs.declared.refusal.Kind.TheVariants.{BadLine, Limit, Repeated}
+use Rattle.xs_script.specs.declared.refusal.Kind.TheVariants.{Limit}
 use Rattle.xs_script.specs.declared.refusal.LimitName.{LimitName}
 use Rattle.xs_script.specs.declared.refusal.LimitName.TheVariants as limits
-use Rattle.xs_script.specs.Grammar.{order_lines, block_lines, row_lines, sched_lines}
-use Rattle.xs_script.specs.LineOrder.{Stand, AtVersion, AtMachine, AtRow, AtCpus, AtQuantum, AtLarge, AtSched, AtBlock, InBlock, may_end, fits_sched, may_have, next, after_row, after_rows, Leads}
-use Rattle.xs_script.specs.Body.{names_of, IsPlainBlock}
-use Rattle.xs_script.proofs.BodyLines.{distinct_push, none_fits}
-use Rattle.xs_script.proofs.Fronts.{all_join}
+use Rattle.xs_script.specs.Grammar.{row_lines, sched_lines}
+use Rattle.xs_script.specs.LineOrder.{Stand, AtVersion, AtMachine, AtRow, AtCpus, AtQuantum, AtLarge, AtSched, AtBlock, may_end, fits_sched, next, after_row, after_rows, Leads}
+use Rattle.xs_script.proofs.BlockParts.{all_join}
 use Rattle.xs_script.proofs.EntryTests.{joined, within_parts}
-
--- ---- the blocks
-
--- Blocks that come after those with these names, to the end of the text.
-pub record AreLater (names : List (List ℕ)) (blocks : List Block) (end : Stand) : Type 0 where
-  pub plain : AllByRecursion IsPlainBlock blocks
-  pub distinct : AreDistinct names → AreDistinct (names ++ names_of blocks)
-  pub few : length names ≤ 64 → length names + length blocks ≤ 64
-  pub ends : end ≡ AtBlock (names ++ names_of blocks)
-
--- the lines are blocks, or the rest of one and blocks
-abbrev pub AreRead : Stand → List Line → Stand → ℕ → Type 0
-AreRead AtVersion ls end number = Unit {0}
-AreRead AtMachine ls end number = Unit {0}
-AreRead (AtRow rows) ls end number = Unit {0}
-AreRead AtCpus ls end number = Unit {0}
-AreRead (AtQuantum cpus) ls end number = Unit {0}
-AreRead (AtLarge cpus) ls end number = Unit {0}
-AreRead (AtSched cpus count) ls end number = Unit {0}
-AreRead (AtBlock names) ls end number = (blocks : List Block) × (ls ≡ flat_map block_lines blocks) × AreBlocksNumbered number blocks × AreLater names blocks end
-AreRead (InBlock kind names) ls end number = (orders : List Order) × (blocks : List Block) × (ls ≡ order_lines orders ++ lines.End ∷ flat_map block_lines blocks) × AreNumbered number orders × AreBlocksNumbered (number + length orders + 1) blocks × (fits_kind kind orders [] ≡ true) × AreLater names blocks end
-
--- what the first line of a block leads to, by its two tests
-begin_parts : (full repeated : Bool) (kind : BlockKind) (names : List (List ℕ)) (mid : Stand) → (if full then Err (Limit limits.Blocks) else if repeated then Err Repeated else Ok (InBlock kind names)) ≡ Ok mid → (full ≡ false) × (repeated ≡ false) × (InBlock kind names ≡ mid)
-begin_parts true repeated kind names mid h = absurd (cc h)
-begin_parts false true kind names mid h = absurd (cc h)
-begin_parts false false kind names mid h = (refl, refl, cc h)
-
--- what a command leads to, by its test
-order_parts : (may : Bool) (kind : BlockKind) (names : List (List ℕ)) (mid : Stand) → (if may then Ok (InBlock kind names) else Err BadLine) ≡ Ok mid → (may ≡ true) × (InBlock kind names ≡ mid)
-order_parts true kind names mid h = (refl, cc h)
-order_parts false kind names mid h = absurd (cc h)
-
--- one order before others, where the kind of its block may have it
-first_fits : (kind : BlockKind) (order : Order) (orders : List Order) → may_have kind order.command ≡ true → fits_kind kind orders [] ≡ true → fits_kind kind (order ∷ orders) [] ≡ true
-first_fits kinds.Task order orders may h = refl
-first_fits kinds.Child order orders may h = refl
-first_fits kinds.Kthread order orders may h =
-    let parts = and_parts (list_all (λ (o : Order). is_kernel_command o.command) orders) true h in
-    rw (may, parts.0) refl
-
-below_64 : (n : ℕ) → nat_le 64 n ≡ false → n < 64
-below_64 n h = grind (arith, nat_tests)
-
-no_block : (names : List (List ℕ)) (end : Stand) → end ≡ AtBlock names → AreLater names [] end
-no_block names end h = record {
-  plain = tt;
-  distinct = λ d. subst AreDistinct (sym (append-nil names)) d;
-  few = λ few. omega arith;
-  ends = h ∙ ap AtBlock (sym (append-nil names));
-}
-
--- one block before others
-block_first : (names : List (List ℕ)) (kind : BlockKind) (name : List ℕ) (orders : List Order) (blocks : List Block) (end : Stand) → length names < 64 → list_any (λ other. bytes_eq other name) names ≡ false → fits_kind kind orders [] ≡ true → AreLater (names ++ name ∷ []) blocks end → AreLater names (record { kind = kind; name = name; body = orders; handler = [] } ∷ blocks) end
-block_first names kind name orders blocks end few new fits h =
-    let same : (names ++ name ∷ []) ++ names_of blocks ≡ names ++ name ∷ names_of blocks = append_assoc names (name ∷ []) (names_of blocks) in
-    let long : length (names ++ name ∷ []) ≡ length names + 1 = length-append names (name ∷ []) in
-    record {
-      plain = (record { handler = refl; fits = fits }, h.plain);
-      distinct = λ d. subst AreDistinct same (h.distinct (distinct_push names name d new));
-      few = λ f. let r = h.few (omega (arith, long)) in omega (arith, long, r);
-      ends = h.ends ∙ ap AtBlock same;
-    }
-
-not_over : (stand end : Stand) → may_end stand ≡ false → end ≡ stand → may_end end ≡ true → ⊥
-not_over stand end early e whole = cc (sym early ∙ sym (ap may_end e) ∙ whole)
-
-pub blocks_read : (stand : Stand) (ls : List Line) (end : Stand) (number : ℕ) → number + length ls < 2 ^ 32 → Leads stand ls end → may_end end ≡ true → AreRead stand ls end number
-blocks_read AtVersion ls end number room leads whole = tt
-blocks_read AtMachine ls end number room leads whole = tt
-blocks_read (AtRow rows) ls end number room leads whole = tt
-blocks_read AtCpus ls end number room leads whole = tt
-blocks_read (AtQuantum cpus) ls end number room leads whole = tt
-blocks_read (AtLarge cpus) ls end number room leads whole = tt
-blocks_read (AtSched cpus count) ls end number room leads whole = tt
-blocks_read (AtBlock names) [] end number room leads whole = ([], refl, tt, no_block names end leads)
-blocks_read (AtBlock names) (lines.Begin kind name ∷ ls) end number room (mid, step, leads) whole =
-    let parts = begin_parts (nat_le 64 (length names)) (list_any (λ other. bytes_eq other name) names) kind (names ++ name ∷ []) mid step in
-    let (orders, blocks, is, numbered, later, fits, h) = blocks_read (InBlock kind (names ++ name ∷ [])) ls end (number + 1) (omega arith) (subst (λ (s : Stand). Leads s ls end) (sym parts.2) leads) whole in
-    let at : number + 1 + length orders + 1 ≡ number + length orders + 2 = omega arith in (
-      record { kind = kind; name = name; body = orders; handler = [] } ∷ blocks,
-      ap (λ (xs : List Line). lines.Begin kind name ∷ xs) (is ∙ sym (append_assoc (order_lines orders) (lines.End ∷ []) (flat_map block_lines blocks))),
-      (numbered, subst (λ (n : ℕ). AreBlocksNumbered n blocks) at later),
-      block_first names kind name orders blocks end (below_64 (length names) parts.0) parts.1 fits h,
-    )
-blocks_read (AtBlock names) (l ∷ ls) end number room (mid, step, leads) whole = absurd (cc step)
-blocks_read (InBlock kind names) [] end number room leads whole = absurd (not_over (InBlock kind names) end refl leads whole)
-blocks_read (InBlock kind names) (lines.Order command ∷ ls) end number room (mid, step, leads) whole =
-    let parts = order_parts (may_have kind command) kind names mid step in
-    let (orders, blocks, is, numbered, later, fits, h) = blocks_read (InBlock kind names) ls end (number + 1) (omega arith) (subst (λ (s : Stand). Leads s ls end) (sym parts.1) leads) whole in
-    let order : Order = record { number = number; command = command; in_range = omega arith } in
-    let at : number + 1 + length orders + 1 ≡ number + length (order ∷ orders) + 1 = omega arith in
-    (order ∷ orders, blocks, ap (λ (xs : List Line). lines.Order command ∷ xs) is, (refl, numbered), subst (λ (n : ℕ). AreBlocksNumbered n blocks) at later, first_fits kind order orders parts.0 fits, h)
-blocks_read (InBlock kind names) (lines.End ∷ ls) end number room (mid, step, leads) whole =
-    let same : AtBlock names ≡ mid = cc step in
-    let (blocks, is, numbered, h) = blocks_read (AtBlock names) ls end (number + 1) (omega arith) (subst (λ (s : Stand). Leads s ls end) (sym same) leads) whole in
-    let at : number + 1 ≡ number + 0 + 1 = omega arith in
-    ([], blocks, ap (λ (xs : List Line). lines.End ∷ xs) is, tt, subst (λ (n : ℕ). AreBlocksNumbered n blocks) at numbered, none_fits kind, h)
-blocks_read (InBlock kind names) (l ∷ ls) end number room (mid, step, leads) whole = absurd (cc step)
+use Rattle.xs_script.proofs.ReadBlocks.{not_over}
 
 -- ---- the schedule
 

@@ -1,5 +1,5 @@
 -- Readers of one line, part by part.
-use Rattle.std.proofs.Common.{◌≡◌, ℕ, ◌+◌, ◌<◌, ◌≤◌, ◌*◌, ◌%◌, ◌==◌, Bool, true, false, List, [], ◌∷◌, ◌++◌, length, slice_index, Option, Some, None, refl, sym, ◌∙◌, ap, arith, decimal}
+use Rattle.std.proofs.Common.{◌≡◌, ℕ, ◌+◌, ◌<◌, ◌≤◌, ◌*◌, ◌%◌, ◌==◌, Bool, true, false, List, [], ◌∷◌, ◌++◌, length, slice_index, Option, Some, None, refl, sym, ◌∙◌, ap, arith, codes, decimal}
 use Rattle.std.specs.Prelude.{nat_eq}
 use Rattle.std.specs.List.{list_all}
 use Rattle.std.proofs.lemmas.Bool.{and_parts}
@@ -10,13 +10,15 @@ use Rattle.hex.specs.Hex.{encode_lower, lower_digits}
 use Rattle.hex.proofs.HexLemmas.{length-encode_with}
 use Rattle.xs_base.specs.declared.component.Row.{Row}
 use Rattle.xs_base.specs.Layout.{row}
+use Rattle.xs_model.specs.declared.script.Command.TheVariants as commands
+use Rattle.xs_model.specs.Script.{is_name}
 use Rattle.xs_script.specs.declared.line.Line.{Line}
 use Rattle.xs_script.specs.declared.line.Line.TheVariants as lines
 use Rattle.xs_script.specs.ScriptLine.{line_text, IsLine, IsNumber, row_text, kept_bytes, kept_line, is_register_word}
 use Rattle.xs_script.specs.Reads.{ReadsAs, Lacks}
 use Rattle.xs_script.specs.Refusal.{NoLine}
-use Rattle.xs_script.specs.Parts.{IsValue, IsSpelledBy, is_lower_digit, digit_value, is_hex_text, IsPlainLine, IsBlockLine, IsHeadLine, NoPlainLine}
-use Rattle.xs_script.proofs.Cuts.{one_cut, no_cut, Lacks-register}
+use Rattle.xs_script.specs.Parts.{IsValue, IsSpelledBy, is_lower_digit, digit_value, is_hex_text, IsPlainLine, IsBlockLine, IsSignalLine, IsHeadLine, IsKillLine, NoPlainLine}
+use Rattle.xs_script.proofs.Cuts.{one_cut, no_cut, Lacks-name, Lacks-register}
 use Rattle.xs_script.proofs.HexText.{AreDecoded, decoded, hex_text, hex_text_bytes}
 use Rattle.xs_script.proofs.Kept.{kept_same_bytes, kept_long}
 use Rattle.xs_script.proofs.Entries.{lacks_space, one_pair}
@@ -100,6 +102,27 @@ pub set_parts : (words reg digits name bytes : List ℕ) → words ≡ reg ++ 32
 set_parts words reg digits name bytes cut lacks fits spelled =
     one_cut 32 reg name digits (encode_lower bytes) lacks (Lacks-register 32 name refl fits) (sym cut ∙ spelled)
 
+-- the number and the digits of a line with a number before its last word
+pub first_number_parts : (words rest more : List ℕ) (n m : ℕ) → IsNumber n → words ≡ decimal n ++ 32 ∷ rest → IsNumber m → words ≡ decimal m ++ 32 ∷ more → rest ≡ more
+first_number_parts words rest more n m fn cut fm spelled = next_words n m words rest more fn fm cut spelled
+
+-- the name and the number of a line that sends a signal
+pub kill_parts : (words front digits name : List ℕ) (number : ℕ) → words ≡ front ++ 32 ∷ digits → Lacks 32 front → is_name name ≡ true → words ≡ name ++ 32 ∷ decimal number → (front ≡ name) × (digits ≡ decimal number)
+kill_parts words front digits name number cut lacks fits spelled =
+    one_cut 32 front name digits (decimal number) lacks (Lacks-name 32 name refl refl fits) (sym cut ∙ spelled)
+
+-- the line of a name and a number
+pub kill_read : (words name digits : List ℕ) (number : ℕ) (l : Line) → words ≡ name ++ 32 ∷ digits → is_name name ≡ true → IsNumber number → digits ≡ decimal number → IsKillLine name number l → ReadsAs line_text IsSignalLine kept_line (Some l) (codes "kill " ++ words)
+kill_read words name digits number (lines.Order (commands.Kill to signo)) cut fits small is h =
+    let at = h.0 in
+    let same = h.1 in
+    (lines.Order (commands.Kill to signo), rw at fits, rw (cut, is, at, same) refl, refl)
+kill_read words name digits number (lines.NoSignal to other) cut fits small is h =
+    let at = h.0 in
+    let same = h.1 in
+    (lines.NoSignal to other, (rw at fits, rw same small, rw same h.2), rw (cut, is, at, same) refl, refl)
+kill_read words name digits number l cut fits small is h = absurd h
+
 -- ---- the first line of a text
 
 -- a text with no line feed has no first line
@@ -122,14 +145,29 @@ plain_is_line (lines.Quantum n) fits = fits
 plain_is_line (lines.Large n) fits = fits
 plain_is_line (lines.Begin kind name) fits = fits
 plain_is_line (lines.Order command) fits = fits
+plain_is_line (lines.NoSignal name number) fits = fits
+plain_is_line lines.Handler fits = fits
 plain_is_line lines.End fits = fits
 
 -- such a line is one of a block or one before the schedule
 pub block_is_plain : (l : Line) → IsBlockLine l → IsPlainLine l
 block_is_plain (lines.Begin kind name) fits = fits
-block_is_plain (lines.Order command) fits = fits
+block_is_plain (lines.Order (commands.Set reg bytes)) fits = fits
+block_is_plain (lines.Order (commands.Get reg)) fits = fits
+block_is_plain (lines.Order (commands.Ksec byte)) fits = fits
+block_is_plain (lines.Order commands.Yield) fits = fits
+block_is_plain (lines.Order (commands.Fork name)) fits = fits
 block_is_plain lines.End fits = fits
 block_is_plain l fits = absurd fits
+
+pub signal_is_plain : (l : Line) → IsSignalLine l → IsPlainLine l
+signal_is_plain (lines.Order (commands.Peek at len)) fits = fits
+signal_is_plain (lines.Order (commands.Poke at bytes)) fits = fits
+signal_is_plain (lines.Order commands.Sigreturn) fits = fits
+signal_is_plain (lines.Order (commands.Kill name signo)) fits = fits
+signal_is_plain (lines.NoSignal name number) fits = fits
+signal_is_plain lines.Handler fits = fits
+signal_is_plain l fits = absurd fits
 
 head_is_plain : (l : Line) → IsHeadLine l → IsPlainLine l
 head_is_plain lines.Version fits = fits
@@ -140,22 +178,33 @@ head_is_plain (lines.Quantum n) fits = fits
 head_is_plain (lines.Large n) fits = fits
 head_is_plain l fits = absurd fits
 
-no_other : (bytes : List ℕ) (l : Line) → ((l : Line) → IsBlockLine l → bytes ≡ line_text l → ⊥) → ((l : Line) → IsHeadLine l → bytes ≡ line_text l → ⊥) → IsPlainLine l → bytes ≡ line_text l → ⊥
-no_other bytes (lines.Sched entries) block head fits e = absurd fits
-no_other bytes (lines.Begin kind name) block head fits e = block (lines.Begin kind name) fits e
-no_other bytes (lines.Order command) block head fits e = block (lines.Order command) fits e
-no_other bytes lines.End block head fits e = block lines.End fits e
-no_other bytes lines.Version block head fits e = head lines.Version fits e
-no_other bytes (lines.Machine named) block head fits e = head (lines.Machine named) fits e
-no_other bytes (lines.Row r) block head fits e = head (lines.Row r) fits e
-no_other bytes (lines.Cpus n) block head fits e = head (lines.Cpus n) fits e
-no_other bytes (lines.Quantum n) block head fits e = head (lines.Quantum n) fits e
-no_other bytes (lines.Large n) block head fits e = head (lines.Large n) fits e
+no_other : (bytes : List ℕ) (l : Line) → ((l : Line) → IsBlockLine l → bytes ≡ line_text l → ⊥) → ((l : Line) → IsSignalLine l → bytes ≡ line_text l → ⊥) → ((l : Line) → IsHeadLine l → bytes ≡ line_text l → ⊥) → IsPlainLine l → bytes ≡ line_text l → ⊥
+no_other bytes (lines.Sched entries) block signal head fits e = absurd fits
+no_other bytes (lines.Begin kind name) block signal head fits e = block (lines.Begin kind name) fits e
+no_other bytes (lines.Order (commands.Set reg value)) block signal head fits e = block (lines.Order (commands.Set reg value)) fits e
+no_other bytes (lines.Order (commands.Get reg)) block signal head fits e = block (lines.Order (commands.Get reg)) fits e
+no_other bytes (lines.Order (commands.Ksec byte)) block signal head fits e = block (lines.Order (commands.Ksec byte)) fits e
+no_other bytes (lines.Order commands.Yield) block signal head fits e = block (lines.Order commands.Yield) fits e
+no_other bytes (lines.Order (commands.Fork name)) block signal head fits e = block (lines.Order (commands.Fork name)) fits e
+no_other bytes (lines.Order (commands.Peek at len)) block signal head fits e = signal (lines.Order (commands.Peek at len)) fits e
+no_other bytes (lines.Order (commands.Poke at value)) block signal head fits e = signal (lines.Order (commands.Poke at value)) fits e
+no_other bytes (lines.Order commands.Sigreturn) block signal head fits e = signal (lines.Order commands.Sigreturn) fits e
+no_other bytes (lines.Order (commands.Kill name signo)) block signal head fits e = signal (lines.Order (commands.Kill name signo)) fits e
+no_other bytes (lines.Order other) block signal head fits e = absurd fits
+no_other bytes (lines.NoSignal name number) block signal head fits e = signal (lines.NoSignal name number) fits e
+no_other bytes lines.Handler block signal head fits e = signal lines.Handler fits e
+no_other bytes lines.End block signal head fits e = block lines.End fits e
+no_other bytes lines.Version block signal head fits e = head lines.Version fits e
+no_other bytes (lines.Machine named) block signal head fits e = head (lines.Machine named) fits e
+no_other bytes (lines.Row r) block signal head fits e = head (lines.Row r) fits e
+no_other bytes (lines.Cpus n) block signal head fits e = head (lines.Cpus n) fits e
+no_other bytes (lines.Quantum n) block signal head fits e = head (lines.Quantum n) fits e
+no_other bytes (lines.Large n) block signal head fits e = head (lines.Large n) fits e
 
 -- what isn't read as a line of a block is read as one before the schedule, if it is one
-pub reads_either : (bytes : List ℕ) (r : Option Line) → ((l : Line) → IsBlockLine l → bytes ≡ line_text l → ⊥) → ReadsAs line_text IsHeadLine kept_line r bytes → ReadsAs line_text IsPlainLine kept_line r bytes
-reads_either bytes None block head = λ l fits e. no_other bytes l block head fits e
-reads_either bytes (Some l) block head = (head.0, head_is_plain head.0 head.1, head.2, head.3)
+pub reads_either : (bytes : List ℕ) (r : Option Line) → ((l : Line) → IsBlockLine l → bytes ≡ line_text l → ⊥) → ((l : Line) → IsSignalLine l → bytes ≡ line_text l → ⊥) → ReadsAs line_text IsHeadLine kept_line r bytes → ReadsAs line_text IsPlainLine kept_line r bytes
+reads_either bytes None block signal head = λ l fits e. no_other bytes l block signal head fits e
+reads_either bytes (Some l) block signal head = (head.0, head_is_plain head.0 head.1, head.2, head.3)
 
 -- such lines among them
 pub no_plain_line : (text : List ℕ) → Lacks 10 text → NoPlainLine text

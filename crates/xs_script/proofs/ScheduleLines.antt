@@ -22,7 +22,8 @@ use Rattle.xs_script.proofs.Cuts.{Lacks-append, no_cut}
 use Rattle.xs_script.proofs.Spellings.{lacks_word}
 use Rattle.xs_script.proofs.FirstWords.{no_sched}
 use Rattle.xs_script.proofs.Readings.{other_line}
-use Rattle.xs_script.proofs.Fronts.{all_join, front_none, front_push, line_explains}
+use Rattle.xs_script.proofs.Fronts.{front_none, front_push, line_explains}
+use Rattle.xs_script.proofs.BlockParts.{all_join}
 use Rattle.xs_script.proofs.BodyLines.{all_push}
 use Rattle.xs_script.proofs.EntryTests.{joined, within_parts}
 
@@ -62,6 +63,8 @@ misplaced_after cpus count text (lines.Quantum n) rest kind none built fits e h 
 misplaced_after cpus count text (lines.Large n) rest kind none built fits e h = Misplaced (lines.Large n) rest kind built fits e h
 misplaced_after cpus count text (lines.Begin block name) rest kind none built fits e h = Misplaced (lines.Begin block name) rest kind built fits e h
 misplaced_after cpus count text (lines.Order command) rest kind none built fits e h = Misplaced (lines.Order command) rest kind built fits e h
+misplaced_after cpus count text (lines.NoSignal name number) rest kind none built fits e h = Misplaced (lines.NoSignal name number) rest kind built fits e h
+misplaced_after cpus count text lines.Handler rest kind none built fits e h = Misplaced lines.Handler rest kind built fits e h
 misplaced_after cpus count text lines.End rest kind none built fits e h = Misplaced lines.End rest kind built fits e h
 
 line_after : (cpus count : ℕ) (text : List ℕ) (kind : Kind) → NoSched text → LineFails (AtBlock []) text kind → LineFails (AtSched cpus count) text kind

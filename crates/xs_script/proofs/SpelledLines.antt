@@ -1,13 +1,14 @@
 -- The lines of a script that a text spells.
-use Rattle.std.proofs.Common.{◌≡◌, ℕ, ◌+◌, ◌<◌, ◌≤◌, Bool, true, false, ◌&&◌, ◌||◌, ◌==◌, nat_le, nat_lt, List, [], ◌∷◌, ◌++◌, length, map, None, Ok, refl, sym, ◌∙◌, ap, subst, arith, length-append}
+use Rattle.std.proofs.Common.{◌≡◌, ℕ, ◌+◌, ◌<◌, ◌≤◌, Bool, true, false, not, ◌&&◌, ◌||◌, ◌==◌, nat_le, nat_lt, List, [], ◌∷◌, ◌++◌, length, map, None, Ok, refl, sym, ◌∙◌, ap, subst, arith, length-append}
 use Rattle.std.specs.Prelude.{bytes_eq}
 use Rattle.std.specs.List.{AllByRecursion, flat_map, list_any, list_all}
-use Rattle.std.proofs.lemmas.Bool.{lt-leb, le-leb, lt-ltb, and_parts}
+use Rattle.std.proofs.lemmas.Bool.{lt-leb, le-leb, lt-ltb, and_parts, eqb-true}
 use Rattle.std.proofs.lemmas.List.{append_assoc, append-nil}
 use Rattle.xs_base.specs.declared.component.Row.{Row}
 use Rattle.xs_base.specs.declared.component.Place.{Place}
 use Rattle.xs_base.specs.Layout.{IsSound, IsLayout, first_row_fault}
 use Rattle.xs_base.specs.Register.{IsNamed}
+use Rattle.xs_base.specs.Task.{frame_length}
 use Rattle.xs_base.proofs.LayoutLemmas.{row_fault_none, layout_parts, passes, passes_sound}
 use Rattle.xs_base.proofs.Registers.{place_length, name_length, name_spelled, is_name_byte}
 use Rattle.xs_model.specs.declared.script.Named.{Named}
@@ -19,27 +20,27 @@ use Rattle.xs_model.specs.declared.script.Command.TheVariants as commands
 use Rattle.xs_model.specs.declared.script.Order.{Order}
 use Rattle.xs_model.specs.declared.script.Block.{Block}
 use Rattle.xs_model.specs.declared.script.Script.{Script}
-use Rattle.xs_model.specs.Names.{NamesBlock, AreNamedAfter, AreNamed, forked_name, all_forked_names}
-use Rattle.xs_model.specs.Script.{IsValid, IsBuilt, IsCommand, IsBody, IsBuiltCommand, is_built_kind, is_kernel_command, fits_kind, AreDistinct, is_name, is_letter}
+use Rattle.xs_model.specs.Names.{NamesBlock, AreNamedAfter, AreNamed, forked_names, all_forked_names}
+use Rattle.xs_model.specs.Script.{IsValid, IsBuilt, AreBuilt, IsCommand, IsBody, IsBuiltCommand, fits_memory, is_outer, is_return, is_handler, is_handler_from, is_user_kind, is_kernel_command, fits_kind, AreDistinct, is_name, is_letter}
+use Rattle.xs_script.specs.declared.block_part.BlockPart.TheVariants as places
 use Rattle.xs_script.specs.declared.commands.Scope.{Scope}
 use Rattle.xs_script.specs.declared.line.Line.{Line}
 use Rattle.xs_script.specs.declared.line.Line.TheVariants as lines
-use Rattle.xs_script.specs.declared.refusal.Kind.{Kind}
 use Rattle.xs_script.specs.ScriptLine.{IsNumber, IsLine, IsCommandLine, is_register_byte, is_register_word}
-use Rattle.xs_script.specs.Grammar.{order_lines, lines_text, block_lines, row_lines, head_lines, sched_lines, script_lines, Spells}
-use Rattle.xs_script.specs.LineOrder.{Stand, AtVersion, AtMachine, AtRow, AtCpus, AtQuantum, AtLarge, AtSched, AtBlock, InBlock, may_have, next, after_machine, Leads}
-use Rattle.xs_script.specs.Refusal.{AreLines, Passes, table_of, children_of, forks_of, scope_of, IsKnown, CommandFails, Refuses, ByLine, ByCommand}
+use Rattle.xs_script.specs.Grammar.{order_lines, handler_lines, lines_text, block_lines, row_lines, head_lines, sched_lines, script_lines, Spells}
+use Rattle.xs_script.specs.LineOrder.{Stand, AtVersion, AtMachine, AtRow, AtCpus, AtQuantum, AtLarge, AtSched, AtBlock, InBlock, may_have, command_limit, next, after_machine, Leads}
+use Rattle.xs_script.specs.Refusal.{AreLines, Passes, forks_of, IsKnown, AreOutside, IsScriptOf}
 use Rattle.xs_script.specs.Body.{names_of}
+use Rattle.xs_script.specs.Front.{IsFront}
 use Rattle.xs_script.proofs.CommandFaults.{fits_length}
 use Rattle.xs_script.proofs.HeadRows.{row_leads, rows_over}
-use Rattle.xs_script.proofs.Fronts.{all_join, leads_join}
-use Rattle.xs_script.proofs.BodyLines.{all_parts, another, distinct_front}
-use Rattle.xs_script.proofs.Children.{child_names, child_is_name, names_child, no_children, no_forks, front_no_names, blocks_forks, forks_join}
-use Rattle.xs_script.proofs.WholeScripts.{blocks_no_rows, sched_no_rows, no_rows_table, table_of_lines, same_scope, head_known, sched_known, some_lines, may_end_some}
-use Rattle.xs_script.specs.Front.{IsFront}
+use Rattle.xs_script.proofs.Fronts.{leads_join}
+use Rattle.xs_script.proofs.BlockParts.{all_join, all_parts, block_row, block_join, handler_all}
+use Rattle.xs_script.proofs.BodyLines.{another}
+use Rattle.xs_script.proofs.Children.{block_scope, child_is_name, handled_is_name, names_one, local_names, handler_local, handler_no_forks, no_forks, front_outside, front_no_names, blocks_forks}
+use Rattle.xs_script.proofs.WholeScripts.{parted_lines, script_scope, head_known, sched_known, some_lines, may_end_some}
 use Rattle.xs_script.proofs.ScheduleLines.{front_after}
-use Rattle.xs_script.proofs.EntryTests.{joined, within_test}
-use Rattle.xs_script.proofs.OneRefusal.{one_lines, passes_not_refused, known_not_fails}
+use Rattle.xs_script.proofs.EntryTests.{at_most, joined, within_test}
 
 -- ---- each has a spelling
 
@@ -77,6 +78,13 @@ register_word reg place named =
     let few : nat_le (length reg) 16 ≡ true = le-leb (length reg) 16 size.1 in
     rw (bytes, some, few) refl
 
+-- what lies within the frame memory
+memory_parts : (at len : ℕ) → fits_memory frame_length at len ≡ true → (1 ≤ len) × (len ≤ 64) × (at + len ≤ frame_length)
+memory_parts at len h =
+    let outer = and_parts (nat_le 1 len && nat_le len 64) (nat_le (at + len) frame_length) h in
+    let inner = and_parts (nat_le 1 len) (nat_le len 64) outer.0 in
+    (at_most 1 len inner.0, at_most len 64 inner.1, at_most (at + len) frame_length outer.1)
+
 -- a script's commands, which have names of blocks
 module _ (rows : List Row) (all : List Block) (names : AllByRecursion (λ (b : Block). is_name b.name ≡ true) all) where
   command_fits : (earlier : List Order) (command : Command) → IsCommand rows command → IsBuiltCommand command → NamesBlock all earlier command → IsCommandLine command
@@ -87,6 +95,10 @@ module _ (rows : List Row) (all : List Block) (names : AllByRecursion (λ (b : B
   command_fits earlier (commands.Get reg) (place, here) built named = register_word reg place here.0
   command_fits earlier (commands.Ksec byte) fits built named = fits
   command_fits earlier commands.Yield fits built named = tt
+  command_fits earlier (commands.Peek at len) fits built named = let parts = memory_parts at len fits in (omega (arith, parts.2), omega (arith, parts.1))
+  command_fits earlier (commands.Poke at bytes) fits built named = let parts = memory_parts at (length bytes) fits.0 in (omega (arith, parts.2), omega (arith, parts.0), fits.1)
+  command_fits earlier commands.Sigreturn fits built named = tt
+  command_fits earlier (commands.Kill name signo) fits built named = handled_is_name all name names named
   command_fits earlier (commands.Fork name) fits built named = child_is_name all name names named
   command_fits earlier other fits built named = absurd built
 
@@ -94,14 +106,20 @@ module _ (rows : List Row) (all : List Block) (names : AllByRecursion (λ (b : B
   orders_fit earlier [] h g n = tt
   orders_fit earlier (o ∷ orders) h g n = (command_fits earlier o.command h.0 g.0 n.0, orders_fit (o ∷ earlier) orders h.1 g.1 n.1)
 
-  pub blocks_fit : (blocks : List Block) → AllByRecursion (λ (b : Block). (is_built_kind b.kind ≡ true) × (b.handler ≡ [])) blocks → AllByRecursion (λ (b : Block). is_name b.name ≡ true) blocks → AllByRecursion (λ (b : Block). IsBody rows b) blocks → AllByRecursion (λ (b : Block). AllByRecursion (λ (order : Order). IsBuiltCommand order.command) b.body) blocks → AllByRecursion (λ (b : Block). AreNamed all b.body) blocks → AreLines (flat_map block_lines blocks)
-  blocks_fit [] kinds spelled bodies built named = tt
-  blocks_fit (b ∷ blocks) kinds spelled bodies built named =
-      ((kinds.0.0, spelled.0), all_join IsLine (order_lines b.body ++ lines.End ∷ []) (flat_map block_lines blocks) (all_join IsLine (order_lines b.body) (lines.End ∷ []) (orders_fit [] b.body bodies.0.body built.0 named.0) (tt, tt)) (blocks_fit blocks kinds.1 spelled.1 bodies.1 built.1 named.1))
+  -- those of a handler are local
+  local_fit : (orders : List Order) → AllByRecursion (λ (order : Order). IsCommand rows order.command) orders → AllByRecursion (λ (order : Order). IsBuiltCommand order.command) orders → AllByRecursion (λ (order : Order). is_outer order.command ≡ false) orders → AreLines (order_lines orders)
+  local_fit [] h g local = tt
+  local_fit (o ∷ orders) h g local = (command_fits [] o.command h.0 g.0 (local_names all [] o.command local.0), local_fit orders h.1 g.1 local.1)
+
+  pub blocks_fit : (blocks : List Block) → AllByRecursion (λ (b : Block). is_name b.name ≡ true) blocks → AllByRecursion (λ (b : Block). IsBody rows b) blocks → AllByRecursion (λ (b : Block). AreBuilt b.body) blocks → AllByRecursion (λ (b : Block). AreBuilt b.handler) blocks → AllByRecursion (λ (b : Block). AreNamed all b.body) blocks → AreLines (flat_map block_lines blocks)
+  blocks_fit [] spelled bodies built handled named = tt
+  blocks_fit (b ∷ blocks) spelled bodies built handled named =
+      let handler = handler_all IsLine b.handler tt (local_fit b.handler bodies.0.handler handled.0 (handler_local b.handler bodies.0.returns)) in
+      block_join IsLine b (flat_map block_lines blocks) (record { begins = spelled.0; body = orders_fit [] b.body bodies.0.body built.0 named.0; handler = handler; ends = tt }) (blocks_fit blocks spelled.1 bodies.1 built.1 handled.1 named.1)
 
 -- the lines of its blocks
 script_fits : (script : Script) → IsValid script → IsBuilt script → AreLines (flat_map block_lines script.blocks)
-script_fits script valid built = blocks_fit script.layout script.blocks valid.names script.blocks built.kinds valid.names valid.bodies built.commands valid.named
+script_fits script valid built = blocks_fit script.layout script.blocks valid.names script.blocks valid.names valid.bodies built.bodies built.handlers valid.named
 
 -- the lines of a schedule, whose entries are processors
 sched_fits : (groups : List (List ℕ)) (cpus : ℕ) → cpus ≤ 16 → AllByRecursion (λ group. 0 < length group) groups → AllByRecursion (λ entry. entry < cpus) (joined groups) → AreLines (sched_lines groups)
@@ -172,29 +190,70 @@ sched_leads_on cpus count (g ∷ groups) below few =
     let later = sched_leads_on cpus (count + length g) groups parts.1 (omega (arith, long, few)) in
     (AtSched cpus (count + length g), rw within refl, subst (λ (n : ℕ). Leads (AtSched cpus (count + length g)) (sched_lines groups) (AtSched cpus n)) all later)
 
-orders_lead : (kind : BlockKind) (names : List (List ℕ)) (orders : List Order) (handler : List Order) → fits_kind kind orders handler ≡ true → Leads (InBlock kind names) (order_lines orders) (InBlock kind names)
-orders_lead kind names [] handler fits = refl
-orders_lead kind names (o ∷ orders) handler fits =
-    let parts = order_may kind o orders handler fits in
-    (InBlock kind names, rw parts.0 refl, orders_lead kind names orders handler parts.1)
+-- a script's commands are within their limits
+no_limit : (rows : List Row) (command : Command) → IsCommand rows command → command_limit command ≡ None
+no_limit rows (commands.Peek at len) h = rw h refl
+no_limit rows (commands.Poke at bytes) h = rw h.0 refl
+no_limit rows (commands.Kill name signo) h = rw h refl
+no_limit rows other h = refl
+
+-- the lines of a body
+orders_lead : (rows : List Row) (kind : BlockKind) (names : List (List ℕ)) (orders handler : List Order) → fits_kind kind orders handler ≡ true → list_all (λ (order : Order). not (is_return order.command)) orders ≡ true → AllByRecursion (λ (order : Order). IsCommand rows order.command) orders → Leads (InBlock places.Body kind names) (order_lines orders) (InBlock places.Body kind names)
+orders_lead rows kind names [] handler fits stay h = refl
+orders_lead rows kind names (o ∷ orders) handler fits stay h =
+    let stays = and_parts (not (is_return o.command)) (list_all (λ (order : Order). not (is_return order.command)) orders) stay in
+    let parts = order_may kind o orders handler fits stays.0 in
+    (InBlock places.Body kind names, rw (parts.0, no_limit rows o.command h.0) refl, orders_lead rows kind names orders handler parts.1 stays.1 h.1)
   where
-    order_may : (kind : BlockKind) (order : Order) (orders handler : List Order) → fits_kind kind (order ∷ orders) handler ≡ true → (may_have kind order.command ≡ true) × (fits_kind kind orders handler ≡ true)
-    order_may kinds.Task order orders handler fits = (refl, refl)
-    order_may kinds.Child order orders handler fits = (refl, refl)
-    order_may kinds.Kthread order orders handler fits =
+    order_may : (kind : BlockKind) (order : Order) (orders handler : List Order) → fits_kind kind (order ∷ orders) handler ≡ true → not (is_return order.command) ≡ true → (may_have places.Body kind order.command ≡ true) × (fits_kind kind orders handler ≡ true)
+    order_may kinds.Task order orders handler fits stays = (stays, refl)
+    order_may kinds.Child order orders handler fits stays = (stays, refl)
+    order_may kinds.Kthread order orders handler fits stays =
         let outer = and_parts (is_kernel_command order.command && list_all (λ (o : Order). is_kernel_command o.command) orders) (length handler == 0) fits in
         let parts = and_parts (is_kernel_command order.command) (list_all (λ (o : Order). is_kernel_command o.command) orders) outer.0 in
         (parts.0, rw (parts.1, outer.1) refl)
 
-begin_leads : (kind : BlockKind) (names : List (List ℕ)) (name : List ℕ) → length names < 64 → list_any (λ other. bytes_eq other name) names ≡ false → next (AtBlock names) (lines.Begin kind name) ≡ Ok (InBlock kind (names ++ name ∷ []))
+-- the lines of a handler
+handler_leads : (rows : List Row) (kind : BlockKind) (names : List (List ℕ)) (o : Order) (orders : List Order) → is_handler_from o orders ≡ true → AllByRecursion (λ (order : Order). IsCommand rows order.command) (o ∷ orders) → Leads (InBlock places.Handler kind names) (order_lines (o ∷ orders)) (InBlock places.Returned kind names)
+handler_leads rows kind names o [] returns h = (InBlock places.Returned kind names, rw (no_limit rows o.command h.0, returns) refl, refl)
+handler_leads rows kind names o (p ∷ orders) returns h =
+    let outer = and_parts (not (is_outer o.command) && not (is_return o.command)) (is_handler_from p orders) returns in
+    let here = and_parts (not (is_outer o.command)) (not (is_return o.command)) outer.0 in
+    let stays = not_true (is_return o.command) here.1 in
+    (InBlock places.Handler kind names, rw (no_limit rows o.command h.0, stays) refl, handler_leads rows kind names p orders outer.1 h.1)
+  where
+    not_true : (b : Bool) → not b ≡ true → b ≡ false
+    not_true true h = absurd (cc h)
+    not_true false h = refl
+
+-- a handler is that of a task or a child
+handler_user : (kind : BlockKind) (body : List Order) (o : Order) (orders : List Order) → fits_kind kind body (o ∷ orders) ≡ true → is_user_kind kind ≡ true
+handler_user kinds.Task body o orders fits = refl
+handler_user kinds.Child body o orders fits = refl
+handler_user kinds.Kthread body o orders fits =
+    let outer = and_parts (list_all (λ (order : Order). is_kernel_command order.command) body) (length (o ∷ orders) == 0) fits in
+    let none = eqb-true (length (o ∷ orders)) 0 outer.1 in
+    absurd (omega (arith, none))
+
+-- the lines after a body
+tail_leads : (rows : List Row) (kind : BlockKind) (names : List (List ℕ)) (body handler : List Order) → fits_kind kind body handler ≡ true → is_handler handler ≡ true → AllByRecursion (λ (order : Order). IsCommand rows order.command) handler → Leads (InBlock places.Body kind names) (handler_lines handler ++ lines.End ∷ []) (AtBlock names)
+tail_leads rows kind names body [] fits returns h = (AtBlock names, refl, refl)
+tail_leads rows kind names body (o ∷ orders) fits returns h = (
+  InBlock places.Handler kind names,
+  rw (handler_user kind body o orders fits) refl,
+  leads_join (InBlock places.Handler kind names) (InBlock places.Returned kind names) (AtBlock names) (order_lines (o ∷ orders)) (lines.End ∷ []) (handler_leads rows kind names o orders returns h) (AtBlock names, refl, refl),
+)
+
+begin_leads : (kind : BlockKind) (names : List (List ℕ)) (name : List ℕ) → length names < 64 → list_any (λ other. bytes_eq other name) names ≡ false → next (AtBlock names) (lines.Begin kind name) ≡ Ok (InBlock places.Body kind (names ++ name ∷ []))
 begin_leads kind names name few new =
     let fewer : nat_le 64 (length names) ≡ false = lt-leb 64 (length names) few in
     rw (fewer, new) refl
 
-block_leads : (names : List (List ℕ)) (b : Block) → length names < 64 → list_any (λ other. bytes_eq other b.name) names ≡ false → fits_kind b.kind b.body b.handler ≡ true → Leads (AtBlock names) (block_lines b) (AtBlock (names ++ b.name ∷ []))
-block_leads names b few new fits =
+block_leads : (rows : List Row) (names : List (List ℕ)) (b : Block) → length names < 64 → list_any (λ other. bytes_eq other b.name) names ≡ false → IsBody rows b → Leads (AtBlock names) (block_lines b) (AtBlock (names ++ b.name ∷ []))
+block_leads rows names b few new h =
     let more = names ++ b.name ∷ [] in
-    (InBlock b.kind more, begin_leads b.kind names b.name few new, leads_join (InBlock b.kind more) (InBlock b.kind more) (AtBlock more) (order_lines b.body) (lines.End ∷ []) (orders_lead b.kind more b.body b.handler fits) (AtBlock more, refl, refl))
+    let inside = InBlock places.Body b.kind more in
+    (inside, begin_leads b.kind names b.name few new, leads_join inside inside (AtBlock more) (order_lines b.body) (handler_lines b.handler ++ lines.End ∷ []) (orders_lead rows b.kind more b.body b.handler h.kind h.inside h.body) (tail_leads rows b.kind more b.body b.handler h.kind h.returns h.handler))
 
 blocks_lead : (rows : List Row) (names : List (List ℕ)) (blocks : List Block) → length names + length blocks ≤ 64 → AreDistinct (names ++ names_of blocks) → AllByRecursion (λ (b : Block). IsBody rows b) blocks → Leads (AtBlock names) (flat_map block_lines blocks) (AtBlock (names ++ names_of blocks))
 blocks_lead rows names [] few h bodies = ap AtBlock (append-nil names)
@@ -204,7 +263,7 @@ blocks_lead rows names (b ∷ blocks) few h bodies =
     let long : length more ≡ length names + 1 = length-append names (b.name ∷ []) in
     let later = blocks_lead rows more blocks (omega (arith, few, long)) (subst AreDistinct (sym all) h) bodies.1 in
     leads_join (AtBlock names) (AtBlock more) (AtBlock (names ++ names_of (b ∷ blocks))) (block_lines b) (flat_map block_lines blocks)
-    (block_leads names b (omega (arith, few)) (another names (names_of blocks) b.name h) bodies.0.kind)
+    (block_leads rows names b (omega (arith, few)) (another names (names_of blocks) b.name h) bodies.0)
     (subst (λ (ns : List (List ℕ)). Leads (AtBlock more) (flat_map block_lines blocks) (AtBlock ns)) all later)
 
 -- ---- a text that spells a script
@@ -234,66 +293,70 @@ spelled_passes text script h =
       whole = may_end_some script.blocks h.valid.some;
     }
 
--- what the commands of a script may name
-abbrev pub script_scope : Script → Scope
-script_scope script = record { layout = script.layout; children = child_names script.blocks }
-
 module _ (rows : List Row) (all : List Block) where
-  -- what they may name
-  abbrev its_scope : Scope
-  its_scope = record { layout = rows; children = child_names all }
-
-  orders_are_known : (earlier orders : List Order) → AllByRecursion (λ (order : Order). IsCommand rows order.command) orders → AllByRecursion (λ (order : Order). IsBuiltCommand order.command) orders → AreNamedAfter all earlier orders → AllByRecursion (IsKnown its_scope) (order_lines orders)
+  orders_are_known : (earlier orders : List Order) → AllByRecursion (λ (order : Order). IsCommand rows order.command) orders → AreBuilt orders → AreNamedAfter all earlier orders → AllByRecursion (IsKnown (block_scope rows all)) (order_lines orders)
   orders_are_known earlier [] h g n = tt
-  orders_are_known earlier (o ∷ orders) h g n = ((h.0, g.0, names_child all earlier o.command n.0), orders_are_known (o ∷ earlier) orders h.1 g.1 n.1)
+  orders_are_known earlier (o ∷ orders) h g n = ((h.0, g.0, names_one rows all earlier o.command n.0), orders_are_known (o ∷ earlier) orders h.1 g.1 n.1)
 
-  pub blocks_are_known : (blocks : List Block) → AllByRecursion (λ (b : Block). IsBody rows b) blocks → AllByRecursion (λ (b : Block). AllByRecursion (λ (order : Order). IsBuiltCommand order.command) b.body) blocks → AllByRecursion (λ (b : Block). AreNamed all b.body) blocks → AllByRecursion (IsKnown its_scope) (flat_map block_lines blocks)
-  blocks_are_known [] h g n = tt
-  blocks_are_known (b ∷ blocks) h g n =
-      (tt, all_join (IsKnown its_scope) (order_lines b.body ++ lines.End ∷ []) (flat_map block_lines blocks) (all_join (IsKnown its_scope) (order_lines b.body) (lines.End ∷ []) (orders_are_known [] b.body h.0.body g.0 n.0) (tt, tt)) (blocks_are_known blocks h.1 g.1 n.1))
+  local_are_known : (orders : List Order) → AllByRecursion (λ (order : Order). IsCommand rows order.command) orders → AreBuilt orders → AllByRecursion (λ (order : Order). is_outer order.command ≡ false) orders → AllByRecursion (IsKnown (block_scope rows all)) (order_lines orders)
+  local_are_known [] h g local = tt
+  local_are_known (o ∷ orders) h g local = ((h.0, g.0, names_one rows all [] o.command (local_names all [] o.command local.0)), local_are_known orders h.1 g.1 local.1)
 
-pub spelled_known : (text : List ℕ) (script : Script) (h : Spells text script) → AllByRecursion (IsKnown (script_scope script)) (script_lines script h.groups)
-spelled_known text script h =
-    let scope = script_scope script in
-    all_join (IsKnown scope) (head_lines script) (sched_lines h.groups ++ flat_map block_lines script.blocks) (head_known scope script)
-    (all_join (IsKnown scope) (sched_lines h.groups) (flat_map block_lines script.blocks) (sched_known scope h.groups) (blocks_are_known script.layout script.blocks script.blocks h.valid.bodies h.built.commands h.valid.named))
+  pub blocks_are_known : (blocks : List Block) → AllByRecursion (λ (b : Block). IsBody rows b) blocks → AllByRecursion (λ (b : Block). AreBuilt b.body) blocks → AllByRecursion (λ (b : Block). AreBuilt b.handler) blocks → AllByRecursion (λ (b : Block). AreNamed all b.body) blocks → AllByRecursion (IsKnown (block_scope rows all)) (flat_map block_lines blocks)
+  blocks_are_known [] h g k n = tt
+  blocks_are_known (b ∷ blocks) h g k n =
+      let scope = block_scope rows all in
+      let handler = handler_all (IsKnown scope) b.handler tt (local_are_known b.handler h.0.handler k.0 (handler_local b.handler h.0.returns)) in
+      block_join (IsKnown scope) b (flat_map block_lines blocks) (record { begins = tt; body = orders_are_known [] b.body h.0.body g.0 n.0; handler = handler; ends = tt }) (blocks_are_known blocks h.1 g.1 k.1 n.1)
 
--- the lines of the script, its front and its blocks
-parted_lines : (script : Script) (groups : List (List ℕ)) → script_lines script groups ≡ (head_lines script ++ sched_lines groups) ++ flat_map block_lines script.blocks
-parted_lines script groups = sym (append_assoc (head_lines script) (sched_lines groups) (flat_map block_lines script.blocks))
+-- ---- outer commands
 
--- no child is forked twice by them
-spelled_once : (text : List ℕ) (script : Script) (h : Spells text script) → AreDistinct (forks_of (script_lines script h.groups))
-spelled_once text script h =
-    let bodies = flat_map block_lines script.blocks in
-    let before = head_lines script ++ sched_lines h.groups in
-    let forks : forks_of (script_lines script h.groups) ≡ all_forked_names script.blocks = ap forks_of (parted_lines script h.groups) ∙ no_forks before bodies (front_no_names script h.groups) ∙ blocks_forks script.blocks in
-    subst AreDistinct (sym forks) h.valid.forked
+body_outside : (orders : List Order) (rest : List Line) → AreOutside false rest → AreOutside false (order_lines orders ++ rest)
+body_outside [] rest out = out
+body_outside (o ∷ orders) rest out = (refl, body_outside orders rest out)
 
-pub spelled_table : (text : List ℕ) (script : Script) (h : Spells text script) → table_of (script_lines script h.groups) ≡ script.layout
-spelled_table text script h =
-    let later = sched_lines h.groups ++ flat_map block_lines script.blocks in
-    table_of_lines script later h.valid.machine (no_rows_table later (sched_no_rows h.groups (flat_map block_lines script.blocks) (blocks_no_rows script.blocks)))
+local_outside : (orders : List Order) (rest : List Line) → AllByRecursion (λ (order : Order). is_outer order.command ≡ false) orders → AreOutside true rest → AreOutside true (order_lines orders ++ rest)
+local_outside [] rest local out = out
+local_outside (o ∷ orders) rest local out = (local.0, local_outside orders rest local.1 out)
 
-spelled_scope : (text : List ℕ) (script : Script) (h : Spells text script) → scope_of (script_lines script h.groups) ≡ script_scope script
-spelled_scope text script h =
+handler_outside : (orders : List Order) (rest : List Line) → AllByRecursion (λ (order : Order). is_outer order.command ≡ false) orders → AreOutside false rest → AreOutside false (handler_lines orders ++ lines.End ∷ rest)
+handler_outside [] rest local out = (refl, out)
+handler_outside (o ∷ orders) rest local out = (refl, local_outside (o ∷ orders) (lines.End ∷ rest) local (refl, out))
+
+blocks_outside : (rows : List Row) (blocks : List Block) → AllByRecursion (λ (b : Block). IsBody rows b) blocks → AreOutside false (flat_map block_lines blocks)
+blocks_outside rows [] h = tt
+blocks_outside rows (b ∷ blocks) h =
+    let rest = flat_map block_lines blocks in
+    subst (AreOutside false) (sym (block_row b rest))
+    (refl, body_outside b.body (handler_lines b.handler ++ lines.End ∷ rest) (handler_outside b.handler rest (handler_local b.handler h.0.returns) (blocks_outside rows blocks h.1)))
+
+body_forks : (rows : List Row) (blocks : List Block) → AllByRecursion (λ (b : Block). IsBody rows b) blocks → AllByRecursion (λ (block : Block). forked_names block.handler ≡ []) blocks
+body_forks rows [] h = tt
+body_forks rows (b ∷ blocks) h = (handler_no_forks b.handler (handler_local b.handler h.0.returns), body_forks rows blocks h.1)
+
+-- ---- what is read
+
+-- A text that spells a script is that of it.
+pub spelled_read : (text : List ℕ) (script : Script) → Spells text script → IsScriptOf text script
+spelled_read text script h =
     let bodies = flat_map block_lines script.blocks in
     let before = head_lines script ++ sched_lines h.groups in
     let lined = script_lines script h.groups in
-    let names : children_of lined ≡ child_names script.blocks = ap children_of (parted_lines script h.groups) ∙ no_children before bodies (front_no_names script h.groups) in
-    same_scope (table_of lined) script.layout (children_of lined) (child_names script.blocks) (spelled_table text script h) names
-
--- What is refused spells no script.
-pub not_both : (text : List ℕ) (script : Script) (number : ℕ) (kind : Kind) → Spells text script → Refuses text number kind → ⊥
-not_both text script number kind h (ByLine r) = passes_not_refused text (script_lines script h.groups) number kind (spelled_passes text script h) r
-not_both text script number kind h (ByCommand r) =
-    let lined = script_lines script h.groups in
-    let later = lines.Order r.command ∷ r.later in
-    let mine = r.done ++ later in
-    let passes = spelled_passes text script h in
-    let same : lined ≡ mine = one_lines lined mine passes.lines_fit r.passes.lines_fit (sym h.spelled ∙ r.passes.spelled) in
-    let scope : scope_of mine ≡ script_scope script = ap scope_of (sym same) ∙ spelled_scope text script h in
-    let known = all_parts (IsKnown (script_scope script)) r.done later (subst (λ (ls : List Line). AllByRecursion (IsKnown (script_scope script)) ls) same (spelled_known text script h)) in
-    let once = subst AreDistinct (ap forks_of same ∙ forks_join r.done later) (spelled_once text script h) in
-    let front = distinct_front (forks_of r.done ++ forked_name r.command) (forks_of r.later) (subst AreDistinct (sym (append_assoc (forks_of r.done) (forked_name r.command) (forks_of r.later))) once) in
-    known_not_fails (script_scope script) (forks_of r.done) r.command kind known.1.0 front (subst (λ (x : Scope). CommandFails x (forks_of r.done) r.command kind) scope r.fails)
+    let scope = block_scope script.layout script.blocks in
+    let bare = front_no_names script h.groups in
+    let parted = parted_lines script h.groups in
+    let scope_is = script_scope script h.groups h.valid.machine in
+    let known = all_join (IsKnown scope) before bodies (all_join (IsKnown scope) (head_lines script) (sched_lines h.groups) (head_known scope script) (sched_known scope h.groups)) (blocks_are_known script.layout script.blocks script.blocks h.valid.bodies h.built.bodies h.built.handlers h.valid.named) in
+    let forks : forks_of lined ≡ all_forked_names script.blocks = ap forks_of parted ∙ no_forks before bodies bare ∙ blocks_forks script.blocks (body_forks script.layout script.blocks h.valid.bodies) in
+    record {
+      groups = h.groups;
+      grouped = h.grouped;
+      table = h.valid.machine;
+      numbered = h.numbered;
+      passes = spelled_passes text script h;
+      known = record {
+        each = subst (λ (x : Scope). AllByRecursion (IsKnown x) lined) (sym scope_is) (subst (AllByRecursion (IsKnown scope)) (sym parted) known);
+        once = subst AreDistinct (sym forks) h.valid.forked;
+        outside = subst (AreOutside false) (sym parted) (front_outside before bodies bare (blocks_outside script.layout script.blocks h.valid.bodies));
+      };
+    }

@@ -1,6 +1,6 @@
 -- A script and the lines that it was read from.
 use Rattle.std.specs.Prelude.{bytes_eq, if◌then◌else◌}
-use Rattle.std.proofs.Common.{Bool, false, nat_le, Ok, Err, ◌≡◌, ℕ, ◌+◌, ◌<◌, ◌≤◌, true, List, [], ◌∷◌, ◌++◌, length, map, refl, sym, ◌∙◌, ap, subst, arith, length-append}
+use Rattle.std.proofs.Common.{Bool, false, nat_le, Option, Some, None, Ok, Err, ◌≡◌, ℕ, ◌+◌, ◌<◌, true, List, [], ◌∷◌, ◌++◌, length, map, refl, sym, ◌∙◌, ap, subst, arith, length-append}
 use Rattle.std.proofs.lemmas.List.{length-map}
 use Rattle.std.specs.List.{AllByRecursion, flat_map, list_any}
 use Rattle.std.proofs.lemmas.List.{append_assoc, append-nil}
@@ -13,6 +13,8 @@ use Rattle.xs_model.specs.declared.script.Order.{Order}
 use Rattle.xs_model.specs.declared.script.Block.{Block}
 use Rattle.xs_model.specs.declared.script.Script.{Script}
 use Rattle.xs_model.specs.Script.{IsTableOf, AreDistinct}
+use Rattle.xs_script.specs.declared.block_part.BlockPart.{BlockPart}
+use Rattle.xs_script.specs.declared.block_part.BlockPart.TheVariants as places
 use Rattle.xs_script.specs.declared.commands.Scope.{Scope}
 use Rattle.xs_script.specs.declared.line.Line.{Line}
 use Rattle.xs_script.specs.declared.line.Line.TheVariants as lines
@@ -20,22 +22,21 @@ use Rattle.xs_script.specs.declared.head.Stage.TheVariants as stages
 use Rattle.xs_script.specs.declared.head.Head.{Head}
 use Rattle.xs_script.specs.declared.refusal.ScriptError.{ScriptError}
 use Rattle.xs_script.specs.declared.refusal.ScriptError.TheVariants as errors
-use Rattle.xs_script.specs.Grammar.{lines_text, order_lines, block_lines, row_lines, head_lines, sched_lines, script_lines, Spells}
+use Rattle.xs_script.specs.Grammar.{lines_text, order_lines, block_lines, row_lines, head_lines, sched_lines, script_lines}
+use Rattle.xs_script.specs.declared.refusal.Kind.{Kind}
 use Rattle.xs_script.specs.declared.refusal.Kind.TheVariants.{BadLine, Limit, Repeated}
 use Rattle.xs_script.specs.declared.refusal.LimitName.TheVariants.{Blocks}
-use Rattle.xs_script.specs.LineOrder.{Stand, AtVersion, AtMachine, AtRow, AtCpus, AtQuantum, AtLarge, AtSched, AtBlock, InBlock, may_end, may_have, next, Leads}
-use Rattle.xs_script.specs.Refusal.{Passes, rows_of_line, table_of, children_of, scope_of, forks_of, NamesChild, IsKnown, ByLine, ByCommand, Explains, CommandFails}
+use Rattle.xs_script.specs.LineOrder.{Stand, AtVersion, AtMachine, AtRow, AtCpus, AtQuantum, AtLarge, AtSched, AtBlock, InBlock, order_fault, part_after, may_handle, may_close, after_order, may_end, next, Leads}
+use Rattle.xs_script.specs.Refusal.{Passes, rows_of_line, table_of, children_of, handled_of, scope_of, in_handler_after, forks_of, IsKnown, AreOutside, IsScriptOf, ByLine, ByCommand, Explains, CommandFails}
 use Rattle.xs_script.specs.Front.{IsFront, ExplainsFrom}
 use Rattle.xs_script.specs.Head.{IsHeadOf, lines_of_head, machine_lines}
 use Rattle.xs_script.specs.Body.{names_of, AreBlocksOf, ByBlockLine, ByBlockCommand, ExplainsBlocks}
 use Rattle.xs_script.specs.Schedule.{IsScheduleOf}
 use Rattle.xs_script.specs.Outline.{AreWholeBlocks}
-use Rattle.xs_script.proofs.Numbering.{blocks_rise}
-use Rattle.xs_script.proofs.Fronts.{all_join, front_join, rest_explains}
-use Rattle.xs_script.proofs.KnownLines.{names_fit, kinds_built, plain_handlers, blocks_known}
+use Rattle.xs_script.proofs.BlockParts.{all_join, block_join, handler_all}
+use Rattle.xs_script.proofs.Fronts.{front_join, rest_explains}
 use Rattle.xs_script.proofs.ScheduleLines.{front_after, after_explains}
-use Rattle.xs_script.proofs.Children.{child_names, no_children, no_forks, front_no_names, blocks_forks, blocks_named}
-use Rattle.xs_script.proofs.EventBound.{few_events}
+use Rattle.xs_script.proofs.Children.{child_names, handled_names, block_scope, blocks_children, blocks_handled, no_children, no_handled, no_inside, no_forks, front_outside, front_no_names}
 use Rattle.xs_script.proofs.OneRefusal.{one_lines}
 
 -- ---- the head
@@ -65,15 +66,16 @@ pub no_rows_table : (ls : List Line) → HasNoRows ls → table_of ls ≡ []
 no_rows_table [] h = refl
 no_rows_table (l ∷ ls) h = rw h.0 (no_rows_table ls h.1)
 
-orders_no_rows : (orders : List Order) (ls : List Line) → HasNoRows ls → HasNoRows (order_lines orders ++ ls)
-orders_no_rows [] ls h = h
-orders_no_rows (o ∷ orders) ls h = (refl, orders_no_rows orders ls h)
+orders_no_rows : (orders : List Order) → HasNoRows (order_lines orders)
+orders_no_rows [] = tt
+orders_no_rows (o ∷ orders) = (refl, orders_no_rows orders)
 
 pub blocks_no_rows : (blocks : List Block) → HasNoRows (flat_map block_lines blocks)
 blocks_no_rows [] = tt
 blocks_no_rows (b ∷ blocks) =
-    let rest = orders_no_rows b.body (lines.End ∷ flat_map block_lines blocks) (refl, blocks_no_rows blocks) in
-    (refl, rw (sym (append_assoc (order_lines b.body) (lines.End ∷ []) (flat_map block_lines blocks))) at rest)
+    block_join (λ l. rows_of_line l ≡ []) b (flat_map block_lines blocks)
+    (record { begins = refl; body = orders_no_rows b.body; handler = handler_all (λ l. rows_of_line l ≡ []) b.handler refl (orders_no_rows b.handler); ends = refl })
+    (blocks_no_rows blocks)
 
 -- ---- what the first pass leaves
 
@@ -105,61 +107,85 @@ pub some_lines : (blocks : List Block) → 0 < length blocks → 0 < length (fla
 some_lines [] some = absurd (omega arith)
 some_lines (b ∷ blocks) some = omega arith
 
+-- ---- what nothing is wrong with
+
+pub head_known : (scope : Scope) (script : Script) → AllByRecursion (IsKnown scope) (head_lines script)
+head_known scope script =
+    (tt, (tt, all_join (IsKnown scope) (row_lines script.machine script.layout) (lines.Cpus script.cpus ∷ lines.Quantum script.quantum ∷ lines.Large script.large ∷ []) (rows_known script.machine script.layout) (tt, (tt, (tt, tt)))))
+  where
+    all_rows : (layout : List Row) → AllByRecursion (IsKnown scope) (map lines.Row layout)
+    all_rows [] = tt
+    all_rows (r ∷ layout) = (tt, all_rows layout)
+
+    rows_known : (machine : Named) (layout : List Row) → AllByRecursion (IsKnown scope) (row_lines machine layout)
+    rows_known Amx layout = tt
+    rows_known Avx layout = tt
+    rows_known Rows layout = all_rows layout
+
+-- the lines of a schedule have no registers
+pub sched_known : (scope : Scope) (groups : List (List ℕ)) → AllByRecursion (IsKnown scope) (sched_lines groups)
+sched_known scope [] = tt
+sched_known scope (g ∷ groups) = (tt, sched_known scope groups)
+
+-- what may be named by a table and names of blocks
+abbrev scope_with : List Row → List (List ℕ) → List (List ℕ) → Scope
+scope_with rows children handled = record { layout = rows; children = children; handled = handled }
+
+pub same_scope : (rows table : List Row) (names children others handled : List (List ℕ)) → rows ≡ table → names ≡ children → others ≡ handled → scope_with rows names others ≡ scope_with table children handled
+same_scope rows table names children others handled er en eo =
+    ap (λ (rs : List Row). scope_with rs names others) er ∙ ap (λ (ns : List (List ℕ)). scope_with table ns others) en ∙ ap (λ (ns : List (List ℕ)). scope_with table children ns) eo
+
 -- ---- what both passes leave
 
--- the text is the script's lines
-read_text : (text first rest : List ℕ) (head : Head) (number later_number : ℕ) (sched : List ℕ) (scope : Scope) (blocks : List Block) → IsHeadOf text head number first → (s : IsScheduleOf head.cpus number first sched later_number rest) → AreBlocksOf scope later_number rest blocks → text ≡ lines_text (script_lines (script_of head sched blocks) s.groups)
-read_text text first rest head number later_number sched scope blocks h s b =
+-- the lines of the script, its front and its blocks
+pub parted_lines : (script : Script) (groups : List (List ℕ)) → script_lines script groups ≡ (head_lines script ++ sched_lines groups) ++ flat_map block_lines script.blocks
+parted_lines script groups = sym (append_assoc (head_lines script) (sched_lines groups) (flat_map block_lines script.blocks))
+
+-- what the commands of the script's lines may name
+pub script_scope : (script : Script) (groups : List (List ℕ)) → IsTableOf script.machine script.layout → scope_of (script_lines script groups) ≡ block_scope script.layout script.blocks
+script_scope script groups is =
+    let bodies = flat_map block_lines script.blocks in
+    let later = sched_lines groups ++ bodies in
+    let before = head_lines script ++ sched_lines groups in
+    let lined = script_lines script groups in
+    let bare = front_no_names script groups in
+    let table : table_of lined ≡ script.layout = table_of_lines script later is (no_rows_table later (sched_no_rows groups bodies (blocks_no_rows script.blocks))) in
+    let children : children_of lined ≡ child_names script.blocks = ap children_of (parted_lines script groups) ∙ no_children before bodies bare ∙ blocks_children script.blocks in
+    let handled : handled_of lined ≡ handled_names script.blocks = ap handled_of (parted_lines script groups) ∙ no_handled [] before bodies bare ∙ blocks_handled [] script.blocks in
+    same_scope (table_of lined) script.layout (children_of lined) (child_names script.blocks) (handled_of lined) (handled_names script.blocks) table children handled
+
+-- Where the first two passes find nothing, the text is the lines of the script.
+pub read_script_of : (text first rest : List ℕ) (head : Head) (number later_number : ℕ) (sched : List ℕ) (children handled : List (List ℕ)) (blocks : List Block) → IsHeadOf text head number first → IsScheduleOf head.cpus number first sched later_number rest → AreWholeBlocks rest children handled → AreBlocksOf (record { layout = head.layout; children = children; handled = handled }) later_number rest blocks → IsScriptOf text (script_of head sched blocks)
+read_script_of text first rest head number later_number sched children handled blocks h s k b =
     let script = script_of head sched blocks in
+    let scope : Scope = record { layout = head.layout; children = children; handled = handled } in
     let later = flat_map block_lines blocks in
     let end = AtBlock (names_of blocks) in
-    let lines_are : lines_of_head head ≡ head_lines script = whole_lines head script h.whole refl refl refl refl refl in
+    let before = head_lines script ++ sched_lines s.groups in
+    let lined = script_lines script s.groups in
+    let bare = front_no_names script s.groups in
     let front = front_after head.cpus (length sched) rest [] later end (some_lines blocks b.some) b.front in
     let joined = fronts_join text first rest [] head sched number later_number later end h s front in
-    joined.parts
-    ∙ append-nil (lines_text (lines_of_head head ++ (sched_lines s.groups ++ later)))
-    ∙ ap (λ (ls : List Line). lines_text (ls ++ (sched_lines s.groups ++ later))) lines_are
-
--- Where nothing is found, the text spells the script.
-pub read_spells : (text first rest : List ℕ) (head : Head) (number later_number : ℕ) (sched : List ℕ) (children : List (List ℕ)) (blocks : List Block) → length text ≤ 1048576 → IsHeadOf text head number first → IsScheduleOf head.cpus number first sched later_number rest → AreWholeBlocks rest children → AreBlocksOf (record { layout = head.layout; children = children }) later_number rest blocks → Spells text (script_of head sched blocks)
-read_spells text first rest head number later_number sched children blocks short h s k b =
-    let script = script_of head sched blocks in
-    let scope : Scope = record { layout = head.layout; children = children } in
-    let later = flat_map block_lines blocks in
-    let spelled = read_text text first rest head number later_number sched scope blocks h s b in
-    let one : k.lines ≡ later = one_lines k.lines later k.front.lines_fit b.front.lines_fit (sym (append-nil (lines_text k.lines)) ∙ sym k.front.parts ∙ b.front.parts ∙ append-nil (lines_text later)) in
-    let names : children ≡ child_names blocks = k.children_are ∙ ap children_of one in
-    let handlers = plain_handlers blocks b.fits.plain in
-    let commands = blocks_known scope blocks b.fits.plain b.known.each in
-    let named = subst (λ (ns : List (List ℕ)). AllByRecursion (λ (block : Block). AllByRecursion (λ (order : Order). NamesChild ns order.command) block.body) blocks) names commands.named in
     let lines_are : lines_of_head head ≡ head_lines script = whole_lines head script h.whole refl refl refl refl refl in
+    let whole = subst (λ (ls : List Line). IsFront AtVersion text (ls ++ (sched_lines s.groups ++ later)) end []) lines_are joined in
+    let one : k.lines ≡ later = one_lines k.lines later k.front.lines_fit b.front.lines_fit (sym (append-nil (lines_text k.lines)) ∙ sym k.front.parts ∙ b.front.parts ∙ append-nil (lines_text later)) in
+    let names : children ≡ child_names blocks = k.children_are ∙ ap children_of one ∙ blocks_children blocks in
+    let others : handled ≡ handled_names blocks = k.handled_are ∙ ap handled_of one ∙ blocks_handled [] blocks in
+    let scope_is : scope ≡ scope_of lined = same_scope head.layout head.layout children (child_names blocks) handled (handled_names blocks) refl names others ∙ sym (script_scope script s.groups h.fits.machine) in
+    let before_known = all_join (IsKnown scope) (head_lines script) (sched_lines s.groups) (head_known scope script) (sched_known scope s.groups) in
     let at : number ≡ length (head_lines script) + 1 = rw lines_are at h.next in
     let later_at : later_number ≡ length (head_lines script) + length s.groups + 1 = omega (arith, at, s.next) in
-    let parted = spelled ∙ ap lines_text (sym (append_assoc (head_lines script) (sched_lines s.groups) later)) in
     record {
-      valid = record {
-        layout = h.fits.layout;
-        machine = h.fits.machine;
-        cpus = h.fits.cpus;
-        quantum = h.fits.quantum;
-        large = h.fits.large;
-        entries = s.below;
-        schedule = s.few;
-        some = b.some;
-        few = b.fits.few;
-        names = names_fit blocks b.front.lines_fit;
-        distinct = b.fits.distinct;
-        rising = blocks_rise 0 later_number blocks (omega arith) handlers b.fits.numbered;
-        bodies = commands.bodies;
-        named = blocks_named blocks blocks b.fits.distinct commands.built named;
-        forked = subst AreDistinct (blocks_forks blocks) b.known.once;
-        events = few_events text (head_lines script ++ sched_lines s.groups) script short parted b.fits.few commands.built;
-      };
-      built = record { kinds = kinds_built blocks b.front.lines_fit handlers; commands = commands.built };
       groups = s.groups;
       grouped = s.grouped;
-      numbered = rw later_at at b.fits.numbered;
-      spelled = spelled;
+      table = h.fits.machine;
+      numbered = rw later_at at b.numbered;
+      passes = record { lines_fit = whole.lines_fit; spelled = whole.parts ∙ append-nil (lines_text lined); stand = end; leads = whole.leads; whole = may_end_some blocks b.some };
+      known = record {
+        each = subst (λ (x : Scope). AllByRecursion (IsKnown x) lined) scope_is (subst (AllByRecursion (IsKnown scope)) (sym (parted_lines script s.groups)) (all_join (IsKnown scope) before later before_known b.known.each));
+        once = subst AreDistinct (sym (ap forks_of (parted_lines script s.groups) ∙ no_forks before later bare)) b.known.once;
+        outside = subst (AreOutside false) (sym (parted_lines script s.groups)) (front_outside before later bare b.known.outside);
+      };
     }
 
 -- a refusal of the first pass
@@ -182,24 +208,6 @@ blocks_refuse text first rest head number later_number sched e h s r =
 
 -- ---- a refusal of the second pass
 
-pub head_known : (scope : Scope) (script : Script) → AllByRecursion (IsKnown scope) (head_lines script)
-head_known scope script =
-    (tt, (tt, all_join (IsKnown scope) (row_lines script.machine script.layout) (lines.Cpus script.cpus ∷ lines.Quantum script.quantum ∷ lines.Large script.large ∷ []) (rows_known script.machine script.layout) (tt, (tt, (tt, tt)))))
-  where
-    all_rows : (layout : List Row) → AllByRecursion (IsKnown scope) (map lines.Row layout)
-    all_rows [] = tt
-    all_rows (r ∷ layout) = (tt, all_rows layout)
-
-    rows_known : (machine : Named) (layout : List Row) → AllByRecursion (IsKnown scope) (row_lines machine layout)
-    rows_known Amx layout = tt
-    rows_known Avx layout = tt
-    rows_known Rows layout = all_rows layout
-
--- the lines of a schedule have no registers
-pub sched_known : (scope : Scope) (groups : List (List ℕ)) → AllByRecursion (IsKnown scope) (sched_lines groups)
-sched_known scope [] = tt
-sched_known scope (g ∷ groups) = (tt, sched_known scope groups)
-
 -- the stand is among blocks
 abbrev pub IsAmongBlocks : Stand → Type 0
 IsAmongBlocks AtVersion = ⊥
@@ -210,16 +218,20 @@ IsAmongBlocks (AtQuantum cpus) = ⊥
 IsAmongBlocks (AtLarge cpus) = ⊥
 IsAmongBlocks (AtSched cpus count) = ⊥
 IsAmongBlocks (AtBlock names) = Unit {0}
-IsAmongBlocks (InBlock kind names) = Unit {0}
+IsAmongBlocks (InBlock part kind names) = Unit {0}
 
-begin_among : (full repeated : Bool) (kind : BlockKind) (names : List (List ℕ)) (mid : Stand) → (if full then Err (Limit Blocks) else if repeated then Err Repeated else Ok (InBlock kind names)) ≡ Ok mid → IsAmongBlocks mid
+begin_among : (full repeated : Bool) (kind : BlockKind) (names : List (List ℕ)) (mid : Stand) → (if full then Err (Limit Blocks) else if repeated then Err Repeated else Ok (InBlock places.Body kind names)) ≡ Ok mid → IsAmongBlocks mid
 begin_among true repeated kind names mid h = absurd (cc h)
 begin_among false true kind names mid h = absurd (cc h)
-begin_among false false kind names mid h = let is : InBlock kind names ≡ mid = cc h in subst IsAmongBlocks is tt
+begin_among false false kind names mid h = let is : InBlock places.Body kind names ≡ mid = cc h in subst IsAmongBlocks is tt
 
-order_among : (may : Bool) (kind : BlockKind) (names : List (List ℕ)) (mid : Stand) → (if may then Ok (InBlock kind names) else Err BadLine) ≡ Ok mid → IsAmongBlocks mid
-order_among true kind names mid h = let is : InBlock kind names ≡ mid = cc h in subst IsAmongBlocks is tt
-order_among false kind names mid h = absurd (cc h)
+order_among : (fault : Option Kind) (part : BlockPart) (kind : BlockKind) (names : List (List ℕ)) (mid : Stand) → after_order fault (InBlock part kind names) ≡ Ok mid → IsAmongBlocks mid
+order_among None part kind names mid h = let is : InBlock part kind names ≡ mid = cc h in subst IsAmongBlocks is tt
+order_among (Some why) part kind names mid h = absurd (cc h)
+
+part_among : (may : Bool) (stand mid : Stand) → IsAmongBlocks stand → (if may then Ok stand else Err BadLine) ≡ Ok mid → IsAmongBlocks mid
+part_among true stand mid among h = let is : stand ≡ mid = cc h in subst IsAmongBlocks is among
+part_among false stand mid among h = absurd (cc h)
 
 -- A line that leads on from there is no row, and leads to such a stand.
 pub among_step : (stand mid : Stand) (l : Line) → IsAmongBlocks stand → next stand l ≡ Ok mid → (rows_of_line l ≡ []) × IsAmongBlocks mid
@@ -232,9 +244,10 @@ among_step (AtLarge cpus) mid l among h = absurd among
 among_step (AtSched cpus count) mid l among h = absurd among
 among_step (AtBlock names) mid (lines.Begin kind name) among h = (refl, begin_among (nat_le 64 (length names)) (list_any (λ other. bytes_eq other name) names) kind (names ++ name ∷ []) mid h)
 among_step (AtBlock names) mid l among h = absurd (cc h)
-among_step (InBlock kind names) mid (lines.Order command) among h = (refl, order_among (may_have kind command) kind names mid h)
-among_step (InBlock kind names) mid lines.End among h = (refl, let is : AtBlock names ≡ mid = cc h in subst IsAmongBlocks is tt)
-among_step (InBlock kind names) mid l among h = absurd (cc h)
+among_step (InBlock part kind names) mid (lines.Order command) among h = (refl, order_among (order_fault part kind command) (part_after part command) kind names mid h)
+among_step (InBlock part kind names) mid lines.Handler among h = (refl, part_among (may_handle part kind) (InBlock places.Handler kind names) mid tt h)
+among_step (InBlock part kind names) mid lines.End among h = (refl, part_among (may_close part) (AtBlock names) mid tt h)
+among_step (InBlock part kind names) mid l among h = absurd (cc h)
 
 lead_bare : (stand end : Stand) (ls : List Line) → IsAmongBlocks stand → Leads stand ls end → HasNoRows ls
 lead_bare stand end [] among h = tt
@@ -242,20 +255,13 @@ lead_bare stand end (l ∷ ls) among (mid, leads, rest) =
     let step = among_step stand mid l among leads in
     (step.0, lead_bare mid end ls step.1 rest)
 
--- what may be named by a table and names of children
-abbrev pub scope_with : List Row → List (List ℕ) → Scope
-scope_with rows children = record { layout = rows; children = children }
-
-pub same_scope : (rows table : List Row) (names children : List (List ℕ)) → rows ≡ table → names ≡ children → scope_with rows names ≡ scope_with table children
-same_scope rows table names children er en = ap (λ (rs : List Row). scope_with rs names) er ∙ ap (λ (ns : List (List ℕ)). scope_with table ns) en
-
 -- A refusal of the blocks is one of the text.
-pub outline_refuses : (text first rest : List ℕ) (head : Head) (number later_number : ℕ) (sched : List ℕ) (children : List (List ℕ)) (e : ScriptError) → IsHeadOf text head number first → IsScheduleOf head.cpus number first sched later_number rest → ExplainsBlocks (record { layout = head.layout; children = children }) later_number rest e → Explains text e
-outline_refuses text first rest head number later_number sched children (errors.Refused line kind) h s (ByBlockLine r) = blocks_refuse text first rest head number later_number sched (errors.Refused line kind) h s r
-outline_refuses text first rest head number later_number sched children (errors.Refused line kind) h s (ByBlockCommand ls stand front whole names f) =
+pub outline_refuses : (text first rest : List ℕ) (head : Head) (number later_number : ℕ) (sched : List ℕ) (children handled : List (List ℕ)) (e : ScriptError) → IsHeadOf text head number first → IsScheduleOf head.cpus number first sched later_number rest → ExplainsBlocks (record { layout = head.layout; children = children; handled = handled }) later_number rest e → Explains text e
+outline_refuses text first rest head number later_number sched children handled (errors.Refused line kind) h s (ByBlockLine r) = blocks_refuse text first rest head number later_number sched (errors.Refused line kind) h s r
+outline_refuses text first rest head number later_number sched children handled (errors.Refused line kind) h s (ByBlockCommand ls stand front whole names others f) =
     let script = script_of head sched [] in
     let rows = head.layout in
-    let scope : Scope = record { layout = rows; children = children } in
+    let scope : Scope = record { layout = rows; children = children; handled = handled } in
     let before = head_lines script ++ sched_lines s.groups in
     let all = (before ++ f.done) ++ lines.Order f.command ∷ f.later in
     let same : before ++ ls ≡ all = ap (λ (xs : List Line). before ++ xs) f.split ∙ sym (append_assoc before f.done (lines.Order f.command ∷ f.later)) in
@@ -270,7 +276,9 @@ outline_refuses text first rest head number later_number sched children (errors.
     ∙ table_of_lines script (sched_lines s.groups ++ ls) h.fits.machine (no_rows_table (sched_lines s.groups ++ ls) bare) in
     let bare_names = front_no_names script s.groups in
     let child_lines : children_of all ≡ children = sym (ap children_of same) ∙ no_children before ls bare_names ∙ sym names in
-    let scope_is : scope_of all ≡ scope = same_scope (table_of all) rows (children_of all) children table child_lines in
+    let handler_lines : handled_of all ≡ handled = sym (ap handled_of same) ∙ no_handled [] before ls bare_names ∙ sym others in
+    let scope_is : scope_of all ≡ scope = same_scope (table_of all) rows (children_of all) children (handled_of all) handled table child_lines handler_lines in
+    let inside : in_handler_after false (before ++ f.done) ≡ in_handler_after false f.done = no_inside false before f.done bare_names in
     let forks : forks_of (before ++ f.done) ≡ forks_of f.done = no_forks before f.done bare_names in
     let before_known = all_join (IsKnown scope) (head_lines script) (sched_lines s.groups) (head_known scope script) (sched_known scope s.groups) in
     let long : length (before ++ f.done) ≡ length before + length f.done = length-append before f.done in
@@ -291,8 +299,12 @@ outline_refuses text first rest head number later_number sched children (errors.
       known = record {
         each = subst (λ (x : Scope). AllByRecursion (IsKnown x) (before ++ f.done)) (sym scope_is) (all_join (IsKnown scope) before f.done before_known f.known.each);
         once = subst AreDistinct (sym forks) f.known.once;
+        outside = front_outside before f.done bare_names f.known.outside;
       };
-      fails = subst (λ (x : Scope). CommandFails x (forks_of (before ++ f.done)) f.command kind) (sym scope_is) (subst (λ (ns : List (List ℕ)). CommandFails scope ns f.command kind) (sym forks) f.fails);
+      fails =
+          subst (λ (x : Scope). CommandFails x (in_handler_after false (before ++ f.done)) (forks_of (before ++ f.done)) f.command kind) (sym scope_is)
+          (subst (λ (t : Bool). CommandFails scope t (forks_of (before ++ f.done)) f.command kind) (sym inside)
+          (subst (λ (ns : List (List ℕ)). CommandFails scope (in_handler_after false f.done) ns f.command kind) (sym forks) f.fails));
       number_is = omega (arith, h.next, s.next, f.number_is, long, parts, heads, groups);
     })
-outline_refuses text first rest head number later_number sched children errors.Memory h s e = tt
+outline_refuses text first rest head number later_number sched children handled errors.Memory h s e = tt

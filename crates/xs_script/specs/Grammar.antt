@@ -17,12 +17,17 @@ use Rattle.xs_script.specs.ScriptLine.{line_text}
 abbrev pub lines_text : List Line → List ℕ
 lines_text ls = flat_map (λ line. line_text line ++ 10 ∷ []) ls
 
--- the lines of the orders of a body
+-- the lines of orders
 abbrev pub order_lines : List Order → List Line
 order_lines orders = map (λ order. lines.Order order.command) orders
 
+-- those of a handler, where there is one
+abbrev pub handler_lines : List Order → List Line
+handler_lines [] = []
+handler_lines (order ∷ orders) = lines.Handler ∷ order_lines (order ∷ orders)
+
 abbrev pub block_lines : Block → List Line
-block_lines block = lines.Begin block.kind block.name ∷ (order_lines block.body ++ lines.End ∷ [])
+block_lines block = lines.Begin block.kind block.name ∷ (order_lines block.body ++ (handler_lines block.handler ++ lines.End ∷ []))
 
 -- The entries of a schedule stand in groups, one a line and none of them empty.
 pub record AreGroups (groups : List (List ℕ)) (sched : List ℕ) : Type 0 where

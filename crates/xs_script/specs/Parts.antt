@@ -2,9 +2,10 @@
 use Rattle.std.specs.Prelude.{◌≡◌, ℕ, ◌<◌, ◌%◌, Bool, ◌&&◌, ◌||◌, ◌==◌, nat_le, List, ◌∷◌, ◌++◌, length, ◌-◌, if◌then◌else◌}
 use Rattle.std.specs.List.{list_all, AllByRecursion}
 use Rattle.hex.specs.Hex.{encode_lower}
+use Rattle.xs_model.specs.declared.script.Command.TheVariants as commands
 use Rattle.xs_script.specs.declared.line.Line.{Line}
 use Rattle.xs_script.specs.declared.line.Line.TheVariants as lines
-use Rattle.xs_script.specs.ScriptLine.{IsLine, line_text}
+use Rattle.xs_script.specs.ScriptLine.{IsSignal, IsLine, line_text}
 
 -- bytes of a byte's size, at least one
 abbrev pub IsValue : List ℕ → Type 0
@@ -32,10 +33,24 @@ abbrev pub IsPlainLine : Line → Type 0
 IsPlainLine (lines.Sched entries) = ⊥
 IsPlainLine line = IsLine line
 
--- a line of a block, its first and its last one too
+-- a line of signals, their handlers and the memory of a frame
+abbrev pub IsSignalLine : Line → Type 0
+IsSignalLine (lines.Order (commands.Peek at len)) = IsLine (lines.Order (commands.Peek at len))
+IsSignalLine (lines.Order (commands.Poke at bytes)) = IsLine (lines.Order (commands.Poke at bytes))
+IsSignalLine (lines.Order commands.Sigreturn) = IsLine (lines.Order commands.Sigreturn)
+IsSignalLine (lines.Order (commands.Kill name signo)) = IsLine (lines.Order (commands.Kill name signo))
+IsSignalLine (lines.NoSignal name number) = IsLine (lines.NoSignal name number)
+IsSignalLine lines.Handler = IsLine lines.Handler
+IsSignalLine line = ⊥
+
+-- another line of a block, its first and its last one too
 abbrev pub IsBlockLine : Line → Type 0
 IsBlockLine (lines.Begin kind name) = IsLine (lines.Begin kind name)
-IsBlockLine (lines.Order command) = IsLine (lines.Order command)
+IsBlockLine (lines.Order (commands.Set reg bytes)) = IsLine (lines.Order (commands.Set reg bytes))
+IsBlockLine (lines.Order (commands.Get reg)) = IsLine (lines.Order (commands.Get reg))
+IsBlockLine (lines.Order (commands.Ksec byte)) = IsLine (lines.Order (commands.Ksec byte))
+IsBlockLine (lines.Order commands.Yield) = IsLine (lines.Order commands.Yield)
+IsBlockLine (lines.Order (commands.Fork name)) = IsLine (lines.Order (commands.Fork name))
 IsBlockLine lines.End = IsLine lines.End
 IsBlockLine line = ⊥
 
@@ -48,6 +63,12 @@ IsHeadLine (lines.Cpus n) = IsLine (lines.Cpus n)
 IsHeadLine (lines.Quantum n) = IsLine (lines.Quantum n)
 IsHeadLine (lines.Large n) = IsLine (lines.Large n)
 IsHeadLine line = ⊥
+
+-- the line of a signal's number for a block
+abbrev pub IsKillLine : List ℕ → ℕ → Line → Type 0
+IsKillLine name number (lines.Order (commands.Kill to signo)) = (to ≡ name) × (signo.number ≡ number)
+IsKillLine name number (lines.NoSignal to other) = (to ≡ name) × (other ≡ number) × (IsSignal number → ⊥)
+IsKillLine name number line = ⊥
 
 -- no line but one of a schedule is the text's first
 abbrev pub NoPlainLine : List ℕ → Type 0

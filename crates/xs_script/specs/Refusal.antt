@@ -1,7 +1,7 @@
--- Why a text is no script. It is read in two passes, and the second runs only where the first finds nothing. Each pass
+-- Why a text is no script. It is read in three passes, and each runs only where those before it find nothing. A pass
 -- stops at its first bad line; a line that is bad in several ways has the kind that comes first here. All of it is this
 -- project's own.
-use Rattle.std.specs.Prelude.{◌≡◌, ℕ, ◌+◌, Bool, true, false, ◌==◌, List, [], ◌∷◌, ◌++◌, length, bytes_eq, codes, Option, Some, None, Err, if◌then◌else◌}
+use Rattle.std.specs.Prelude.{◌≡◌, ℕ, ◌+◌, ◌<◌, Bool, true, false, ◌&&◌, ◌==◌, List, [], ◌∷◌, ◌++◌, length, bytes_eq, codes, Option, Some, None, Err, if◌then◌else◌}
 use Rattle.std.specs.List.{list_any, flat_map, AllByRecursion}
 use Rattle.xs_base.specs.declared.component.Row.{Row}
 use Rattle.xs_base.specs.declared.component.Place.{Place}
@@ -12,7 +12,9 @@ use Rattle.xs_model.specs.declared.script.Named.{Named}
 use Rattle.xs_model.specs.declared.script.Named.TheVariants as machines
 use Rattle.xs_model.specs.declared.script.Command.{Command}
 use Rattle.xs_model.specs.declared.script.Command.TheVariants as commands
-use Rattle.xs_model.specs.Script.{AreDistinct, IsCommand, IsBuiltCommand, fits_register, is_built}
+use Rattle.xs_model.specs.declared.script.Script.{Script}
+use Rattle.xs_model.specs.Bound.{most_events}
+use Rattle.xs_model.specs.Script.{AreDistinct, AreBlocksNumbered, IsTableOf, IsCommand, IsBuiltCommand, is_outer, fits_register, is_built}
 use Rattle.xs_model.specs.declared.script.BlockKind.{BlockKind}
 use Rattle.xs_model.specs.declared.script.BlockKind.TheVariants as kinds
 use Rattle.xs_model.specs.Names.{forked_name}
@@ -20,11 +22,11 @@ use Rattle.xs_script.specs.declared.commands.Scope.{Scope}
 use Rattle.xs_script.specs.declared.line.Line.{Line}
 use Rattle.xs_script.specs.declared.line.Line.TheVariants as lines
 use Rattle.xs_script.specs.declared.refusal.Kind.{Kind}
-use Rattle.xs_script.specs.declared.refusal.Kind.TheVariants.{NotBuilt, BadLine, Layout, Repeated, UnknownName}
+use Rattle.xs_script.specs.declared.refusal.Kind.TheVariants.{NotBuilt, BadLine, Layout, Repeated, UnknownName, OuterInHandler, TooMuch}
 use Rattle.xs_script.specs.declared.refusal.ScriptError.{ScriptError}
 use Rattle.xs_script.specs.declared.refusal.ScriptError.TheVariants as errors
 use Rattle.xs_script.specs.ScriptLine.{IsLine, line_text}
-use Rattle.xs_script.specs.Grammar.{lines_text}
+use Rattle.xs_script.specs.Grammar.{lines_text, AreGroups, head_lines, script_lines}
 use Rattle.xs_script.specs.LineOrder.{Stand, AtVersion, AtMachine, AtRow, AtCpus, AtQuantum, AtLarge, AtSched, AtBlock, InBlock, may_end, next, Leads}
 
 -- ---- words of a line
@@ -44,9 +46,8 @@ first_word text = before 32 (first_line text)
 -- the first words of the forms that this version doesn't have
 unfoldable pub unbuilt_words : List (List ℕ)
 unbuilt_words =
-    codes "handler" ∷ codes "sigreturn" ∷ codes "tilerelease" ∷ codes "perm" ∷ codes "peek" ∷ codes "poke"
-    ∷ codes "bpeek" ∷ codes "bpoke" ∷ codes "kill" ∷ codes "stop" ∷ codes "wait" ∷ codes "getregs" ∷ codes "setregs"
-    ∷ codes "cont" ∷ []
+    codes "tilerelease" ∷ codes "perm" ∷ codes "bpeek" ∷ codes "bpoke" ∷ codes "stop" ∷ codes "wait" ∷ codes "getregs"
+    ∷ codes "setregs" ∷ codes "cont" ∷ []
 
 -- The text's first line is of a form that this version doesn't have, however it goes on.
 abbrev pub is_unbuilt : List ℕ → Bool
@@ -75,7 +76,7 @@ table_fault (AtQuantum cpus) text = None
 table_fault (AtLarge cpus) text = None
 table_fault (AtSched cpus count) text = None
 table_fault (AtBlock names) text = None
-table_fault (InBlock kind names) text = None
+table_fault (InBlock part kind names) text = None
 
 -- The line that is refused and its kind, where a reader stands so before line `number`: a table as a whole is refused by
 -- the line that begins it, which is line 2, before the line that ends it is looked at.
@@ -96,7 +97,7 @@ pub record RefusesLine (text : List ℕ) (number : ℕ) (kind : Kind) : Type 0 w
   pub leads : Leads AtVersion done stand
   pub fails : Fails stand (length done + 1) rest number kind
 
--- ---- the second pass: registers, and the children that lines fork
+-- ---- the second pass: registers, and the blocks that lines name
 
 -- The text is these lines, and the first pass finds nothing in it.
 pub record Passes (text : List ℕ) (ls : List Line) : Type 0 where
@@ -122,6 +123,8 @@ rows_of_line (lines.Large n) = []
 rows_of_line (lines.Sched entries) = []
 rows_of_line (lines.Begin kind name) = []
 rows_of_line (lines.Order command) = []
+rows_of_line (lines.NoSignal name number) = []
+rows_of_line lines.Handler = []
 rows_of_line lines.End = []
 
 abbrev pub table_of : List Line → List Row
@@ -143,15 +146,49 @@ child_of_line (lines.Large n) = []
 child_of_line (lines.Sched entries) = []
 child_of_line (lines.Begin kind name) = child_name kind name
 child_of_line (lines.Order command) = []
+child_of_line (lines.NoSignal name number) = []
+child_of_line lines.Handler = []
 child_of_line lines.End = []
 
 -- the names of the child blocks, by the lines
 abbrev pub children_of : List Line → List (List ℕ)
 children_of ls = flat_map child_of_line ls
 
+-- the name of the last block that began, after one more line
+abbrev pub last_name : List ℕ → Line → List ℕ
+last_name name (lines.Begin kind other) = other
+last_name name other = name
+
+abbrev pub last_name_of : List ℕ → List Line → List ℕ
+last_name_of name [] = name
+last_name_of name (l ∷ ls) = last_name_of (last_name name l) ls
+
+-- A handler is that of the last block that began.
+abbrev pub handled_name : List ℕ → Line → List (List ℕ)
+handled_name name lines.Handler = name ∷ []
+handled_name name other = []
+
+-- the names of the blocks with a handler, by lines after the first one of a block of this name
+abbrev pub handled_after : List ℕ → List Line → List (List ℕ)
+handled_after name [] = []
+handled_after name (l ∷ ls) = handled_name name l ++ handled_after (last_name name l) ls
+
+abbrev pub handled_of : List Line → List (List ℕ)
+handled_of ls = handled_after [] ls
+
 -- what commands may name, by all the lines
 abbrev pub scope_of : List Line → Scope
-scope_of ls = record { layout = table_of ls; children = children_of ls }
+scope_of ls = record { layout = table_of ls; children = children_of ls; handled = handled_of ls }
+
+-- whether what comes after a line stands in a handler
+abbrev pub in_handler : Bool → Line → Bool
+in_handler inside lines.Handler = true
+in_handler inside lines.End = false
+in_handler inside other = inside
+
+abbrev pub in_handler_after : Bool → List Line → Bool
+in_handler_after inside [] = inside
+in_handler_after inside (l ∷ ls) = in_handler_after (in_handler inside l) ls
 
 abbrev pub fork_of_line : Line → List (List ℕ)
 fork_of_line lines.Version = []
@@ -163,6 +200,8 @@ fork_of_line (lines.Large n) = []
 fork_of_line (lines.Sched entries) = []
 fork_of_line (lines.Begin kind name) = []
 fork_of_line (lines.Order command) = forked_name command
+fork_of_line (lines.NoSignal name number) = []
+fork_of_line lines.Handler = []
 fork_of_line lines.End = []
 
 -- the names that these lines fork
@@ -178,22 +217,39 @@ register_of (commands.Set reg bytes) = Some reg
 register_of (commands.Get reg) = Some reg
 register_of other = None
 
--- A fork has the name of a child block.
-abbrev pub NamesChild : List (List ℕ) → Command → Type 0
-NamesChild children (commands.Fork name) = is_among name children ≡ true
-NamesChild children other = Unit {0}
+-- A fork has the name of a child block, and a signal goes to a block with a handler.
+abbrev pub NamesOne : Scope → Command → Type 0
+NamesOne scope (commands.Fork name) = is_among name scope.children ≡ true
+NamesOne scope (commands.Kill name signo) = is_among name scope.handled ≡ true
+NamesOne scope other = Unit {0}
 
--- A command's register is one of the machine and of those that are built, a value fits it, and a fork names a child block.
+-- A command's register is one of the machine and of those that are built, a value fits it, and the block that it names is
+-- one that it may name.
 abbrev pub IsKnownCommand : Scope → Command → Type 0
-IsKnownCommand scope command = IsCommand scope.layout command × IsBuiltCommand command × NamesChild scope.children command
+IsKnownCommand scope command = IsCommand scope.layout command × IsBuiltCommand command × NamesOne scope command
 
--- What a command is refused with, where the lines before it fork these children.
-pub data CommandFails (scope : Scope) (forked : List (List ℕ)) : Command → Kind → Type 0 where
-  Unknown : (command : Command) (reg : List ℕ) → register_of command ≡ Some reg → ((place : Place) → IsRegister scope.layout reg place → ⊥) → CommandFails scope forked command UnknownName
-  Unbuilt : (command : Command) (reg : List ℕ) (place : Place) → register_of command ≡ Some reg → IsRegister scope.layout reg place → is_built place ≡ false → CommandFails scope forked command NotBuilt
-  Misfit : (reg bytes : List ℕ) (place : Place) → IsRegister scope.layout reg place → is_built place ≡ true → fits_register place bytes ≡ false → CommandFails scope forked (commands.Set reg bytes) BadLine
-  NoChild : (name : List ℕ) → is_among name scope.children ≡ false → CommandFails scope forked (commands.Fork name) UnknownName
-  Again : (name : List ℕ) → is_among name scope.children ≡ true → is_among name forked ≡ true → CommandFails scope forked (commands.Fork name) Repeated
+-- An outer command doesn't stand in a handler.
+abbrev pub outer_fault : Bool → Option Kind
+outer_fault true = Some OuterInHandler
+outer_fault false = None
+
+-- What a command is refused with by the block that it names and by its place, which is in a handler or not, where the lines
+-- before it fork these children.
+abbrev pub name_fault : Scope → Bool → List (List ℕ) → Command → Option Kind
+name_fault scope inside forked (commands.Fork name) =
+    if is_among name scope.children then (if is_among name forked then Some Repeated else outer_fault inside)
+    else Some UnknownName
+name_fault scope inside forked (commands.Kill name signo) =
+    if is_among name scope.handled then outer_fault inside
+    else Some UnknownName
+name_fault scope inside forked other = None
+
+-- What a command is refused with.
+pub data CommandFails (scope : Scope) (inside : Bool) (forked : List (List ℕ)) : Command → Kind → Type 0 where
+  Unknown : (command : Command) (reg : List ℕ) → register_of command ≡ Some reg → ((place : Place) → IsRegister scope.layout reg place → ⊥) → CommandFails scope inside forked command UnknownName
+  Unbuilt : (command : Command) (reg : List ℕ) (place : Place) → register_of command ≡ Some reg → IsRegister scope.layout reg place → is_built place ≡ false → CommandFails scope inside forked command NotBuilt
+  Misfit : (reg bytes : List ℕ) (place : Place) → IsRegister scope.layout reg place → is_built place ≡ true → fits_register place bytes ≡ false → CommandFails scope inside forked (commands.Set reg bytes) BadLine
+  Misnamed : (command : Command) (kind : Kind) → name_fault scope inside forked command ≡ Some kind → CommandFails scope inside forked command kind
 
 abbrev pub IsKnown : Scope → Line → Type 0
 IsKnown scope lines.Version = Unit {0}
@@ -205,12 +261,26 @@ IsKnown scope (lines.Large n) = Unit {0}
 IsKnown scope (lines.Sched entries) = Unit {0}
 IsKnown scope (lines.Begin kind name) = Unit {0}
 IsKnown scope (lines.Order command) = IsKnownCommand scope command
+IsKnown scope (lines.NoSignal name number) = Unit {0}
+IsKnown scope lines.Handler = Unit {0}
 IsKnown scope lines.End = Unit {0}
 
--- Nothing is wrong with what these lines name: each is known, and each child is forked by one of them at most.
+-- a line that is an outer command
+abbrev pub is_outer_line : Line → Bool
+is_outer_line (lines.Order command) = is_outer command
+is_outer_line other = false
+
+-- No outer command of these lines stands in a handler.
+abbrev pub AreOutside : Bool → List Line → Type 0
+AreOutside inside [] = Unit {0}
+AreOutside inside (l ∷ ls) = ((inside && is_outer_line l) ≡ false) × AreOutside (in_handler inside l) ls
+
+-- Nothing is wrong with what these lines name: each is known, each child is forked by one of them at most, and those that
+-- reach other blocks stand outside of handlers.
 pub record AreKnown (scope : Scope) (ls : List Line) : Type 0 where
   pub each : AllByRecursion (IsKnown scope) ls
   pub once : AreDistinct (forks_of ls)
+  pub outside : AreOutside false ls
 
 -- The lines pass, nothing is wrong with those before one, and that one fails.
 pub record RefusesCommand (text : List ℕ) (number : ℕ) (kind : Kind) : Type 0 where
@@ -219,15 +289,35 @@ pub record RefusesCommand (text : List ℕ) (number : ℕ) (kind : Kind) : Type 
   pub later : List Line
   pub passes : Passes text (done ++ lines.Order command ∷ later)
   pub known : AreKnown (scope_of (done ++ lines.Order command ∷ later)) done
-  pub fails : CommandFails (scope_of (done ++ lines.Order command ∷ later)) (forks_of done) command kind
+  pub fails : CommandFails (scope_of (done ++ lines.Order command ∷ later)) (in_handler_after false done) (forks_of done) command kind
   pub number_is : number ≡ length done + 1
 
--- ---- both passes
+-- ---- the third pass: how many events a run may have
+
+-- The text is the lines of this script, each order has the number of its line, and the first two passes find nothing.
+pub record IsScriptOf (text : List ℕ) (script : Script) : Type 0 where
+  pub groups : List (List ℕ)
+  pub grouped : AreGroups groups script.sched
+  pub table : IsTableOf script.machine script.layout
+  pub numbered : AreBlocksNumbered (length (head_lines script) + length groups + 1) script.blocks
+  pub passes : Passes text (script_lines script groups)
+  pub known : AreKnown (scope_of (script_lines script groups)) (script_lines script groups)
+
+-- The script has a bound on its events that is above the limit. It is refused as a whole, which is line 0.
+pub record RefusesEvents (text : List ℕ) (number : ℕ) (kind : Kind) : Type 0 where
+  pub script : Script
+  pub read : IsScriptOf text script
+  pub many : 1048576 < most_events script
+  pub number_is : number ≡ 0
+  pub kind_is : kind ≡ TooMuch (most_events script)
+
+-- ---- the three passes
 
 -- The line that the text is refused by, and its kind.
 pub data Refuses (text : List ℕ) (number : ℕ) (kind : Kind) : Type 0 where
   ByLine : RefusesLine text number kind → Refuses text number kind
   ByCommand : RefusesCommand text number kind → Refuses text number kind
+  ByEvents : RefusesEvents text number kind → Refuses text number kind
 
 -- What it says of a text that no script was read. Want of memory says nothing.
 abbrev pub Explains : List ℕ → ScriptError → Type 0

@@ -1,5 +1,5 @@
 -- The one spelling of each line of a script. The script language is this project's own.
-use Rattle.std.specs.Prelude.{◌≡◌, ℕ, ◌^◌, ◌<◌, Bool, true, ◌&&◌, ◌||◌, ◌==◌, nat_lt, nat_le, List, [], ◌∷◌, ◌++◌, length, codes, decimal, min, if◌then◌else◌}
+use Rattle.std.specs.Prelude.{◌≡◌, ℕ, ◌^◌, ◌<◌, ◌≤◌, Bool, true, ◌&&◌, ◌||◌, ◌==◌, nat_lt, nat_le, List, [], ◌∷◌, ◌++◌, length, codes, decimal, min, if◌then◌else◌}
 use Rattle.std.specs.List.{list_all, flat_map, AllByRecursion}
 use Rattle.hex.specs.Hex.{encode_lower}
 use Rattle.xs_base.specs.declared.component.Row.{Row}
@@ -9,7 +9,7 @@ use Rattle.xs_model.specs.declared.script.BlockKind.{BlockKind}
 use Rattle.xs_model.specs.declared.script.BlockKind.TheVariants as blocks
 use Rattle.xs_model.specs.declared.script.Command.{Command}
 use Rattle.xs_model.specs.declared.script.Command.TheVariants as commands
-use Rattle.xs_model.specs.Script.{is_name, is_letter_or_digit, is_built_kind}
+use Rattle.xs_model.specs.Script.{is_name, is_letter_or_digit}
 use Rattle.xs_script.specs.declared.line.Line.{Line}
 use Rattle.xs_script.specs.declared.line.Line.TheVariants as lines
 
@@ -32,6 +32,10 @@ block_word blocks.Task = codes "task "
 block_word blocks.Child = codes "child "
 block_word blocks.Kthread = codes "kthread "
 
+-- a signal's number, for a block
+abbrev pub kill_text : List ℕ → ℕ → List ℕ
+kill_text name number = codes "kill " ++ (name ++ 32 ∷ decimal number)
+
 -- Words are separated by one space. Bytes are digits 0 to 9 and a to f, two a byte, in the order of addresses. A command
 -- that this version doesn't have has no line.
 abbrev pub command_text : Command → List ℕ
@@ -39,7 +43,11 @@ command_text (commands.Set reg bytes) = codes "set " ++ (reg ++ 32 ∷ encode_lo
 command_text (commands.Get reg) = codes "get " ++ reg
 command_text (commands.Ksec byte) = codes "ksec " ++ encode_lower (byte ∷ [])
 command_text commands.Yield = codes "yield"
+command_text (commands.Peek at len) = codes "peek " ++ (decimal at ++ 32 ∷ decimal len)
+command_text (commands.Poke at bytes) = codes "poke " ++ (decimal at ++ 32 ∷ encode_lower bytes)
+command_text commands.Sigreturn = codes "sigreturn"
 command_text (commands.Fork name) = codes "fork " ++ name
+command_text (commands.Kill name signo) = kill_text name signo.number
 command_text other = []
 
 abbrev pub line_text : Line → List ℕ
@@ -52,6 +60,8 @@ line_text (lines.Large n) = codes "large " ++ decimal n
 line_text (lines.Sched entries) = codes "sched" ++ entries_text entries
 line_text (lines.Begin kind name) = block_word kind ++ name
 line_text (lines.Order command) = command_text command
+line_text (lines.NoSignal name number) = kill_text name number
+line_text lines.Handler = codes "handler"
 line_text lines.End = codes "end"
 
 -- ---- which values have a spelling in this version
@@ -72,8 +82,16 @@ IsCommandLine (commands.Set reg bytes) = (is_register_word reg ≡ true) × (0 <
 IsCommandLine (commands.Get reg) = is_register_word reg ≡ true
 IsCommandLine (commands.Ksec byte) = byte < 256
 IsCommandLine commands.Yield = Unit {0}
+IsCommandLine (commands.Peek at len) = IsNumber at × IsNumber len
+IsCommandLine (commands.Poke at bytes) = IsNumber at × (0 < length bytes) × AllByRecursion (λ byte. byte < 256) bytes
+IsCommandLine commands.Sigreturn = Unit {0}
 IsCommandLine (commands.Fork name) = is_name name ≡ true
+IsCommandLine (commands.Kill name signo) = is_name name ≡ true
 IsCommandLine other = ⊥
+
+-- a number that is that of a signal
+abbrev pub IsSignal : ℕ → Type 0
+IsSignal number = (1 ≤ number) × (number ≤ 31)
 
 abbrev pub IsLine : Line → Type 0
 IsLine lines.Version = Unit {0}
@@ -83,13 +101,16 @@ IsLine (lines.Cpus n) = IsNumber n
 IsLine (lines.Quantum n) = IsNumber n
 IsLine (lines.Large n) = IsNumber n
 IsLine (lines.Sched entries) = (0 < length entries) × AllByRecursion IsNumber entries
-IsLine (lines.Begin kind name) = (is_built_kind kind ≡ true) × (is_name name ≡ true)
+IsLine (lines.Begin kind name) = is_name name ≡ true
 IsLine (lines.Order command) = IsCommandLine command
+IsLine (lines.NoSignal name number) = (is_name name ≡ true) × IsNumber number × (IsSignal number → ⊥)
+IsLine lines.Handler = Unit {0}
 IsLine lines.End = Unit {0}
 
 -- ---- what a reader keeps of a line
 
--- No register has more than 64 bytes, and none has none: of a longer value none is kept, and it is refused by its length.
+-- No register has more than 64 bytes, no line writes more into a memory, and none has none: of a longer value none is kept,
+-- and it is refused by its length.
 abbrev pub kept_bytes : List ℕ → List ℕ
 kept_bytes bytes = if nat_le (length bytes) 64 then bytes else []
 
@@ -99,7 +120,7 @@ kept_row r = record r { comp = record { 0 = min r.comp.0 255 } }
 
 abbrev pub kept_command : Command → Command
 kept_command (commands.Set reg bytes) = commands.Set reg (kept_bytes bytes)
-kept_command (commands.Get reg) = commands.Get reg
+kept_command (commands.Poke at bytes) = commands.Poke at (kept_bytes bytes)
 kept_command other = other
 
 abbrev pub kept_line : Line → Line
@@ -112,4 +133,6 @@ kept_line (lines.Large n) = lines.Large n
 kept_line (lines.Sched entries) = lines.Sched entries
 kept_line (lines.Begin kind name) = lines.Begin kind name
 kept_line (lines.Order command) = lines.Order (kept_command command)
+kept_line (lines.NoSignal name number) = lines.NoSignal name number
+kept_line lines.Handler = lines.Handler
 kept_line lines.End = lines.End

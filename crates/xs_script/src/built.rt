@@ -8,16 +8,11 @@ ghost use Rattle.xs_script.specs.Refusal.{unbuilt_words};
 use xs_base::Place;
 
 /// The first words of the forms that this version doesn't have.
-const UNBUILT_WORDS: [&[u8]; 14] = [
-    b"handler",
-    b"sigreturn",
+const UNBUILT_WORDS: [&[u8]; 9] = [
     b"tilerelease",
     b"perm",
-    b"peek",
-    b"poke",
     b"bpeek",
     b"bpoke",
-    b"kill",
     b"stop",
     b"wait",
     b"getregs",

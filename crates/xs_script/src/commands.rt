@@ -1,33 +1,38 @@
-//! The commands of a script: what they name, and which of them a block may have.
+//! The commands of a script, and what they name.
 
 ghost use Rattle.std.specs.Prelude.{◌≡◌, ◌==◌, drop, MatchOption, IfOk, IfErr};
 ghost use Rattle.std.specs.List.{list_all};
 ghost use Rattle.xs_base.specs.File.{is_mxcsr};
-ghost use Rattle.xs_model.specs.declared.script.Command.TheVariants.{Fork};
-ghost use Rattle.xs_model.specs.Script.{fits_register, is_kernel_command};
-ghost use Rattle.xs_script.specs.LineOrder.{may_have};
-ghost use Rattle.xs_script.specs.Refusal.{is_among, CommandFails};
+ghost use Rattle.xs_model.specs.Script.{fits_register};
+ghost use Rattle.xs_script.specs.Refusal.{is_among, outer_fault, name_fault, CommandFails};
 ghost use Rattle.xs_script.specs.Commands.{IsBuiltRegister, RegisterFails, PassesCommand};
 
 use crate::built::is_built;
 use crate::refusal::Kind;
 use xs_base::{Lane, Place};
 use xs_layout::Layout;
-use xs_model::{BlockKind, Command, Items, Name};
+use xs_model::{Command, Items, Name};
 use xs_regs::place_of_bytes;
 
-/// What the commands of a script may name: the registers of its machine, and its child blocks.
+/// What the commands of a script may name: the registers of its machine, its child blocks, and its blocks with a handler.
 #[derive(Drop)]
 pub struct Scope {
     /// The machine's table of components.
     pub layout: Layout,
     /// The names of the child blocks, in the order of the text.
     pub children: Items<Name>,
+    /// The names of the blocks with a handler, in the order of the text.
+    pub handled: Items<Name>,
 }
 
-/// What a command is refused with, where the lines before it fork these children.
-pub(crate) fn command_fault(scope: &Scope, forked: &[Name], command: &Command) -> Option<Kind>
-    ensures { MatchOption result (PassesCommand scope.now forked.now command.now) (CommandFails scope.now forked.now command.now) }
+/// What a command is refused with, in a handler or not, where the lines before it fork these children.
+pub(crate) fn command_fault(
+    scope: &Scope,
+    inside: bool,
+    forked: &[Name],
+    command: &Command,
+) -> Option<Kind>
+    ensures { MatchOption result (PassesCommand scope.now inside forked.now command.now) (CommandFails scope.now inside forked.now command.now) }
 {
     match command {
         Command::Set { reg, bytes } => match find_register(&scope.layout, reg.as_slice()) {
@@ -39,22 +44,43 @@ pub(crate) fn command_fault(scope: &Scope, forked: &[Name], command: &Command) -
             Ok(_) => None,
             Err(kind) => Some(kind),
         },
-        Command::Fork { name } => fork_fault(scope, forked, name),
+        other => name_fault(scope, inside, forked, other),
+    }
+}
+
+/// What a command is refused with by the block that it names and by its place, which is in a handler or not.
+fn name_fault(scope: &Scope, inside: bool, forked: &[Name], command: &Command) -> Option<Kind>
+    ensures { result ≡ name_fault scope.now inside forked.now command.now }
+{
+    match command {
+        Command::Fork { name } => {
+            if !is_among(name, scope.children.as_slice()) {
+                return Some(Kind::UnknownName);
+            }
+            if is_among(name, forked) {
+                return Some(Kind::Repeated);
+            }
+            outer_fault(inside)
+        }
+        Command::Kill { name, .. } => {
+            if !is_among(name, scope.handled.as_slice()) {
+                return Some(Kind::UnknownName);
+            }
+            outer_fault(inside)
+        }
         _ => None,
     }
 }
 
-/// What the fork of a child by this name is refused with, where the lines before it fork these children.
-fn fork_fault(scope: &Scope, forked: &[Name], name: &Name) -> Option<Kind>
-    ensures { MatchOption result (PassesCommand scope.now forked.now (Fork name.now)) (CommandFails scope.now forked.now (Fork name.now)) }
+/// What an outer command is refused with by its place, which is in a handler or not.
+fn outer_fault(inside: bool) -> Option<Kind>
+    ensures { result ≡ outer_fault inside }
 {
-    if !is_among(name, scope.children.as_slice()) {
-        return Some(Kind::UnknownName);
+    if inside {
+        Some(Kind::OuterInHandler)
+    } else {
+        None
     }
-    if is_among(name, forked) {
-        return Some(Kind::Repeated);
-    }
-    None
 }
 
 /// Whether the name is one of these.
@@ -63,22 +89,6 @@ pub(crate) fn is_among(name: &Name, names: &[Name]) -> bool
 {
     let name = name.as_slice();
     names.iter().any(|other| other.as_slice() == name)
-}
-
-/// Whether a block of this kind may have the command: a kernel thread has kernel sections and yields alone.
-pub(crate) fn may_have(kind: BlockKind, command: &Command) -> bool
-    ensures { result ≡ may_have kind command.now }
-{
-    match kind {
-        BlockKind::Task | BlockKind::Child => true,
-        BlockKind::Kthread => is_kernel_command(command),
-    }
-}
-
-fn is_kernel_command(command: &Command) -> bool
-    ensures { result ≡ is_kernel_command command.now }
-{
-    matches!(command, Command::Ksec { .. } | Command::Yield)
 }
 
 /// The place of a register that the program has.

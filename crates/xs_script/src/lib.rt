@@ -3,6 +3,7 @@
 //! which text spells a script, and `Refusal` which line refuses it.
 #![tactic(auto)]
 
+mod block_part;
 mod body;
 mod built;
 mod commands;

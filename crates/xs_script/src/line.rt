@@ -24,6 +24,10 @@ pub enum Line {
     Begin(BlockKind, Name),
     /// A command.
     Order(Command),
+    /// `kill NAME N` with a number that is that of no signal, so that it is no command.
+    NoSignal(Name, u32),
+    /// `handler`
+    Handler,
     /// `end`
     End,
 }

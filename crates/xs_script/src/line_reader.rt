@@ -2,17 +2,16 @@
 
 ghost use Rattle.std.specs.Prelude.{◌≡◌, ◌<◌, true, List, ℕ, ◌∷◌, ◌++◌, length, codes, decimal, bytes_eq, MatchOption, IfSome};
 ghost use Rattle.xs_script.specs.declared.line.Line.{Line};
-ghost use Rattle.xs_model.specs.Script.{is_built_kind};
-ghost use Rattle.xs_script.specs.ScriptLine.{block_word, line_text, IsNumber, kept_line};
+ghost use Rattle.xs_script.specs.ScriptLine.{block_word, line_text, IsNumber, IsSignal, kept_line};
 ghost use Rattle.xs_script.specs.Reads.{ReadsAs};
-ghost use Rattle.xs_script.specs.Parts.{IsPlainLine, IsBlockLine, IsHeadLine, NoPlainLine};
+ghost use Rattle.xs_script.specs.Parts.{IsPlainLine, IsBlockLine, IsSignalLine, IsHeadLine, IsKillLine, NoPlainLine};
 ghost use Rattle.xs_script.specs.Refusal.{is_unbuilt, first_word};
 
 use crate::built::is_unbuilt_word;
 use crate::line::Line;
 use crate::words::{before, cut_at, read_byte, read_bytes, read_name, read_number, read_register};
-use xs_base::{Comp, Row, after};
-use xs_model::{BlockKind, Command, Named};
+use xs_base::{Comp, Row, Signo, after};
+use xs_model::{BlockKind, Command, Name, Named};
 
 /// The first line of the text, if it is spelled as a line that is none of a schedule, and the text after its line feed. Of a
 /// value of more than 64 bytes none is kept, and of a row's number above 255 it is 255.
@@ -48,11 +47,36 @@ fn read_line(line: &[u8]) -> Option<Line>
 {
     match read_block_line(line) {
         Some(line) => Some(line),
-        None => read_head_line(line),
+        None => match read_signal_line(line) {
+            Some(line) => Some(line),
+            None => read_head_line(line),
+        },
     }
 }
 
-/// A line of a block. Its first word says of which kind it can be.
+/// A line of signals, their handlers and the memory of a frame. Its first word says of which kind it can be.
+fn read_signal_line(line: &[u8]) -> Option<Line>
+    ensures { ReadsAs line_text IsSignalLine kept_line result line.now }
+{
+    if let Some(words) = after(b"peek ", line) {
+        return read_peek(words);
+    }
+    if let Some(words) = after(b"poke ", line) {
+        return read_poke(words);
+    }
+    if let Some(words) = after(b"kill ", line) {
+        return read_kill(words);
+    }
+    if line == b"handler".as_slice() {
+        return Some(Line::Handler);
+    }
+    if line == b"sigreturn".as_slice() {
+        return Some(Line::Order(Command::Sigreturn));
+    }
+    None
+}
+
+/// Another line of a block. Its first word says of which kind it can be.
 fn read_block_line(line: &[u8]) -> Option<Line>
     ensures { ReadsAs line_text IsBlockLine kept_line result line.now }
 {
@@ -148,9 +172,57 @@ fn read_fork(name: &[u8]) -> Option<Line>
     Some(Line::Order(Command::Fork { name }))
 }
 
-/// The first line of a block of a kind that this version has, by its name.
+/// The line `peek AT LEN`, by its two numbers.
+fn read_peek(words: &[u8]) -> Option<Line>
+    ensures { ReadsAs line_text IsSignalLine kept_line result (codes "peek " ++ words.now) }
+{
+    let (at, len) = read_first_number(words)?;
+    let len = read_number(len)?;
+    Some(Line::Order(Command::Peek { at, len }))
+}
+
+/// The line `poke AT BYTES`, by the words after its first.
+fn read_poke(words: &[u8]) -> Option<Line>
+    ensures { ReadsAs line_text IsSignalLine kept_line result (codes "poke " ++ words.now) }
+{
+    let (at, digits) = read_first_number(words)?;
+    let bytes = read_bytes(digits)?;
+    Some(Line::Order(Command::Poke { at, bytes }))
+}
+
+/// The line `kill NAME SIG`, by the words after its first.
+fn read_kill(words: &[u8]) -> Option<Line>
+    ensures { ReadsAs line_text IsSignalLine kept_line result (codes "kill " ++ words.now) }
+{
+    let (name, digits) = cut_at(b' ', words)?;
+    let name = read_name(name)?;
+    let number = read_number(digits)?;
+    Some(kill_line(name, number))
+}
+
+/// The line of a signal's number for a block, which is a command where there is such a signal.
+fn kill_line(name: Name, number: u32) -> Line
+    ensures { IsKillLine name number result }
+{
+    match signal_of(number) {
+        Some(signo) => Line::Order(Command::Kill { name, signo }),
+        None => Line::NoSignal(name, number),
+    }
+}
+
+/// The signal of the number, if there is one.
+fn signal_of(number: u32) -> Option<Signo>
+    ensures { MatchOption result (IsSignal number → ⊥) (λ signo. signo.number ≡ number) }
+{
+    if number <= 255 {
+        Signo::new(number as u8)
+    } else {
+        None
+    }
+}
+
+/// The first line of a block, by its name.
 fn read_begin(kind: BlockKind, name: &[u8]) -> Option<Line>
-    requires { is_built_kind kind ≡ true }
     ensures { ReadsAs line_text IsBlockLine kept_line result (block_word kind ++ name.now) }
 {
     let name = read_name(name)?;

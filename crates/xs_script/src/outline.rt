@@ -1,12 +1,13 @@
 //! The blocks of a text, looked through before memory is taken for them: the first pass.
 
-ghost use Rattle.std.specs.Prelude.{ℕ, ◌≡◌, ◌+◌, ◌^◌, ◌<◌, ◌++◌, true, [], length, OnOk, IfOk, IfErr};
+ghost use Rattle.std.specs.Prelude.{ℕ, ◌≡◌, ◌+◌, ◌^◌, ◌<◌, ◌++◌, true, List, [], length, OnOk, IfOk, IfErr};
 ghost use Rattle.xs_script.specs.LineOrder.{AtBlock, next, may_end};
 ghost use Rattle.xs_script.specs.Refusal.{child_name};
 ghost use Rattle.xs_script.specs.Front.{ExplainsFrom, ExplainsLine, ExplainsNext};
-ghost use Rattle.xs_script.specs.Outline.{outline_stand, Looks, LooksOn, AreWholeBlocks};
+ghost use Rattle.xs_script.specs.Outline.{outline_stand, HasSameNames, Looks, LooksOn, AreWholeBlocks};
 
-use crate::commands::{is_among, may_have};
+use crate::block_part::BlockPart;
+use crate::commands::is_among;
 use crate::front::first_line;
 use crate::line::Line;
 use crate::refusal::{Kind, LimitName, ScriptError};
@@ -16,24 +17,33 @@ use xs_model::{BlockKind, Command, Items, Name};
 /// The most blocks of a script.
 const MOST_BLOCKS: usize = 64;
 
-/// What is kept of the lines so far: the names of the blocks, those of the child blocks among them, and the kind of the last block
-/// where it has begun and not ended.
+/// A block that has begun and not ended: its kind, and the part of it that a reader stands in.
+#[derive(Clone, Copy, PartialEq, Eq)]
+pub(crate) struct Opened {
+    pub(crate) kind: BlockKind,
+    pub(crate) part: BlockPart,
+}
+
+/// What is kept of the lines so far: the names of the blocks, of the child blocks and of the blocks with a handler among them, the
+/// name of the last block, and what else is known of it where it hasn't ended.
 #[derive(Drop)]
 pub(crate) struct Outline {
     pub(crate) names: Items<Name>,
     pub(crate) children: Items<Name>,
-    pub(crate) begun: Option<BlockKind>,
+    pub(crate) handled: Items<Name>,
+    pub(crate) last: Name,
+    pub(crate) begun: Option<Opened>,
 }
 
 /// Looks through the blocks that the text is, to its end, where its first line is line `first`, and answers the names of the child
-/// blocks. It takes memory for names alone.
+/// blocks and of the blocks with a handler. It takes memory for names alone.
 pub(crate) fn look_through(
     alloc: Global,
     first: u32,
     text: &[u8],
-) -> Result<Items<Name>, ScriptError>
+) -> Result<(Items<Name>, Items<Name>), ScriptError>
     requires { first + length text.now < 2 ^ 32 }
-    ensures whole { IfOk result (AreWholeBlocks text.now) }
+    ensures whole { IfOk result (λ x. AreWholeBlocks text.now x.0 x.1) }
     ensures refused { IfErr result (ExplainsFrom (AtBlock []) first text.now) }
 {
     let mut outline = Outline::new(alloc);
@@ -47,7 +57,7 @@ pub(crate) fn look_through(
         number += 1;
     }
     match outline.finish(number) {
-        Ok(children) => Ok(children),
+        Ok(names) => Ok(names),
         Err(e) => Err(e),
     }
 }
@@ -57,11 +67,15 @@ impl Outline {
     fn new(alloc: Global) -> Outline
         ensures names { result.names ≡ [] }
         ensures children { result.children ≡ [] }
+        ensures handled { result.handled ≡ [] }
+        ensures last { result.last ≡ [] }
         ensures begun { result.begun ≡ None }
     {
         Outline {
             names: Items::new(alloc),
             children: Items::new(alloc),
+            handled: Items::new(alloc),
+            last: Name::from_slice(b""),
             begun: None,
         }
     }
@@ -92,6 +106,11 @@ impl Outline {
         match line {
             Line::Begin(kind, name) => self.begin(number, kind, name),
             Line::Order(command) => self.add_order(number, &command),
+            Line::NoSignal(_, _) => Err(ScriptError::Refused {
+                line: number,
+                kind: self.no_signal_kind(),
+            }),
+            Line::Handler => self.begin_handler(number),
             Line::End => self.close(number),
             _other => Err(ScriptError::Refused {
                 line: number,
@@ -101,31 +120,78 @@ impl Outline {
     }
 
     /// Takes a command in the block that has begun, by line `number`.
-    fn add_order(&self, number: u32, command: &Command) -> Result<(), ScriptError>
-        ensures taken { OnOk result (next (outline_stand self.now) (Line.Order command.now) ≡ Ok (outline_stand self.now)) }
-        ensures refused { IfErr result (ExplainsNext (next (outline_stand self.now) (Line.Order command.now)) number) }
+    fn add_order(&mut self, number: u32, command: &Command) -> Result<(), ScriptError>
+        ensures taken { OnOk result (next (outline_stand self.old) (Line.Order command.now) ≡ Ok (outline_stand self.new)) }
+        ensures same { HasSameNames self.old self.new }
+        ensures refused { IfErr result (ExplainsNext (next (outline_stand self.old) (Line.Order command.now)) number) }
+    {
+        let opened = match self.begun {
+            Some(opened) => opened,
+            None => {
+                return Err(ScriptError::Refused {
+                    line: number,
+                    kind: Kind::BadLine,
+                });
+            }
+        };
+        if let Some(kind) = opened.part.order_fault(opened.kind, command) {
+            return Err(ScriptError::Refused { line: number, kind });
+        }
+        self.begun = Some(Opened {
+            kind: opened.kind,
+            part: opened.part.after(command),
+        });
+        Ok(())
+    }
+
+    /// What a number that no signal has is refused with.
+    fn no_signal_kind(&self) -> Kind
+        ensures { (name : List ℕ) (number : ℕ) → next (outline_stand self.now) (Line.NoSignal name number) ≡ Err result }
     {
         match self.begun {
-            Some(kind) if may_have(kind, command) => Ok(()),
-            _ => Err(ScriptError::Refused {
-                line: number,
-                kind: Kind::BadLine,
-            }),
+            Some(opened) => opened.part.no_signal_kind(opened.kind),
+            None => Kind::BadLine,
+        }
+    }
+
+    /// Begins the handler of the block that has begun, by line `number`.
+    fn begin_handler(&mut self, number: u32) -> Result<(), ScriptError>
+        ensures taken { OnOk result (Looks self.old Line.Handler self.new) }
+        ensures refused { IfErr result (ExplainsNext (next (outline_stand self.old) Line.Handler) number) }
+    {
+        let opened = match self.begun {
+            Some(opened) if opened.part.may_handle(opened.kind) => opened,
+            _ => {
+                return Err(ScriptError::Refused {
+                    line: number,
+                    kind: Kind::BadLine,
+                });
+            }
+        };
+        match self.handled.push(Name::from_slice(self.last.as_slice())) {
+            Ok(()) => {
+                self.begun = Some(Opened {
+                    kind: opened.kind,
+                    part: BlockPart::Handler,
+                });
+                Ok(())
+            }
+            Err(_) => Err(ScriptError::Memory),
         }
     }
 
     /// Ends the block that has begun, by line `number`.
     fn close(&mut self, number: u32) -> Result<(), ScriptError>
         ensures taken { OnOk result (next (outline_stand self.old) Line.End ≡ Ok (outline_stand self.new)) }
-        ensures children { self.new.children ≡ self.old.children }
+        ensures same { HasSameNames self.old self.new }
         ensures refused { IfErr result (ExplainsNext (next (outline_stand self.old) Line.End) number) }
     {
         match self.begun {
-            Some(_) => {
+            Some(opened) if opened.part.may_close() => {
                 self.begun = None;
                 Ok(())
             }
-            None => Err(ScriptError::Refused {
+            _ => Err(ScriptError::Refused {
                 line: number,
                 kind: Kind::BadLine,
             }),
@@ -136,6 +202,8 @@ impl Outline {
     fn begin(&mut self, number: u32, kind: BlockKind, name: Name) -> Result<(), ScriptError>
         ensures taken { OnOk result (next (outline_stand self.old) (Line.Begin kind name) ≡ Ok (outline_stand self.new)) }
         ensures children { OnOk result (self.new.children ≡ self.old.children ++ child_name kind name) }
+        ensures handled { self.new.handled ≡ self.old.handled }
+        ensures last { OnOk result (self.new.last ≡ name) }
         ensures refused { IfErr result (ExplainsNext (next (outline_stand self.old) (Line.Begin kind name)) number) }
     {
         if self.begun.is_some() {
@@ -160,24 +228,30 @@ impl Outline {
             Ok(()) => {}
             Err(_) => return Err(ScriptError::Memory),
         }
+        self.last = Name::from_slice(name.as_slice());
         match self.names.push(name) {
             Ok(()) => {
-                self.begun = Some(kind);
+                self.begun = Some(Opened {
+                    kind,
+                    part: BlockPart::Body,
+                });
                 Ok(())
             }
             Err(_) => Err(ScriptError::Memory),
         }
     }
 
-    /// The names of the child blocks, where the text ends before line `number`.
-    fn finish(self, number: u32) -> Result<Items<Name>, ScriptError>
-        ensures whole { IfOk result (λ children. (children ≡ self.children) × (may_end (outline_stand self) ≡ true)) }
+    /// The names of the child blocks and of the blocks with a handler, where the text ends before line `number`.
+    fn finish(self, number: u32) -> Result<(Items<Name>, Items<Name>), ScriptError>
+        ensures whole { IfOk result (λ x. (x.0 ≡ self.children) × (x.1 ≡ self.handled) × (may_end (outline_stand self) ≡ true)) }
         ensures refused { IfErr result (ExplainsLine (outline_stand self) number []) }
     {
         let Outline {
             names,
             children,
+            handled,
             begun,
+            ..
         } = self;
         if begun.is_some() {
             return Err(ScriptError::Refused {
@@ -191,7 +265,7 @@ impl Outline {
                 kind: Kind::BadLine,
             });
         }
-        Ok(children)
+        Ok((children, handled))
     }
 }
 

@@ -15,10 +15,13 @@ use crate::body::Body;
 use crate::commands::Scope;
 use crate::head::{Head, Stage};
 use crate::outline::look_through;
-use crate::refusal::ScriptError;
+use crate::refusal::{Kind, ScriptError};
 use crate::schedule::read_schedule;
 use std::alloc::Global;
-use xs_model::{Block, Items, Script};
+use xs_model::{Block, Items, Script, most_events};
+
+/// The most events that a run of a script may have.
+const MOST_EVENTS: u64 = 1_048_576;
 
 /// The script that the text spells, which has at most 1,048,576 bytes, or its first refusal. It takes memory for the
 /// schedule, the names of blocks, the blocks and their orders alone, and for the blocks and orders only where the first pass
@@ -36,18 +39,26 @@ pub fn read_script(alloc: Global, text: &[u8]) -> Result<Script, ScriptError>
         Ok(read) => read,
         Err(e) => return Err(e),
     };
-    let children = match look_through(alloc, number, rest) {
-        Ok(children) => children,
+    let (children, handled) = match look_through(alloc, number, rest) {
+        Ok(names) => names,
         Err(e) => return Err(e),
     };
     let scope = Scope {
         layout: head.layout,
         children,
+        handled,
     };
     let blocks = match read_blocks(alloc, &scope, number, rest) {
         Ok(blocks) => blocks,
         Err(e) => return Err(e),
     };
+    let events = most_events(blocks.as_slice());
+    if MOST_EVENTS < events {
+        return Err(ScriptError::Refused {
+            line: 0,
+            kind: Kind::TooMuch(events),
+        });
+    }
     Ok(Script {
         machine: head.machine,
         layout: head.layout,
@@ -108,7 +119,7 @@ fn read_blocks(
     text: &[u8],
 ) -> Result<Items<Block>, ScriptError>
     requires room { first + length text.now < 2 ^ 32 }
-    requires whole { AreWholeBlocks text.now scope.now.children }
+    requires whole { AreWholeBlocks text.now scope.now.children scope.now.handled }
     ensures blocks { IfOk result (AreBlocksOf scope.now first text.now) }
     ensures refused { IfErr result (ExplainsBlocks scope.now first text.now) }
 {

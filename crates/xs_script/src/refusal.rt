@@ -21,6 +21,10 @@ pub enum LimitName {
     Sched,
     /// Blocks: 1 to 64.
     Blocks,
+    /// Bytes that a line reads or writes of the memory of a signal frame: 1 to 64, within its 16,388.
+    Frame,
+    /// Signals: 1 to 31 without 9 and 19.
+    Signal,
 }
 
 /// What is wrong with a line of a script. The kinds and their order are this project's own.
@@ -37,16 +41,21 @@ pub enum Kind {
     Layout(LayoutError),
     /// A block has the name of an earlier one, or a child is forked that an earlier line forks.
     Repeated,
-    /// A register isn't one of the machine, or the name after `fork` isn't that of a child block.
+    /// A register isn't one of the machine, the name after `fork` isn't that of a child block, or the one after `kill` isn't
+    /// that of a block with a handler.
     UnknownName,
+    /// A command that reaches another block stands in a handler.
+    OuterInHandler,
+    /// The bound on the events of a run is this one, and exceeds 1,048,576. The line is 0.
+    TooMuch(u64),
 }
 
 /// Why no script was read.
 #[derive(Clone, Copy, PartialEq, Eq)]
 pub enum ScriptError {
-    /// The text is no script: the line that is refused first, from 1, and what is wrong with it.
+    /// The text is no script: the line that is refused first, and what is wrong with it.
     Refused {
-        /// The line.
+        /// The line, from 1, and 0 where it is the script as a whole.
         line: u32,
         /// What is wrong with it.
         kind: Kind,
@@ -74,7 +83,7 @@ pub fn write_refusal(line: u32, kind: Kind, out: &mut RefusalLine)
 fn put_kind(out: &mut RefusalLine, kind: Kind)
     requires { array_vec_len out.old ≤ 18 }
     ensures items { out.new.items ≡ out.old.items ++ 32 ∷ kind_text kind }
-    ensures len { array_vec_len out.new ≤ array_vec_len out.old + 25 }
+    ensures len { array_vec_len out.new ≤ array_vec_len out.old + 30 }
 {
     match kind {
         Kind::NotBuilt => put(out, b" not-built"),
@@ -89,6 +98,12 @@ fn put_kind(out: &mut RefusalLine, kind: Kind)
         }
         Kind::Repeated => put(out, b" repeated"),
         Kind::UnknownName => put(out, b" unknown-name"),
+        Kind::OuterInHandler => put(out, b" outer-in-handler"),
+        Kind::TooMuch(events) => {
+            put(out, b" too-much ");
+            let mut buffer = Buffer::new();
+            put(out, buffer.format(events).as_bytes());
+        }
     }
 }
 
@@ -102,6 +117,8 @@ fn limit_word(name: LimitName) -> &'static [u8]
         LimitName::Large => b"large",
         LimitName::Sched => b"sched",
         LimitName::Blocks => b"blocks",
+        LimitName::Frame => b"frame",
+        LimitName::Signal => b"signal",
     }
 }
 

@@ -16,7 +16,8 @@ pub returns-in-Ok-finish-clause-whole : goal.returns-in-Ok-finish-clause-whole
 returns-in-Ok-finish-clause-whole c =
     let over = eqb-true (length c.lines.left.now) 0 (sym c.is_empty.ensures ∙ c.lines-test.false) in
     let end = c.in-Ok-finish.ensures.whole in
-    looked_through c.args.first c.lines.number c.args.text.now c.lines.left.now c.lines.outline c.in-Ok-finish.children over c.lines.invariant.looked end.0 end.1
+    let names = c.in-Ok-finish.names in
+    looked_through c.args.first c.lines.number c.args.text.now c.lines.left.now c.lines.outline names.0 names.1 over c.lines.invariant.looked end.0 end.1 end.2
 
 pub returns-in-Err-finish-clause-refused : goal.returns-in-Err-finish-clause-refused
 returns-in-Err-finish-clause-refused c =

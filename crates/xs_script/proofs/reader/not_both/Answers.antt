@@ -1,4 +1,4 @@
-use Rattle.xs_script.proofs.SpelledLines.{not_both}
+use Rattle.xs_script.proofs.OneText.{not_both}
 use Rattle.xs_script.proofs.reader.not_both.Goals as goal
 
 pub returns : goal.returns

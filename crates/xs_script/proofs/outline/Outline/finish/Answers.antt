@@ -15,4 +15,4 @@ returns-then-is_empty-clause-refused c =
 pub returns-clause-whole : goal.returns-clause-whole
 returns-clause-whole c =
     let outline = c.args.self in
-    (refl, none_open outline.begun outline.names (sym c.is_some.ensures ∙ c.if-is_some.false) (λ none. let t = c.is_empty.ensures.1 none in cc (sym c.if-is_empty.false ∙ t)))
+    (refl, refl, none_open outline.begun outline.names (sym c.is_some.ensures ∙ c.if-is_some.false) (λ none. let t = c.is_empty.ensures.1 none in cc (sym c.if-is_empty.false ∙ t)))
