@@ -3,7 +3,7 @@ use Rattle.std.proofs.Common.{◌≡◌, ℕ, ◌<◌, Bool, true, false, ◌&&�
 use Rattle.std.proofs.lemmas.Bool.{cases_Bool, eqb-true}
 use Rattle.std.proofs.lemmas.List.{get_or_default}
 use Rattle.std.proofs.lemmas.Option.{slice_get_read, slice_get_within, same_Some}
-use Rattle.std.specs.Prelude.{Option, Some, None}
+use Rattle.std.specs.Prelude.{Option, Some, None, if◌then◌else◌, slice_get}
 use Rattle.xs_base.specs.declared.words.How.{How}
 use Rattle.xs_base.specs.declared.words.How.TheVariants.{Skip}
 use Rattle.xs_model.specs.declared.script.Block.{Block}
@@ -17,8 +17,15 @@ use Rattle.xs_model.specs.Note.{is_at, mark}
 use Rattle.xs_model.specs.Script.{is_user, is_user_block, is_user_kind}
 use Rattle.xs_model.specs.State.{is_active, is_on_cpu, is_ready, lives, none_lives, turn_cpu}
 use Rattle.xs_task.specs.declared.task.Task.{Task}
-use Rattle.xs_board.specs.Board.{Board, IsBoard, IsKeptBeside, IsTaskOf, HasHome, past_of, machine_in, ready_of, stage_in, turn_on, living}
-use Rattle.xs_board.specs.Home.{is_resting}
+use Rattle.xs_board.specs.Mailbox.{Mailbox, closed, emptied, mailbox_at, mailbox_of, next_signal}
+use Rattle.xs_base.specs.declared.component.Row.{Row}
+use Rattle.xs_base.specs.declared.words.Signo.{Signo}
+use Rattle.xs_base.specs.Task.{PrivateTask}
+use Rattle.xs_model.specs.Due.{first_signal, signal_of}
+use Rattle.xs_model.specs.Machine.{later_signals, started}
+use Rattle.xs_model.specs.State.{BlockState}
+use Rattle.xs_board.specs.Board.{Board, signal_at, signal_in, private_in, task_of_state, IsBoard, IsKeptBeside, IsTaskOf, HasHome, past_of, machine_in, ready_of, stage_in, turn_on, living}
+use Rattle.xs_board.specs.Home.{IsHome, is_resting}
 use Rattle.xs_board.specs.Laws.{Laws}
 use Rattle.xs_board.specs.Taken.{HasOther, is_user_how}
 use Rattle.xs_board.proofs.Blocks.{none_counted, tally_some}
@@ -31,16 +38,16 @@ nil_of_len [] none = refl
 nil_of_len (x ∷ xs) none = absurd (omega arith)
 
 -- none lives where none is counted, and one lives where some are
-pub nobody_lives : (board : Board) (list : List ℕ) (capacity count : ℕ) → IsKeptBeside board list capacity count → count ≡ 0 → none_lives (machine_in board) ≡ true
-nobody_lives board list capacity count kept none = none_counted (machine_in board).blocks 0 ∙ eq-eqb (living board) 0 (sym kept.alive ∙ none)
+pub nobody_lives : (board : Board) (list : List ℕ) (capacity count : ℕ) (boxes : List Mailbox) → IsKeptBeside board list capacity count boxes → count ≡ 0 → none_lives (machine_in board) ≡ true
+nobody_lives board list capacity count boxes kept none = none_counted (machine_in board).blocks 0 ∙ eq-eqb (living board) 0 (sym kept.alive ∙ none)
 
 -- one lives where some are counted
-pub somebody_lives : (board : Board) (list : List ℕ) (capacity count : ℕ) → IsKeptBeside board list capacity count → (count ≡ 0 → ⊥) → none_lives (machine_in board) ≡ false
-somebody_lives board list capacity count kept some = none_counted (machine_in board).blocks 0 ∙ ne_eqb (living board) 0 (λ (e : living board ≡ 0). some (kept.alive ∙ e))
+pub somebody_lives : (board : Board) (list : List ℕ) (capacity count : ℕ) (boxes : List Mailbox) → IsKeptBeside board list capacity count boxes → (count ≡ 0 → ⊥) → none_lives (machine_in board) ≡ false
+somebody_lives board list capacity count boxes kept some = none_counted (machine_in board).blocks 0 ∙ ne_eqb (living board) 0 (λ (e : living board ≡ 0). some (kept.alive ∙ e))
 
 -- the first of the list is ready
-pub first_ready : FirstReady → (board : Board) (list : List ℕ) (capacity count t : ℕ) (rest : List ℕ) → IsBoard board → IsKeptBeside board list capacity count → list ≡ t ∷ rest → stage_in board t ≡ Ready
-first_ready law board list capacity count t rest is kept front = law board.script (past_of board) t rest is.legal (sym kept.queue ∙ front)
+pub first_ready : FirstReady → (board : Board) (list : List ℕ) (capacity count t : ℕ) (boxes : List Mailbox) (rest : List ℕ) → IsBoard board → IsKeptBeside board list capacity count boxes → list ≡ t ∷ rest → stage_in board t ≡ Ready
+first_ready law board list capacity count t boxes rest is kept front = law board.script (past_of board) t rest is.legal (sym kept.queue ∙ front)
 
 -- it is one of the script's blocks
 pub ready_known : MachineKnown → (board : Board) (t : ℕ) → stage_in board t ≡ Ready → t < length board.script.blocks
@@ -107,15 +114,82 @@ home_task machine_is board t task is ready slot some there =
     let same : Some task ≡ Some home.0 = sym some ∙ there ∙ get_or_default board.home t slot None (omega arith) ∙ home.1 in
     subst (IsTaskOf board t) (same_Some home.0 task (sym same)) home.2
 
+-- ---- the signal that it gets
+
+-- what a start leaves of the pending signals
+abbrev rest_after : Option Signo → List Signo → List Signo
+rest_after None pending = pending
+rest_after (Some signo) pending = later_signals pending
+
+started_box : (cpu : ℕ) (signal : Option Signo) (block : BlockState) → mailbox_of (Some (started cpu signal block)) ≡ record { alive = true; pending = rest_after signal block.pending }
+started_box cpu None block = refl
+started_box cpu (Some signo) block = refl
+
+left_in : (handling : Bool) (pending : List Signo) → emptied handling (record { alive = true; pending = pending }) ≡ record { alive = true; pending = rest_after (if handling then None else first_signal pending) pending }
+left_in true pending = refl
+left_in false [] = refl
+left_in false (signo ∷ pending) = refl
+
+-- none where none is pending
+none_next : (handling : Bool) → (if handling then None else first_signal []) ≡ None
+none_next true = refl
+none_next false = refl
+
+-- A user task knows whether its handler runs, and of a kernel thread no signal is pending.
+next_is : Laws → (board : Board) (t : ℕ) (block : BlockState) (task : Task) → IsBoard board → IsTaskOf board t task → slice_get (machine_in board).blocks t ≡ Some block → (if task.handling then None else first_signal block.pending) ≡ signal_of block
+next_is laws board t block task is own here = elim (cases_Bool (is_user board.script t)) [
+  | inl user ↦
+      let handling = handling_of (is_user board.script t) board.script.layout task (private_in board t) user own.stands in
+      ap (λ (b : Bool). if b then None else first_signal block.pending) (handling ∙ ap (λ (b : Option BlockState). (task_of_state b).handling) here)
+  | inr thread ↦
+      let quiet = laws.threads board.script (past_of board) t block is.valid is.legal thread here in
+      ap (λ (pending : List Signo). if task.handling then None else first_signal pending) quiet.0
+      ∙ none_next task.handling
+      ∙ sym (ap (λ (pending : List Signo). if block.task.handling then None else first_signal pending) quiet.0 ∙ none_next block.task.handling)
+]
+  where
+    handling_of : (user : Bool) (rows : List Row) (task : Task) (private : PrivateTask) → user ≡ true → IsHome user rows task private → task.handling ≡ private.handling
+    handling_of true rows task private user home = sym (ap (λ (p : PrivateTask). p.handling) home.parked.form)
+    handling_of false rows task private user home = absurd (cc user)
+
+-- its mailbox
+box_there : Laws → (board : Board) (list : List ℕ) (capacity count t : ℕ) (boxes : List Mailbox) (box : Mailbox) → IsKeptBeside board list capacity count boxes → stage_in board t ≡ Ready → box ≡ get_or boxes t box → box ≡ mailbox_at boxes t
+box_there laws board list capacity count t boxes box kept ready there =
+    let known = ready_known laws.machine board t ready in
+    let each = kept.each in
+    there ∙ get_or_default boxes t box closed (omega (arith, known, each))
+
+-- the signal that it gives
+signal_known : Laws → (board : Board) (list : List ℕ) (capacity count t : ℕ) (boxes : List Mailbox) (box : Mailbox) (task : Task) → IsBoard board → IsKeptBeside board list capacity count boxes → IsTaskOf board t task → stage_in board t ≡ Ready → box ≡ get_or boxes t box → next_signal task.handling box ≡ signal_in board t
+signal_known laws board list capacity count t boxes box task is kept own ready there =
+    let b = the_block board t ready in
+    ap (next_signal task.handling) (box_there laws board list capacity count t boxes box kept ready there ∙ kept.mail t ∙ ap mailbox_of b.1) ∙ next_is laws board t b.0 task is own b.1 ∙ sym (ap signal_at b.1)
+
+-- what stays in it
+pub box_known : Laws → (board : Board) (list : List ℕ) (capacity count t cpu : ℕ) (boxes : List Mailbox) (box : Mailbox) (task : Task) (signal : Option Signo) → IsBoard board → IsKeptBeside board list capacity count boxes → IsTaskOf board t task
+    → (ready : stage_in board t ≡ Ready) → box ≡ get_or boxes t box → signal ≡ signal_in board t → emptied task.handling box ≡ mailbox_of (Some (started cpu signal (the_block board t ready).0))
+box_known laws board list capacity count t cpu boxes box task signal is kept own ready there signal_is =
+    let b = the_block board t ready in
+    ap (emptied task.handling) (box_there laws board list capacity count t boxes box kept ready there ∙ kept.mail t ∙ ap mailbox_of b.1 ∙ ap (λ (s : Stage). record { alive = lives s; pending = (b.0).pending }) b.2)
+    ∙ left_in task.handling (b.0).pending
+    ∙ ap (λ (signal : Option Signo). record { alive = true; pending = rest_after signal (b.0).pending }) (next_is laws board t b.0 task is own b.1 ∙ sym (signal_is ∙ ap signal_at b.1))
+    ∙ sym (started_box cpu signal b.0)
+
+-- a kernel thread gets none
+pub thread_quiet : Laws → (board : Board) (t : ℕ) → IsBoard board → stage_in board t ≡ Ready → is_user board.script t ≡ false → signal_in board t ≡ None
+thread_quiet laws board t is ready thread =
+    let b = the_block board t ready in
+    ap signal_at b.1 ∙ ap (λ (pending : List Signo). if (b.0).task.handling then None else first_signal pending) (laws.threads board.script (past_of board) t b.0 is.valid is.legal thread b.1).0 ∙ none_next (b.0).task.handling
+
 -- The first of the list may start, with its task.
-pub may_take : Laws → (board : Board) (list : List ℕ) (capacity count t : ℕ) (rest : List ℕ) (cpu : ℕ) (block : Block) (slot : Option Task) (task : Task) (known : Option ℕ) (how : How)
-    → IsBoard board → IsKeptBeside board list capacity count → list ≡ t ∷ rest
+pub may_take : Laws → (board : Board) (list : List ℕ) (capacity count t : ℕ) (boxes : List Mailbox) (rest : List ℕ) (cpu : ℕ) (block : Block) (slot : Option Task) (task : Task) (known : Option ℕ) (how : How) (box : Mailbox) (signal : Option Signo)
+    → IsBoard board → IsKeptBeside board list capacity count boxes → list ≡ t ∷ rest
     → slot ≡ Some task → slot ≡ get_or board.home t slot → block ≡ get_or board.script.blocks t block
     → cpu < board.script.cpus → turn_on board cpu ≡ None → known ≡ mark board.script (past_of board) cpu
-    → how ≡ how_of (is_user_kind block.kind) (is_at known t && is_at task.last cpu)
-    → MayTake board t cpu rest how × IsTaskOf board t task
-may_take laws board list capacity count t rest cpu block slot task known how is kept front some there block_is processor free known_is how_is =
-    let ready = first_ready laws.first board list capacity count t rest is kept front in
+    → how ≡ how_of (is_user_kind block.kind) (is_at known t && is_at task.last cpu) → box ≡ get_or boxes t box → signal ≡ next_signal task.handling box
+    → MayTake board t cpu rest how signal × IsTaskOf board t task
+may_take laws board list capacity count t boxes rest cpu block slot task known how box signal is kept front some there block_is processor free known_is how_is box_is signal_is =
+    let ready = first_ready laws.first board list capacity count t boxes rest is kept front in
     let own = home_task laws.machine board t task is ready slot some there in (
       record {
         is_board = is;
@@ -124,6 +198,7 @@ may_take laws board list capacity count t rest cpu block slot task known how is 
         processor = processor;
         free = free;
         how_is = how_known laws.numbers board t cpu block.kind task known how is own (user_kind board t block (ready_known laws.machine board t ready) block_is) known_is how_is;
+        signal_is = signal_is ∙ signal_known laws board list capacity count t boxes box task is kept own ready box_is;
       },
       own,
     )

@@ -1,5 +1,6 @@
 -- A board before its first event.
-use Rattle.std.proofs.Common.{◌≡◌, ℕ, suc, ◌+◌, ◌<◌, ◌≤◌, Bool, true, false, ◌&&◌, List, [], ◌∷◌, ◌++◌, map, length, refl, sym, ap, ◌∙◌, subst, arith}
+use Rattle.std.proofs.Common.{◌≡◌, ℕ, zero, suc, ◌+◌, ◌*◌, ◌<◌, ◌≤◌, Bool, true, false, ◌&&◌, List, [], ◌∷◌, ◌++◌, map, length, refl, sym, ap, ◌∙◌, subst, arith}
+use Rattle.std.proofs.lemmas.List.{length-map}
 use Rattle.std.proofs.lemmas.Option.{slice_get-map}
 use Rattle.std.specs.Option.{option_map}
 use Rattle.std.specs.Prelude.{Option, Some, if◌then◌else◌, slice_get}
@@ -11,7 +12,7 @@ use Rattle.xs_model.specs.declared.script.BlockKind.TheVariants as kinds
 use Rattle.xs_model.specs.declared.script.Script.{Script}
 use Rattle.xs_model.specs.declared.stage.Stage.{Stage}
 use Rattle.xs_model.specs.declared.stage.Stage.TheVariants.{Unborn, Ready}
-use Rattle.xs_model.specs.Bound.{most_events}
+use Rattle.xs_model.specs.Bound.{all_kill_lines, body_lines, longest_handler, most_events}
 use Rattle.xs_model.specs.Ready.{ready_from}
 use Rattle.xs_model.specs.Script.{is_user, is_user_block, is_user_kind, IsBuilt, IsValid}
 use Rattle.xs_model.specs.State.{is_ready, lives, opening, opening_block, opening_stage, stage_of}
@@ -19,9 +20,18 @@ use Rattle.xs_pool.specs.Pool.{Pool}
 use Rattle.xs_task.specs.declared.task.Task.{Task}
 use Rattle.xs_board.specs.Board.{Board, IsBoard, IsKeptBeside, HasHome, task_of_state, holds_area, tally, one}
 use Rattle.xs_board.specs.Home.{IsClear, IsHome}
-use Rattle.xs_board.specs.Opening.{one_born, one_user, users_in, born_if, born_in, born_from, AreFirst}
+use Rattle.xs_board.specs.Mailbox.{Mailbox, mailbox_at, mailbox_of}
+use Rattle.xs_board.specs.Opening.{first_mailbox, is_born, one_born, one_user, users_in, born_if, born_in, born_from, AreFirst}
 use Rattle.xs_board.proofs.Blocks.{existing}
+use Rattle.xs_board.proofs.Mailboxes.{box_with}
 use Rattle.xs_board.proofs.FirstTasks.{born_length, users_few}
+
+-- the bound of a valid script is small, and so are its parts
+pub bound_small : (script : Script) → IsValid script → (body_lines script.blocks ≤ 1048576) × (all_kill_lines script.blocks * longest_handler script.blocks ≤ 1048576 * 1048576) × (length script.blocks ≤ 1048576)
+bound_small script valid = by_parts (body_lines script.blocks) (all_kill_lines script.blocks * longest_handler script.blocks) (length script.blocks) valid.events
+  where
+    by_parts : (lines signals count : ℕ) → 4 * lines + 2 * signals + 8 * count ≤ 1048576 → (lines ≤ 1048576) × (signals ≤ 1048576 * 1048576) × (count ≤ 1048576)
+    by_parts lines signals count most = (omega (arith, most), omega (arith, most), omega (arith, most))
 
 -- the blocks that are born are ready
 ready_all : (rows : List Row) (i : ℕ) (blocks : List Block) → ready_from i (map (opening_block rows) blocks) ≡ born_from i blocks
@@ -74,6 +84,17 @@ first_clear kinds.Task rows task unborn home = absurd (cc unborn)
 first_clear kinds.Child rows task unborn home = root_clear rows task home
 first_clear kinds.Kthread rows task unborn home = absurd (cc unborn)
 
+-- the mailboxes
+first_boxes : (rows : List Row) (blocks : List Block) (t : ℕ) → mailbox_at (map first_mailbox blocks) t ≡ mailbox_of (slice_get (map (opening_block rows) blocks) t)
+first_boxes rows [] t = refl
+first_boxes rows (block ∷ blocks) zero = by_kind block.kind
+  where
+    by_kind : (kind : BlockKind) → box_with (is_born kind) ([]) ≡ record { alive = lives (opening_stage kind); pending = [] }
+    by_kind kinds.Task = refl
+    by_kind kinds.Child = refl
+    by_kind kinds.Kthread = refl
+first_boxes rows (block ∷ blocks) (suc t) = first_boxes rows blocks t
+
 module _ (script : Script) (home : List (Option Task)) (pool : Pool) (room : ℕ) where
   -- the board
   abbrev first_board : Board
@@ -118,10 +139,12 @@ module _ (script : Script) (home : List (Option Task)) (pool : Pool) (room : ℕ
       }
 
   -- what is kept beside it
-  pub beside_open : (list : List ℕ) (capacity count : ℕ) → list ≡ born_from 0 script.blocks → length script.blocks ≤ capacity → count ≡ born_in script.blocks → IsKeptBeside first_board list capacity count
-  beside_open list capacity count is fits living = record {
+  pub beside_open : (list : List ℕ) (capacity count : ℕ) (boxes : List Mailbox) → list ≡ born_from 0 script.blocks → length script.blocks ≤ capacity → count ≡ born_in script.blocks → boxes ≡ map first_mailbox script.blocks → IsKeptBeside first_board list capacity count boxes
+  beside_open list capacity count boxes is fits living are = record {
     queue = is ∙ sym (ready_all script.layout 0 script.blocks);
     ready = ap length is ∙ born_length 0 script.blocks ∙ sym (tally_all is_ready refl refl script.layout 0 script.blocks);
     fits = fits;
     alive = living ∙ sym (tally_all lives refl refl script.layout 0 script.blocks);
+    each = ap length are ∙ length-map script.blocks first_mailbox;
+    mail = λ t. ap (λ (all : List Mailbox). mailbox_at all t) are ∙ first_boxes script.layout script.blocks t;
   }

@@ -7,19 +7,20 @@ use Rattle.xs_area.specs.declared.area.Lease.{Lease}
 use Rattle.xs_base.specs.declared.class.Class.TheVariants.{Small}
 use Rattle.xs_base.specs.declared.component.Row.{Row}
 use Rattle.xs_base.specs.Task.{PrivateTask}
+use Rattle.xs_model.specs.declared.script.Script.{Script}
 use Rattle.xs_model.specs.declared.stage.Stage.{Stage}
 use Rattle.xs_model.specs.declared.stage.Stage.TheVariants.{Unborn, Ready}
-use Rattle.xs_model.specs.State.{BlockState, is_ready, is_on_cpu, lives, turn_cpu}
+use Rattle.xs_model.specs.State.{BlockState, is_ready, is_on_cpu, lives, stage_at, turn_cpu}
 use Rattle.xs_pool.specs.Pool.{Pool, returned}
 use Rattle.xs_task.specs.declared.task.Task.{Task}
 use Rattle.xs_task.specs.Parked.{IsParked}
 use Rattle.xs_task.specs.TaskArea.{IsTask}
 use Rattle.xs_board.specs.declared.turn.Close.{Close}
-use Rattle.xs_board.specs.declared.turn.Close.TheVariants.{Quantum, Yield, Outer, End}
+use Rattle.xs_board.specs.declared.turn.Close.TheVariants.{Quantum, Yield, Outer, Refused, End}
 use Rattle.xs_board.specs.Board.{tally, holds_area, one}
 use Rattle.xs_board.specs.Home.{IsHome, is_resting}
-use Rattle.xs_board.specs.Putting.{BecameChild, Bears, IfEnd, home_after, ready_born, ready_after, living_born, living_after, moved_on, pool_after}
-use Rattle.xs_board.specs.Turn.{stage_closed, task_closed, newborn}
+use Rattle.xs_board.specs.Putting.{BecameChild, Bears, IfEnd, home_after, ready_born, ready_after, living_born, living_after, moved_on, pool_after, pool_without}
+use Rattle.xs_board.specs.Turn.{forked, stage_closed, task_handed, task_closed, newborn}
 use Rattle.xs_board.proofs.Blocks.{tally_point, tally_two}
 use Rattle.xs_board.proofs.Committing.{if_end}
 
@@ -30,6 +31,7 @@ pub off_closed : (cpu : ℕ) (close : Close) → is_on_cpu cpu (turn_cpu (stage_
 off_closed cpu Quantum = refl
 off_closed cpu Yield = refl
 off_closed cpu (Outer line) = refl
+off_closed cpu (Refused error) = refl
 off_closed cpu End = refl
 
 -- its block was born
@@ -37,6 +39,7 @@ pub closed_born : {A : Type 0} (close : Close) → stage_closed close ≡ Unborn
 closed_born Quantum e = absurd (cc e)
 closed_born Yield e = absurd (cc e)
 closed_born (Outer line) e = absurd (cc e)
+closed_born (Refused error) e = absurd (cc e)
 closed_born End e = absurd (cc e)
 
 -- as many places
@@ -44,6 +47,7 @@ pub home_length : (close : Close) (task : Task) (home : List (Option Task)) → 
 home_length Quantum task home = length-set home task.name (Some task)
 home_length Yield task home = length-set home task.name (Some task)
 home_length (Outer line) task home = length-set home task.name (Some task)
+home_length (Refused error) task home = refl
 home_length End task home = refl
 
 pub bears_length : (child : Option ℕ) (rows : List Row) (task : Task) (home bearing : List (Option Task)) → Bears child rows task home bearing → length bearing ≡ length home
@@ -55,6 +59,7 @@ pub home_other : (close : Close) (task : Task) (home : List (Option Task)) (u : 
 home_other Quantum task home u other = get_or-set_other home task.name u (Some task) None other
 home_other Yield task home u other = get_or-set_other home task.name u (Some task) None other
 home_other (Outer line) task home u other = get_or-set_other home task.name u (Some task) None other
+home_other (Refused error) task home u other = refl
 home_other End task home u other = refl
 
 pub bears_other : (child : Option ℕ) (rows : List Row) (task : Task) (home bearing : List (Option Task)) → Bears child rows task home bearing → (u : ℕ) → (child ≡ Some u → ⊥) → slice_index_or bearing u None ≡ slice_index_or home u None
@@ -67,6 +72,7 @@ pub home_own : (close : Close) (task : Task) (home : List (Option Task)) → tas
 home_own Quantum task home here rests = get_or-set_same home task.name (Some task) None here
 home_own Yield task home here rests = get_or-set_same home task.name (Some task) None here
 home_own (Outer line) task home here rests = get_or-set_same home task.name (Some task) None here
+home_own (Refused error) task home here rests = absurd (cc rests)
 home_own End task home here rests = absurd (cc rests)
 
 -- it has its name behind its line
@@ -74,26 +80,39 @@ pub moved_name : (close : Close) (task : Task) → (moved_on close task).name �
 moved_name Quantum task = refl
 moved_name Yield task = refl
 moved_name (Outer line) task = refl
+moved_name (Refused error) task = refl
 moved_name End task = refl
 
 pub moved_last : (close : Close) (task : Task) → (moved_on close task).last ≡ task.last
 moved_last Quantum task = refl
 moved_last Yield task = refl
 moved_last (Outer line) task = refl
+moved_last (Refused error) task = refl
 moved_last End task = refl
 
--- a close changes neither of these
+-- a close changes no room for TILEDATA
 pub closed_large : (close : Close) (task : PrivateTask) → (task_closed close task).large ≡ task.large
 closed_large Quantum task = refl
 closed_large Yield task = refl
 closed_large (Outer line) task = refl
+closed_large (Refused error) task = refl
 closed_large End task = refl
 
-pub closed_handling : (close : Close) (task : PrivateTask) → (task_closed close task).handling ≡ task.handling
-closed_handling Quantum task = refl
-closed_handling Yield task = refl
-closed_handling (Outer line) task = refl
-closed_handling End task = refl
+-- the task is handed back at its place
+pub handed_place : (close : Close) (task : PrivateTask) → (task_handed close task).place ≡ task.place
+handed_place Quantum task = refl
+handed_place Yield task = refl
+handed_place (Outer line) task = refl
+handed_place (Refused error) task = refl
+handed_place End task = refl
+
+-- at a fork it is handed back as it was
+pub handed_fork : (script : Script) (t : ℕ) (close : Close) (u : ℕ) (task : PrivateTask) → forked script t close ≡ Some u → task_handed close task ≡ task
+handed_fork script t Quantum u task fork = refl
+handed_fork script t Yield u task fork = refl
+handed_fork script t (Outer line) u task fork = refl
+handed_fork script t (Refused error) u task fork = absurd (cc fork)
+handed_fork script t End u task fork = refl
 
 -- the child, as it counts before its birth and after it
 abbrev pub was_born : Option ℕ → (ℕ → Stage → Bool) → ℕ
@@ -113,6 +132,7 @@ pub queue_after : (close : Close) (t : ℕ) (list : List ℕ) → length (ready_
 queue_after Quantum t list = length-append list (t ∷ [])
 queue_after Yield t list = length-append list (t ∷ [])
 queue_after (Outer line) t list = length-append list (t ∷ [])
+queue_after (Refused error) t list = omega arith
 queue_after End t list = omega arith
 
 -- how many live
@@ -123,6 +143,8 @@ living_is Yield None before now sum = omega (arith, sum)
 living_is Yield (Some child) before now sum = omega (arith, sum)
 living_is (Outer line) None before now sum = omega (arith, sum)
 living_is (Outer line) (Some child) before now sum = omega (arith, sum)
+living_is (Refused error) None before now sum = omega (arith, sum)
+living_is (Refused error) (Some child) before now sum = omega (arith, sum)
 living_is End None before now sum = omega (arith, sum)
 living_is End (Some child) before now sum = omega (arith, sum)
 
@@ -141,27 +163,32 @@ pub area_stays : (child : Option ℕ) (user : ℕ → Bool) → was_born child (
 area_stays None user = refl
 area_stays (Some child) user = refl
 
--- The pool, where the areas that are out are those of the user tasks before and after the turn.
-pub pool_is : (close : Close) (user : Bool) (lease : Option Lease) (pool : Pool) (before now : ℕ) → pool.small.out ≡ before → now + one (user && true) ≡ before + one (user && holds_area (stage_closed close)) → (lease ≡ None → user ≡ false) → ((l : Lease) → lease ≡ Some l → (user ≡ true) × (l.class ≡ Small)) → pool_after close lease pool ≡ record pool { small = record pool.small { out = now } }
-pool_is Quantum user lease pool before now out sum none some = let same : pool.small.out ≡ now = omega arith in ap (λ (n : ℕ). record pool { small = record pool.small { out = n } }) same
-pool_is Yield user lease pool before now out sum none some = let same : pool.small.out ≡ now = omega arith in ap (λ (n : ℕ). record pool { small = record pool.small { out = n } }) same
-pool_is (Outer line) user lease pool before now out sum none some = let same : pool.small.out ≡ now = omega arith in ap (λ (n : ℕ). record pool { small = record pool.small { out = n } }) same
-pool_is End user None pool before now out sum none some =
+-- The pool where a task has ended.
+pool_ends : (user : Bool) (lease : Option Lease) (pool : Pool) (before now : ℕ) → pool.small.out ≡ before → now + one (user && true) ≡ before + one (user && false) → (lease ≡ None → user ≡ false) → ((l : Lease) → lease ≡ Some l → (user ≡ true) × (l.class ≡ Small)) → pool_without lease pool ≡ record pool { small = record pool.small { out = now } }
+pool_ends user None pool before now out sum none some =
     let thread : user ≡ false = none refl in
     let was : one (user && true) ≡ 0 = ap (λ (u : Bool). one (u && true)) thread in
     let is : one (user && false) ≡ 0 = ap (λ (u : Bool). one (u && false)) thread in
     let same : pool.small.out ≡ now = omega arith in
     ap (λ (n : ℕ). record pool { small = record pool.small { out = n } }) same
-pool_is End user (Some lease) pool before now out sum none some =
+pool_ends user (Some lease) pool before now out sum none some =
     let known = some lease refl in
     let was : one (user && true) ≡ 1 = ap (λ (u : Bool). one (u && true)) known.0 in
     let is : one (user && false) ≡ 0 = ap (λ (u : Bool). one (u && false)) known.0 in
     let same : pool.small.out - 1 ≡ now = omega arith in
     ap (returned pool) known.1 ∙ ap (λ (n : ℕ). record pool { small = record pool.small { out = n } }) same
 
+-- The pool, where the areas that are out are those of the user tasks before and after the turn.
+pub pool_is : (close : Close) (user : Bool) (lease : Option Lease) (pool : Pool) (before now : ℕ) → pool.small.out ≡ before → now + one (user && true) ≡ before + one (user && holds_area (stage_closed close)) → (lease ≡ None → user ≡ false) → ((l : Lease) → lease ≡ Some l → (user ≡ true) × (l.class ≡ Small)) → pool_after close lease pool ≡ record pool { small = record pool.small { out = now } }
+pool_is Quantum user lease pool before now out sum none some = let same : pool.small.out ≡ now = omega arith in ap (λ (n : ℕ). record pool { small = record pool.small { out = n } }) same
+pool_is Yield user lease pool before now out sum none some = let same : pool.small.out ≡ now = omega arith in ap (λ (n : ℕ). record pool { small = record pool.small { out = n } }) same
+pool_is (Outer line) user lease pool before now out sum none some = let same : pool.small.out ≡ now = omega arith in ap (λ (n : ℕ). record pool { small = record pool.small { out = n } }) same
+pool_is (Refused error) user lease pool before now out sum none some = pool_ends user lease pool before now out sum none some
+pool_is End user lease pool before now out sum none some = pool_ends user lease pool before now out sum none some
+
 -- what the machine tells of how many blocks are such
 pub tally_left : (child : Option ℕ) (such : ℕ → Stage → Bool) (t : ℕ) (task : PrivateTask) (xs ys : List BlockState) (x now : BlockState) → length ys ≡ length xs → slice_get xs t ≡ Some x → slice_get ys t ≡ Some now
-    → ((u : ℕ) → (u ≡ t → ⊥) → (child ≡ Some u → ⊥) → slice_get ys u ≡ slice_get xs u)
+    → ((u : ℕ) → (u ≡ t → ⊥) → (child ≡ Some u → ⊥) → stage_at ys u ≡ stage_at xs u)
     → IfSome child (λ u. (state : BlockState) × (slice_get xs u ≡ Some state) × (state.stage ≡ Unborn) × (t ≡ u → ⊥) × (slice_get ys u ≡ Some (newborn t task)))
     → tally such 0 ys + one (such t x.stage) + was_born child such ≡ tally such 0 xs + one (such t now.stage) + is_born child such
 tally_left None such t task xs ys x now len before after others born =

@@ -2,40 +2,42 @@
 use Rattle.std.proofs.Common.{◌≡◌, ℕ, zero, suc, ◌+◌, ◌*◌, ◌<◌, ◌≤◌, ◌^◌, Bool, true, false, ◌&&◌, List, [], ◌∷◌, length, refl, sym, ap, ◌∙◌, subst, arith, eq-eqb}
 use Rattle.std.proofs.lemmas.Bool.{eqb-true, false_from_ne_true}
 use Rattle.std.proofs.lemmas.Option.{same_Some, slice_get_within}
-use Rattle.std.specs.Prelude.{Option, Some, None, IfSome, if◌then◌else◌, slice_get}
+use Rattle.std.specs.Prelude.{Option, Some, None, IfSome, slice_get}
 use Rattle.xs_area.specs.declared.area.Lease.{Lease}
 use Rattle.xs_base.specs.declared.class.Class.{Class}
 use Rattle.xs_base.specs.declared.class.Class.TheVariants.{Small, Large}
 use Rattle.xs_base.specs.declared.component.Row.{Row}
 use Rattle.xs_base.specs.KernelArea.{class_size}
 use Rattle.xs_base.specs.Task.{PrivateTask}
+use Rattle.xs_model.specs.declared.event.Reply.{Reply}
 use Rattle.xs_model.specs.declared.script.Block.{Block}
-use Rattle.xs_model.specs.declared.script.Command.{Command}
 use Rattle.xs_model.specs.declared.script.Order.{Order}
 use Rattle.xs_model.specs.declared.script.Script.{Script}
 use Rattle.xs_model.specs.declared.stage.Stage.{Stage}
 use Rattle.xs_model.specs.declared.stage.Stage.TheVariants.{Unborn, Turn}
 use Rattle.xs_model.specs.Bound.{all_kill_lines, body_lines, longest_handler}
 use Rattle.xs_model.specs.Laws.{IsPlainBlock, MachineKnown}
-use Rattle.xs_model.specs.Line.{local_after}
-use Rattle.xs_model.specs.Machine.{goes_on, may_act}
+use Rattle.xs_model.specs.Machine.{may_act}
 use Rattle.xs_model.specs.Replay.{entry, entry_of}
-use Rattle.xs_model.specs.Script.{IsValid, is_user, is_yield}
+use Rattle.xs_model.specs.Script.{IsValid, is_user}
 use Rattle.xs_model.specs.State.{BlockState, is_on_cpu, lives, turn_cpu, turn_of}
 use Rattle.xs_pool.specs.Pool.{stock_of}
 use Rattle.xs_task.specs.declared.task.Task.{Task}
 use Rattle.xs_task.specs.TaskArea.{has_large, is_large}
 use Rattle.xs_board.specs.declared.turn.Entry.{Entry}
 use Rattle.xs_board.specs.declared.turn.Close.{Close}
-use Rattle.xs_board.specs.declared.turn.Close.TheVariants.{Quantum, Yield, Outer, End}
-use Rattle.xs_board.specs.Board.{Board, IsBoard, IsKeptBeside, past_of, machine_in, stage_in, private_in, private_with, task_of_state, areas, holds_area}
+use Rattle.xs_board.specs.declared.turn.Close.TheVariants.{Quantum, Yield, Outer, Refused, End}
+use Rattle.xs_board.specs.Board.{Board, IsBoard, IsKeptBeside, past_of, machine_in, stage_in, private_in, private_with, answer_in, task_of_state, areas, holds_area}
 use Rattle.xs_board.specs.Home.{IsHome}
 use Rattle.xs_board.specs.Laws.{Laws}
+use Rattle.xs_board.specs.Mailbox.{Mailbox}
 use Rattle.xs_board.specs.Putting.{IfEnd, UnlessEnd}
-use Rattle.xs_board.specs.Turn.{IsOuterLine, AreAfter, AreLines, turn_events, line_of, after_line, task_after}
+use Rattle.xs_board.specs.Turn.{AreLines, turn_events, task_after}
 use Rattle.xs_board.proofs.Blocks.{block_in, each_of, existing, tally_most, tally_some}
 use Rattle.xs_board.proofs.Runners.{is_on, runner_is}
-use Rattle.xs_board.proofs.Turning.{IsTurning, Leaves, turn_left, past_closed}
+use Rattle.xs_board.proofs.Deeds.{AtOuter, IsKnownClose, known_close, outer_open}
+use Rattle.xs_board.proofs.Turning.{IsTurning, Leaves, past_closed}
+use Rattle.xs_board.proofs.Ending.{turn_left}
 use Rattle.xs_board.proofs.Moving.{fits}
 
 -- The turn that comes back: its lines and its close are the script's.
@@ -92,8 +94,8 @@ module _ (laws : Laws) (board : Board) (t cpu : ℕ) (is : IsBoard board) (turn 
       other (laws.apart board.script (past_of board) cpu u t is.valid is.legal (on_is cpu (turn_of (machine_in board).blocks u) on) (ap turn_cpu turn)))
 
   -- some block lives
-  pub turn_lives : (list : List ℕ) (capacity count : ℕ) → IsKeptBeside board list capacity count → 0 < count
-  turn_lives list capacity count kept =
+  pub turn_lives : (list : List ℕ) (capacity count : ℕ) (boxes : List Mailbox) → IsKeptBeside board list capacity count boxes → 0 < count
+  turn_lives list capacity count boxes kept =
       let some = tally_some (λ v stage. lives stage) 0 t t (machine_in board).blocks block here (omega arith) (ap lives stage_is) in
       let alive = kept.alive in
       omega (arith, some, alive)
@@ -113,22 +115,35 @@ module _ (laws : Laws) (board : Board) (t cpu : ℕ) (entries : List Entry) (clo
     legal = may.is_board.legal;
   }
 
+  -- what its outer line does, if one closes it
+  pub turn_at_outer : AtOuter board.script t close (private_with board t entries)
+  turn_at_outer = outer_open board.script t entries close (private_in board t) 0 may.lines
+
+  pub turn_close : IsKnownClose board.script t close
+  turn_close =
+      let lines = existing board.script.blocks t (turn_in_range laws board t cpu may.is_board may.turn) in
+      known_close laws board.script t lines.0 close (private_with board t entries) may.is_board.valid may.is_board.built lines.1 turn_at_outer
+
+  -- what the line answers
+  abbrev answer : Reply
+  answer = answer_in board t close
+
   -- what the turn leaves
-  pub turn_leaves : Leaves board.script (past_of board) t (board.script.quantum + 1) entries close (private_with board t entries) (past_closed t entries close (past_of board))
+  pub turn_leaves : Leaves board.script (past_of board) t (board.script.quantum + 1) entries close (private_with board t entries) (past_closed t entries close answer (past_of board))
   turn_leaves =
       let same = task_is laws board t cpu may.is_board may.turn in
       let lines = existing board.script.blocks t (turn_in_range laws board t cpu may.is_board may.turn) in
       let script = board.script in
-      subst (λ (x : PrivateTask). Leaves script (past_of board) t (script.quantum + 1) entries close (task_after script t x entries) (past_closed t entries close (past_of board))) (sym same)
-      (turn_left laws script may.is_board.valid may.is_board.built t cpu entries close (past_of board) 0 (script.quantum + 1) (the_turn board t cpu may.turn).0 lines.0 (begun lines.0 lines.1)
-      (subst (λ (x : PrivateTask). AreLines script t x 0 entries close) same may.lines) (omega arith))
+      subst (λ (x : PrivateTask). Leaves script (past_of board) t (script.quantum + 1) entries close (task_after script t x entries) (past_closed t entries close answer (past_of board))) (sym same)
+      (turn_left laws script may.is_board.valid may.is_board.built t cpu entries close answer (past_of board) 0 (script.quantum + 1) (the_turn board t cpu may.turn).0 lines.0 (begun lines.0 lines.1)
+      (subst (λ (x : PrivateTask). AreLines script t x 0 entries close) same may.lines) turn_close refl (omega arith))
 
   -- there is room for its events
-  pub turn_fits : length board.history + length (turn_events t entries close) ≤ board.room
-  turn_fits = fits laws.few board.script board.history (turn_events t entries close) board.room may.is_board.valid turn_leaves.0.legal may.is_board.room
+  pub turn_fits : length board.history + length (turn_events t entries close answer) ≤ board.room
+  turn_fits = fits laws.few board.script board.history (turn_events t entries close answer) board.room may.is_board.valid turn_leaves.0.legal may.is_board.room
 
   -- the replay tells the same
-  pub turn_replays : entry board.script (past_of board) cpu ≡ past_closed t entries close (past_of board)
+  pub turn_replays : entry board.script (past_of board) cpu ≡ past_closed t entries close answer (past_of board)
   turn_replays =
       ap (entry_of board.script cpu (past_of board)) (runner_is cpu 0 t t (machine_in board).blocks (omega arith) (turn_on_it laws board t cpu may.is_board may.turn) (alone laws board t cpu may.is_board may.turn))
       ∙ turn_leaves.1
@@ -161,6 +176,7 @@ pub if_end : (close : Close) (Holds : Type 0) → Holds → IfEnd close Holds
 if_end Quantum Holds holds = tt
 if_end Yield Holds holds = tt
 if_end (Outer line) Holds holds = tt
+if_end (Refused error) Holds holds = holds
 if_end End Holds holds = holds
 
 -- and at any other close
@@ -168,6 +184,7 @@ pub unless_end : (close : Close) (Holds : Type 0) → Holds → UnlessEnd close 
 unless_end Quantum Holds holds = holds
 unless_end Yield Holds holds = holds
 unless_end (Outer line) Holds holds = holds
+unless_end (Refused error) Holds holds = tt
 unless_end End Holds holds = tt
 
 -- ---- what the calls of `commit` ask for
@@ -212,40 +229,10 @@ place_small script t place lines order valid known at =
     by_bound lines kills count bound within = omega (arith, bound, within)
 
 -- few blocks live
-pub few_live : MachineKnown → (board : Board) (list : List ℕ) (capacity count : ℕ) → IsBoard board → IsKeptBeside board list capacity count → count + 1 < 2 ^ 32
-few_live known board list capacity count is kept =
+pub few_live : MachineKnown → (board : Board) (list : List ℕ) (capacity count : ℕ) (boxes : List Mailbox) → IsBoard board → IsKeptBeside board list capacity count boxes → count + 1 < 2 ^ 32
+few_live known board list capacity count boxes is kept =
     let most = tally_most (λ v stage. lives stage) 0 (machine_in board).blocks in
     let same = (known board.script (past_of board)).2 in
     let few = is.valid.few in
     let alive = kept.alive in
     omega (arith, most, same, few, alive)
-
--- What holds of a task that comes to its close, where that is an outer line.
-abbrev pub AtOuter : Script → ℕ → Close → PrivateTask → Type 0
-AtOuter script t Quantum task = Unit {0}
-AtOuter script t Yield task = Unit {0}
-AtOuter script t (Outer line) task = (order : Order) × IsOuterLine script t task line order
-AtOuter script t End task = Unit {0}
-
--- so it is after the lines of a turn
-pub outer_open : (script : Script) (t : ℕ) (entries : List Entry) (close : Close) (task : PrivateTask) (ran : ℕ) → AreLines script t task ran entries close → AtOuter script t close (task_after script t task entries)
-outer_open script t [] Quantum task ran are = tt
-outer_open script t [] Yield task ran are = tt
-outer_open script t [] (Outer line) task ran are = are
-outer_open script t [] End task ran are = tt
-outer_open script t (line ∷ entries) close task ran are =
-    let order = are.0 in
-    let now = local_after task order.command in
-    let same : now ≡ after_line task (line_of script t task) = sym (ap (after_line task) are.1.at) in
-    subst (λ (x : PrivateTask). AtOuter script t close (task_after script t x entries)) same
-    (by_going (goes_on script order.command ran) order.command close entries (AreLines script t now (ran + 1) entries close) now are.2 (λ (rest : AreLines script t now (ran + 1) entries close). outer_open script t entries close now (ran + 1) rest))
-  where
-    none_by : (b : Bool) (private : PrivateTask) → AtOuter script t (if b then Yield else Quantum) private
-    none_by true private = tt
-    none_by false private = tt
-
-    by_going : (b : Bool) (command : Command) (close : Close) (entries : List Entry) (Lines : Type 0) (now : PrivateTask) → AreAfter b command entries close Lines
-        → (Lines → AtOuter script t close (task_after script t now entries))
-        → AtOuter script t close (task_after script t now entries)
-    by_going true command close entries Lines now after each = each after
-    by_going false command close entries Lines now after each = subst (λ (c : Close). AtOuter script t c (task_after script t now entries)) (sym after.1) (none_by (is_yield command) (task_after script t now entries))

@@ -14,16 +14,16 @@ use Rattle.xs_model.specs.Line.{next_line}
 use Rattle.xs_model.specs.Machine.{machine, IsLegalPast}
 use Rattle.xs_model.specs.Note.{last}
 use Rattle.xs_model.specs.Script.{IsValid, is_user}
-use Rattle.xs_model.specs.State.{stage_of}
 use Rattle.xs_task.specs.declared.task.Task.{Task}
 use Rattle.xs_task.specs.Parked.{IsParked}
 use Rattle.xs_task.specs.TaskArea.{IsTask}
 use Rattle.xs_board.specs.declared.turn.Close.{Close}
-use Rattle.xs_board.specs.declared.turn.Close.TheVariants.{Quantum, Yield, Outer, End}
-use Rattle.xs_board.specs.Board.{Board, HasHome, past_of, machine_in, private_in, task_of_state}
+use Rattle.xs_board.specs.declared.turn.Close.TheVariants.{Quantum, Yield, Outer, Refused, End}
+use Rattle.xs_board.specs.Board.{Board, but_signals, HasHome, past_of, machine_in, private_in}
 use Rattle.xs_board.specs.Home.{IsHome}
 use Rattle.xs_board.specs.Putting.{moved_on}
-use Rattle.xs_board.specs.Turn.{task_closed}
+use Rattle.xs_board.specs.Turn.{task_handed, task_closed}
+use Rattle.xs_board.proofs.Blocks.{stage_same, task_same}
 use Rattle.xs_board.proofs.Turning.{onto}
 
 -- ---- histories
@@ -56,16 +56,16 @@ as_many known script past later = (known script later).2 ∙ sym (known script p
 -- ---- the tasks
 
 -- another block's task stays home
-pub home_stays : (old new : Board) (u : ℕ) → new.script ≡ old.script → slice_index_or new.home u None ≡ slice_index_or old.home u None → slice_get (machine_in new).blocks u ≡ slice_get (machine_in old).blocks u → last new.script (past_of new) u ≡ last old.script (past_of old) u → HasHome old u → HasHome new u
+pub home_stays : (old new : Board) (u : ℕ) → new.script ≡ old.script → slice_index_or new.home u None ≡ slice_index_or old.home u None → but_signals (slice_get (machine_in new).blocks u) ≡ but_signals (slice_get (machine_in old).blocks u) → last new.script (past_of new) u ≡ last old.script (past_of old) u → HasHome old u → HasHome new u
 home_stays old new u script slot same last_is home =
     let is = home.2 in (
       home.0,
       slot ∙ home.1,
       record {
         name = is.name;
-        stands = subst (λ (p : PrivateTask). IsHome (is_user new.script u) new.script.layout home.0 p) (sym (ap task_of_state same)) (subst (λ (s : Script). IsHome (is_user s u) s.layout home.0 (private_in old u)) (sym script) is.stands);
+        stands = subst (λ (p : PrivateTask). IsHome (is_user new.script u) new.script.layout home.0 p) (sym (task_same (slice_get (machine_in new).blocks u) (slice_get (machine_in old).blocks u) same)) (subst (λ (s : Script). IsHome (is_user s u) s.layout home.0 (private_in old u)) (sym script) is.stands);
         last = λ user. is.last (sym (ap (λ (s : Script). is_user s u) script) ∙ user) ∙ sym last_is;
-        clear = λ unborn. is.clear (sym (ap stage_of same) ∙ unborn);
+        clear = λ unborn. is.clear (sym (stage_same (slice_get (machine_in new).blocks u) (slice_get (machine_in old).blocks u) same) ∙ unborn);
       },
     )
 
@@ -111,11 +111,12 @@ next_parked rows task private parked_is = record {
 }
 
 -- a task that is home stays so behind its outer line
-pub moved_home : (close : Close) (user : Bool) (rows : List Row) (task : Task) (private : PrivateTask) → IsHome user rows task (parked private) → IsHome user rows (moved_on close task) (parked (task_closed close private))
+pub moved_home : (close : Close) (user : Bool) (rows : List Row) (task : Task) (private : PrivateTask) → IsHome user rows task (parked (task_handed close private)) → IsHome user rows (moved_on close task) (parked (task_closed close private))
 moved_home Quantum user rows task private home = home
 moved_home Yield user rows task private home = home
 moved_home (Outer child) true rows task private home = record { whole = next_whole rows task home.whole; parked = next_parked rows task private home.parked }
 moved_home (Outer child) false rows task private home = record { lease = home.lease; frame = home.frame; buffer = home.buffer; place = ap (λ (n : ℕ). n + 1) home.place }
+moved_home (Refused error) user rows task private home = home
 moved_home End user rows task private home = home
 
 -- ---- children

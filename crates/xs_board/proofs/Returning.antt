@@ -1,42 +1,41 @@
 -- What a board is after a task came back.
-use Rattle.std.proofs.Common.{◌≡◌, ℕ, ◌+◌, ◌<◌, ◌≤◌, ◌^◌, Bool, true, false, ◌&&◌, List, [], ◌∷◌, length, reverse, refl, sym, ap, ◌∙◌, subst, arith, inl, inr, ne_eqb, length-append}
+use Rattle.std.proofs.Common.{◌≡◌, ℕ, ◌+◌, ◌<◌, ◌≤◌, Bool, true, false, ◌&&◌, List, [], ◌∷◌, length, reverse, refl, sym, ap, ◌∙◌, subst, arith, inl, inr, ne_eqb, length-append}
 use Rattle.std.proofs.lemmas.Bool.{cases_eq}
 use Rattle.std.proofs.lemmas.List.{get_or-set_same}
 use Rattle.std.proofs.lemmas.Option.{same_Some}
-use Rattle.std.specs.Prelude.{◌⊎◌, Option, Some, None, IfSome, if◌then◌else◌, slice_get, slice_index_or}
+use Rattle.std.specs.Prelude.{◌⊎◌, Option, Some, None, IfSome, slice_get, slice_index_or}
 use Rattle.xs_base.specs.Task.{PrivateTask, child_of}
 use Rattle.xs_model.specs.declared.event.Event.{Event}
-use Rattle.xs_model.specs.declared.script.Block.{Block}
-use Rattle.xs_model.specs.declared.script.Order.{Order}
 use Rattle.xs_model.specs.declared.stage.Stage.{Stage}
 use Rattle.xs_model.specs.declared.stage.Stage.TheVariants.{Unborn, Ready, Turn}
 use Rattle.xs_model.specs.Bound.{most_events}
 use Rattle.xs_model.specs.Laws.{IsPlainBlock}
-use Rattle.xs_model.specs.Line.{line_at}
 use Rattle.xs_model.specs.Machine.{machine, IsLegalPast}
 use Rattle.xs_model.specs.Note.{last}
 use Rattle.xs_model.specs.Ready.{ready_list}
 use Rattle.xs_model.specs.Replay.{runner}
-use Rattle.xs_model.specs.Script.{command_at, command_of, is_user}
+use Rattle.xs_model.specs.Script.{is_user}
 use Rattle.xs_model.specs.State.{BlockState, is_ready, is_on_cpu, lives, stage_at, stage_of, turn_cpu}
 use Rattle.xs_pool.specs.Pool.{Pool}
 use Rattle.xs_task.specs.declared.task.Task.{Task}
 use Rattle.xs_task.specs.TaskArea.{IsTask}
 use Rattle.xs_board.specs.declared.turn.Entry.{Entry}
 use Rattle.xs_board.specs.declared.turn.Close.{Close}
-use Rattle.xs_board.specs.declared.turn.Close.TheVariants.{Quantum, Yield, Outer, End}
-use Rattle.xs_board.specs.Board.{Board, IsBoard, IsKeptBeside, HasHome, WasBorn, past_of, machine_in, private_in, private_with, private_after, private_closed, task_of_state, tally, living, areas, holds_area, one}
+use Rattle.xs_board.specs.declared.turn.Close.TheVariants.{Quantum, Yield, Outer, Refused, End}
+use Rattle.xs_board.specs.Board.{Board, but_signals, IsBoard, IsKeptBeside, HasHome, WasBorn, past_of, machine_in, private_in, private_with, private_after, private_closed, task_of_state, tally, living, areas, holds_area, one}
 use Rattle.xs_board.specs.Home.{IsHome, is_resting}
 use Rattle.xs_board.specs.Laws.{Laws}
+use Rattle.xs_board.specs.Mailbox.{Mailbox, AreMailboxes, boxes_born, boxes_sent}
 use Rattle.xs_board.specs.Starts.{AreInOrder}
-use Rattle.xs_board.specs.Putting.{Bears, CanBeBorn, IfOuter, UnlessEnd, forked_there, home_after, ready_born, ready_after, living_born, living_after, moved_on, pool_after}
-use Rattle.xs_board.specs.Turn.{body_command, body_order, forked, forked_by, stage_closed, newborn, line_in, line_of}
-use Rattle.xs_board.proofs.Blocks.{each_of, existing, tally_most}
+use Rattle.xs_board.specs.Putting.{Bears, CanBeBorn, UnlessEnd, home_after, ready_born, ready_after, living_born, living_after, moved_on, pool_after}
+use Rattle.xs_board.specs.Turn.{forked, sent, task_handed, stage_closed, newborn}
+use Rattle.xs_board.proofs.Blocks.{each_of, stage_same, tally_most}
 use Rattle.xs_board.proofs.Runners.{is_on, runner_alike, runner_none}
-use Rattle.xs_board.proofs.Turning.{HasLeft, IsBearing, for_fork}
+use Rattle.xs_board.proofs.Turning.{HasLeft, IsBearing, boxes_left, for_fork}
 use Rattle.xs_board.proofs.Moving.{as_many, fork_cases, home_stays, moved_home, parked_child, parked_marks}
-use Rattle.xs_board.proofs.Committing.{AtOuter, MayCommit, alone, block_known, lease_known, outer_open, place_small, plain_block, some_lease, the_turn, turn_in_range}
-use Rattle.xs_board.proofs.Closing.{closed_born, off_closed, home_length, bears_length, home_other, bears_other, home_own, moved_name, moved_last, closed_large, closed_handling, was_born, is_born, queue_born, queue_after, living_is, area_stays, pool_is, tally_left, forked_child, bears_child, whole_of, parked_of, place_of}
+use Rattle.xs_board.proofs.Committing.{MayCommit, alone, block_known, lease_known, plain_block, some_lease, the_turn, turn_in_range}
+use Rattle.xs_board.proofs.Mailboxes.{after_length, born_length, sent_length}
+use Rattle.xs_board.proofs.Closing.{closed_born, off_closed, home_length, bears_length, home_other, bears_other, home_own, moved_name, moved_last, closed_large, handed_fork, was_born, is_born, queue_born, queue_after, living_is, area_stays, pool_is, tally_left, forked_child, bears_child, whole_of, parked_of}
 
 -- ---- what the board is, seen through a later past
 
@@ -68,16 +67,11 @@ module _ (laws : Laws) (old : Board) (t cpu : ℕ) (entries : List Entry) (close
   pub back_private : task_of_state (slice_get now t) ≡ private_closed old t entries close
   back_private = ap task_of_state left.own ∙ left.task_is
 
-  -- no handler runs, and there is no room for TILEDATA
-  pub back_small : (private_after old t entries).large ≡ false
+  -- there is no room for TILEDATA
+  pub back_small : (private_with old t entries).large ≡ false
   back_small =
       let plain = each_of IsPlainBlock now t left.left (laws.blocks old.script later may.is_board.built left.legal) left.own in
       sym (closed_large close (private_with old t entries)) ∙ sym (ap (λ (p : PrivateTask). p.large) left.task_is) ∙ plain.small
-
-  back_outside : (private_with old t entries).handling ≡ false
-  back_outside =
-      let plain = each_of IsPlainBlock now t left.left (laws.blocks old.script later may.is_board.built left.legal) left.own in
-      sym (closed_handling close (private_with old t entries)) ∙ sym (ap (λ (p : PrivateTask). p.handling) left.task_is) ∙ plain.outside
 
   -- a fork's child is in no turn
   child_off : (c u : ℕ) → newcomer ≡ Some u → (is_on c (machine_in old).blocks u ≡ false) × (is_on c now u ≡ false)
@@ -87,11 +81,15 @@ module _ (laws : Laws) (old : Board) (t cpu : ℕ) (entries : List Entry) (close
         ap (λ (b : Option BlockState). is_on_cpu c (turn_cpu (stage_of b))) born.2,
       )
 
-  -- another block is as little or as much on a processor as before
+  -- another block is at the stage at which it was
+  other_stage : (u : ℕ) → (u ≡ t → ⊥) → (newcomer ≡ Some u → ⊥) → stage_at now u ≡ stage_at (machine_in old).blocks u
+  other_stage u other apart = stage_same (slice_get now u) (slice_get (machine_in old).blocks u) (left.others u other apart)
+
+  -- it is as little or as much on a processor as before
   other_on : (c u : ℕ) → (u ≡ t → ⊥) → is_on c now u ≡ is_on c (machine_in old).blocks u
   other_on c u other = elim (fork_cases newcomer u) [
     | inl fork ↦ let off = child_off c u fork in off.1 ∙ sym off.0
-    | inr apart ↦ ap (λ (b : Option BlockState). is_on_cpu c (turn_cpu (stage_of b))) (left.others u other apart)
+    | inr apart ↦ ap (λ (s : Stage). is_on_cpu c (turn_cpu s)) (other_stage u other apart)
   ]
 
   -- the processor has no turn
@@ -115,7 +113,7 @@ module _ (laws : Laws) (old : Board) (t cpu : ℕ) (entries : List Entry) (close
   -- how many blocks are such
   back_tally : (such : ℕ → Stage → Bool) → tally such 0 now + one (such t (Turn cpu 0)) + was_born newcomer such ≡ tally such 0 (machine_in old).blocks + one (such t (stage_closed close)) + is_born newcomer such
   back_tally such =
-      let sum = tally_left newcomer such t (private_with old t entries) (machine_in old).blocks now block left.left many here left.own left.others
+      let sum = tally_left newcomer such t (private_with old t entries) (machine_in old).blocks now block left.left many here left.own other_stage
       (for_fork newcomer (IsBearing old.script (past_of old) later t (private_with old t entries)) (λ child. (state : BlockState) × (slice_get (machine_in old).blocks child ≡ Some state) × (state.stage ≡ Unborn) × (t ≡ child → ⊥) × (slice_get now child ≡ Some (newborn t (private_with old t entries)))) (λ child fork bearing. (bearing.0, bearing.1.here, bearing.1.unborn, bearing.1.apart, bearing.2)) left.born) in
       let before : one (such t block.stage) ≡ one (such t (Turn cpu 0)) = ap (λ (s : Stage). one (such t s)) (the_turn old t cpu may.turn).2 in
       let after : one (such t left.left.stage) ≡ one (such t (stage_closed close)) = ap (λ (s : Stage). one (such t s)) left.stage in
@@ -130,8 +128,8 @@ module _ (laws : Laws) (old : Board) (t cpu : ℕ) (entries : List Entry) (close
       omega (arith, sum, long, born, before)
 
   -- it has room for every block
-  pub back_room : (list : List ℕ) (capacity count : ℕ) → IsKeptBeside old list capacity count → length (ready_after close t (ready_born newcomer list)) ≤ capacity
-  back_room list capacity count kept =
+  pub back_room : (list : List ℕ) (capacity count : ℕ) (boxes : List Mailbox) → IsKeptBeside old list capacity count boxes → length (ready_after close t (ready_born newcomer list)) ≤ capacity
+  back_room list capacity count boxes kept =
       let long = back_queue list kept.ready in
       let most = tally_most (λ v stage. is_ready stage) 0 now in
       let all = (laws.machine old.script later).2 in
@@ -152,10 +150,10 @@ module _ (laws : Laws) (old : Board) (t cpu : ℕ) (entries : List Entry) (close
   }) left.born
 
   -- the other blocks
-  pub back_others : (new : Board) → (machine_in new).blocks ≡ now → (u : ℕ) → (u ≡ t → ⊥) → (slice_get (machine_in new).blocks u ≡ slice_get (machine_in old).blocks u) ⊎ ((newcomer ≡ Some u) × WasBorn t (private_with old t entries) u old new)
+  pub back_others : (new : Board) → (machine_in new).blocks ≡ now → (u : ℕ) → (u ≡ t → ⊥) → (but_signals (slice_get (machine_in new).blocks u) ≡ but_signals (slice_get (machine_in old).blocks u)) ⊎ ((newcomer ≡ Some u) × WasBorn t (private_with old t entries) u old new)
   back_others new same u other = elim (fork_cases newcomer u) [
     | inl fork ↦ inr (fork, forked_child newcomer (λ v. WasBorn t (private_with old t entries) v old new) u fork (back_born new same))
-    | inr apart ↦ inl (ap (λ (all : List BlockState). slice_get all u) same ∙ left.others u other apart)
+    | inr apart ↦ inl (ap (λ (all : List BlockState). but_signals (slice_get all u)) same ∙ left.others u other apart)
   ]
 
   -- the task of the child
@@ -185,10 +183,16 @@ module _ (laws : Laws) (old : Board) (t cpu : ℕ) (entries : List Entry) (close
       let count = may.is_board.count in
       omega (arith, known, count)) left.born
 
+  -- it has a mailbox
+  pub fork_boxed : (boxes : List Mailbox) → length boxes ≡ length old.script.blocks → IfSome newcomer (λ child. child < length boxes)
+  fork_boxed boxes all = for_fork newcomer (IsBearing old.script (past_of old) later t (private_with old t entries)) (λ child. child < length boxes) (λ child fork bearing.
+      let known = block_known laws.machine old child bearing.0 bearing.1.here in
+      omega (arith, known, all)) left.born
+
   -- the queue has room for it
-  pub fork_room : (list : List ℕ) (capacity count : ℕ) → IsKeptBeside old list capacity count → IfSome newcomer (λ child. length list < capacity)
-  fork_room list capacity count kept =
-      let room = back_room list capacity count kept in
+  pub fork_room : (list : List ℕ) (capacity count : ℕ) (boxes : List Mailbox) → IsKeptBeside old list capacity count boxes → IfSome newcomer (λ child. length list < capacity)
+  fork_room list capacity count boxes kept =
+      let room = back_room list capacity count boxes kept in
       let long = queue_after close t (ready_born newcomer list) in
       for_born newcomer (omega (arith, room, long))
     where
@@ -197,62 +201,25 @@ module _ (laws : Laws) (old : Board) (t cpu : ℕ) (entries : List Entry) (close
       for_born (Some child) room = let long = length-append list (child ∷ []) in omega (arith, room, long)
 
   -- and then for its parent
-  pub put_room : (list : List ℕ) (capacity count : ℕ) → IsKeptBeside old list capacity count → UnlessEnd close (length (ready_born newcomer list) < capacity)
-  put_room list capacity count kept =
-      let room = back_room list capacity count kept in
+  pub put_room : (list : List ℕ) (capacity count : ℕ) (boxes : List Mailbox) → IsKeptBeside old list capacity count boxes → UnlessEnd close (length (ready_born newcomer list) < capacity)
+  put_room list capacity count boxes kept =
+      let room = back_room list capacity count boxes kept in
       by_close close (ready_born newcomer list) room
     where
       by_close : (c : Close) (l : List ℕ) → length (ready_after c t l) ≤ capacity → UnlessEnd c (length l < capacity)
       by_close Quantum l room = let long = length-append l (t ∷ []) in omega (arith, room, long)
       by_close Yield l room = let long = length-append l (t ∷ []) in omega (arith, room, long)
       by_close (Outer line) l room = let long = length-append l (t ∷ []) in omega (arith, room, long)
+      by_close (Refused error) l room = tt
       by_close End l room = tt
 
   -- ---- the task that comes back
 
-  module _ (task : Task) (name : task.name ≡ t) (home : IsHome (is_user old.script t) old.script.layout task (private_after old t entries)) where
+  module _ (task : Task) (name : task.name ≡ t) (home : IsHome (is_user old.script t) old.script.layout task (private_after old t entries close)) where
     -- it is whole at a fork
     pub fork_parent : IfSome newcomer (λ child. IsTask old.script.layout task)
     fork_parent = for_fork newcomer (IsBearing old.script (past_of old) later t (private_with old t entries)) (λ child. IsTask old.script.layout task) (λ child fork bearing.
-        whole_of (is_user old.script t) old.script.layout task (private_after old t entries) bearing.1.parent_user home) left.born
-
-    -- an outer line is at its place
-    at_outer : AtOuter old.script t close (private_with old t entries)
-    at_outer = outer_open old.script t entries close (private_in old t) 0 may.lines
-
-    at_line : (order : Order) → line_of old.script t (private_with old t entries) ≡ Some order → (lines : Block) × (slice_get old.script.blocks t ≡ Some lines) × (slice_get lines.body task.place ≡ Some order)
-    at_line order at =
-        let lines = existing old.script.blocks t (turn_in_range laws old t cpu may.is_board may.turn) in
-        let place : (private_with old t entries).place ≡ task.place = sym (place_of (is_user old.script t) old.script.layout task (private_after old t entries) home) in
-        let there : line_at lines.0 (private_with old t entries) ≡ Some order = sym (ap (λ (l : Option Block). line_in l (private_with old t entries)) lines.1) ∙ at in
-        (lines.0, lines.1, ap (slice_get lines.0.body) (sym place) ∙ sym (ap (λ (b : Bool). slice_get (if b then lines.0.handler else lines.0.body) (private_with old t entries).place) back_outside) ∙ there)
-
-    -- the code finds the child there
-    pub fork_found : forked_there close (forked_by old.script (body_command old.script t task.place)) ≡ newcomer
-    fork_found = by_close close at_outer
-      where
-        by_close : (c : Close) → AtOuter old.script t c (private_with old t entries) → forked_there c (forked_by old.script (body_command old.script t task.place)) ≡ forked old.script t c
-        by_close Quantum at = refl
-        by_close Yield at = refl
-        by_close (Outer line) at =
-            let order = at.0 in
-            let there = at_line order at.1.at in
-            let private : line_at there.0 (private_with old t entries) ≡ Some order = sym (ap (λ (l : Option Block). line_in l (private_with old t entries)) there.1) ∙ at.1.at in
-            ap (λ (b : Option Block). forked_by old.script (command_of (body_order b task.place))) there.1
-            ∙ ap (λ (o : Option Order). forked_by old.script (command_of o)) there.2
-            ∙ ap (forked_by old.script) (sym (laws.found old.script t there.0 (private_with old t entries) order may.is_board.valid there.1 private))
-            ∙ ap (λ (n : ℕ). forked_by old.script (command_at old.script t n)) at.1.number
-        by_close End at = refl
-
-    -- the next place is a number of 32 bits
-    pub fork_place : IfOuter close (task.place + 1 < 2 ^ 32)
-    fork_place = by_close close at_outer
-      where
-        by_close : (c : Close) → AtOuter old.script t c (private_with old t entries) → IfOuter c (task.place + 1 < 2 ^ 32)
-        by_close Quantum at = tt
-        by_close Yield at = tt
-        by_close (Outer line) at = let there = at_line at.0 at.1.at in place_small old.script t task.place there.0 at.0 may.is_board.valid there.1 there.2
-        by_close End at = tt
+        whole_of (is_user old.script t) old.script.layout task (private_after old t entries close) bearing.1.parent_user home) left.born
 
     -- as it goes back
     abbrev back : Task
@@ -312,8 +279,10 @@ module _ (laws : Laws) (old : Board) (t cpu : ℕ) (entries : List Entry) (close
           let same : was.0 ≡ child.0 = same_Some was.0 child.0 (sym was.1 ∙ child.2) in
           let known = block_known laws.machine old u at.0 at.1.here in
           let count = may.is_board.count in
-          let parent = parked_of (is_user old.script t) old.script.layout task (private_after old t entries) at.1.parent_user home in
-          let private : private_in new u ≡ child_of (private_after old t entries) = ap (λ (all : List BlockState). task_of_state (slice_get all u)) same_blocks ∙ ap task_of_state at.2 ∙ sym (parked_child (private_with old t entries)) in (
+          let handed = task_handed close (private_with old t entries) in
+          let parent = parked_of (is_user old.script t) old.script.layout task (private_after old t entries close) at.1.parent_user home in
+          let private : private_in new u ≡ child_of (private_after old t entries close) =
+          ap (λ (all : List BlockState). task_of_state (slice_get all u)) same_blocks ∙ ap task_of_state at.2 ∙ sym (parked_child handed ∙ ap child_of (handed_fork old.script t close u (private_with old t entries) fork)) in (
             child.1,
             home_other close back bearing u (λ (e : u ≡ back.name). other (e ∙ moved_name close task ∙ name))
                 ∙ ap (λ (h : List (Option Task)). slice_index_or h u None) child.3
@@ -321,8 +290,8 @@ module _ (laws : Laws) (old : Board) (t cpu : ℕ) (entries : List Entry) (close
             record {
               name = child.4.name ∙ sym (ap (λ (x : Task). x.name) same) ∙ was.2.name;
               stands = subst (λ (p : PrivateTask). IsHome (is_user old.script u) old.script.layout child.1 p) (sym private)
-                  (subst (λ (b : Bool). IsHome b old.script.layout child.1 (child_of (private_after old t entries))) (sym at.1.child_user)
-                  (record { whole = child.4.whole; parked = child.4.stands (private_after old t entries) parent (sym (parked_marks (private_with old t entries))) }));
+                  (subst (λ (b : Bool). IsHome b old.script.layout child.1 (child_of (private_after old t entries close))) (sym at.1.child_user)
+                  (record { whole = child.4.whole; parked = child.4.stands (private_after old t entries close) parent (sym (parked_marks handed)) }));
               last = λ user. child.4.last ∙ sym (ap (λ (past : List Event). last old.script past u) is ∙ left.last_is u ∙ (laws.unseen old.script (past_of old) u may.is_board.valid may.is_board.legal (ap stage_of at.1.here ∙ at.1.unborn)).last);
               clear = λ unborn. let e : Ready ≡ Unborn = sym (ap (λ (all : List BlockState). stage_at all u) same_blocks ∙ ap stage_of at.2) ∙ unborn in absurd (cc e);
             },
@@ -345,10 +314,10 @@ module _ (laws : Laws) (old : Board) (t cpu : ℕ) (entries : List Entry) (close
               | inr other ↦ elim (fork_cases newcomer u) [
                 | inl fork ↦ born_home u other fork
                 | inr apart ↦
-                    let stays = ap (λ (all : List BlockState). slice_get all u) same_blocks ∙ left.others u other apart in
+                    let stays = ap (λ (all : List BlockState). but_signals (slice_get all u)) same_blocks ∙ left.others u other apart in
                     home_stays old new u refl (home_other close back bearing u (λ (e : u ≡ back.name). other (e ∙ moved_name close task ∙ name)) ∙ bears_other newcomer old.script.layout task old.home bearing bears u apart)
                     stays (ap (λ (past : List Event). last old.script past u) is ∙ left.last_is u)
-                    (was.home u (sym (ap (λ (b : Option BlockState). is_resting (stage_of b)) stays) ∙ rests) known)
+                    (was.home u (sym (ap is_resting (stage_same (slice_get (machine_in new).blocks u) (slice_get (machine_in old).blocks u) stays)) ∙ rests) known)
               ]
             ];
             pool = record {
@@ -361,11 +330,14 @@ module _ (laws : Laws) (old : Board) (t cpu : ℕ) (entries : List Entry) (close
           }
 
       -- what is kept beside it
-      pub beside_back : (list : List ℕ) (capacity count : ℕ) → IsKeptBeside old list capacity count → IsKeptBeside new (ready_after close t (ready_born newcomer list)) capacity (living_after close (living_born newcomer count))
-      beside_back list capacity count kept =
+      pub beside_back : (list : List ℕ) (capacity count : ℕ) (boxes : List Mailbox) → IsKeptBeside old list capacity count boxes
+          → IsKeptBeside new (ready_after close t (ready_born newcomer list)) capacity (living_after close (living_born newcomer count)) (boxes_left old.script t close boxes)
+      beside_back list capacity count boxes kept =
           record {
             queue = ap (λ (l : List ℕ). ready_after close t (ready_born newcomer l)) kept.queue ∙ sym (ap (ready_list old.script) is ∙ left.ready);
             ready = back_queue list kept.ready ∙ sym (ap (tally (λ v stage. is_ready stage) 0) same_blocks);
             fits = kept.fits;
             alive = ap (λ (n : ℕ). living_after close (living_born newcomer n)) kept.alive ∙ living_is close newcomer (living old) (tally (λ v stage. lives stage) 0 now) (back_tally (λ v stage. lives stage)) ∙ sym (ap (tally (λ v stage. lives stage) 0) same_blocks);
+            each = after_length close t (boxes_born newcomer (boxes_sent (sent old.script t close) boxes)) ∙ born_length newcomer (boxes_sent (sent old.script t close) boxes) ∙ sent_length (sent old.script t close) boxes ∙ kept.each;
+            mail = subst (λ (all : List BlockState). AreMailboxes all (boxes_left old.script t close boxes)) (sym same_blocks) (left.mail boxes kept.each kept.mail);
           }

@@ -1,6 +1,7 @@
 -- The lines of a turn as they run, one at the end.
 use Rattle.std.proofs.Common.{◌≡◌, ℕ, ◌+◌, Bool, true, false, List, [], ◌∷◌, ◌++◌, refl, ap, ◌∙◌, subst, append_assoc}
 use Rattle.std.specs.Prelude.{None}
+use Rattle.xs_base.specs.declared.header.HeaderError.{HeaderError}
 use Rattle.xs_base.specs.Task.{PrivateTask}
 use Rattle.xs_model.specs.declared.script.Command.{Command}
 use Rattle.xs_model.specs.declared.script.Order.{Order}
@@ -9,9 +10,9 @@ use Rattle.xs_model.specs.Line.{local_after}
 use Rattle.xs_model.specs.Machine.{goes_on}
 use Rattle.xs_board.specs.declared.turn.Entry.{Entry}
 use Rattle.xs_board.specs.declared.turn.Close.{Close}
-use Rattle.xs_board.specs.declared.turn.Close.TheVariants.{End, Outer}
+use Rattle.xs_board.specs.declared.turn.Close.TheVariants.{End, Outer, Refused}
 use Rattle.std.proofs.lemmas.List.{append-nil}
-use Rattle.xs_board.specs.Turn.{AreAfter, AreLines, HaveRun, IsEntry, IsOuterLine, after_line, closed_by, line_of, task_after}
+use Rattle.xs_board.specs.Turn.{AreAfter, AreLines, HaveRun, IsEntry, IsOuterLine, IsRefusedReturn, after_line, closed_by, line_of, task_after}
 
 -- the task after two parts of a turn
 task_append : (script : Script) (t : ℕ) (task : PrivateTask) (xs ys : List Entry) → task_after script t task (xs ++ ys) ≡ task_after script t (task_after script t task xs) ys
@@ -49,6 +50,11 @@ last_one script t first entries task ran entry order run is off =
 pub at_outer : (script : Script) (t : ℕ) (first : PrivateTask) (entries : List Entry) (task : PrivateTask) (ran line : ℕ) (order : Order) → HaveRun script t first entries task ran → IsOuterLine script t task line order → AreLines script t first 0 entries (Outer line)
 at_outer script t first entries task ran line order run is =
     subst (λ (all : List Entry). AreLines script t first 0 all (Outer line)) (append-nil entries) (run.follow [] (Outer line) (order, is))
+
+-- the next line is a return that is refused
+pub at_refused : (script : Script) (t : ℕ) (first : PrivateTask) (entries : List Entry) (task : PrivateTask) (ran : ℕ) (error : HeaderError) (order : Order) → HaveRun script t first entries task ran → IsRefusedReturn script t task error order → AreLines script t first 0 entries (Refused error)
+at_refused script t first entries task ran error order run is =
+    subst (λ (all : List Entry). AreLines script t first 0 all (Refused error)) (append-nil entries) (run.follow [] (Refused error) (order, is))
 
 -- no line is left
 pub at_end : (script : Script) (t : ℕ) (first : PrivateTask) (entries : List Entry) (task : PrivateTask) (ran : ℕ) → HaveRun script t first entries task ran → line_of script t task ≡ None → task.handling ≡ false → AreLines script t first 0 entries End

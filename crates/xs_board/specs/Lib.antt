@@ -3,6 +3,8 @@ pub mod Laws
 pub mod Turn
 pub mod Starts
 pub mod Home
+pub mod Pending
+pub mod Mailbox
 pub mod Putting
 pub mod Opening
 pub mod Board

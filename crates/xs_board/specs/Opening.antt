@@ -1,5 +1,5 @@
 -- What a board has before its first event.
-use Rattle.std.specs.Prelude.{◌≡◌, ℕ, ◌+◌, ◌<◌, true, List, [], ◌∷◌, ◌++◌, slice_get, slice_index_or, Option, Some, None}
+use Rattle.std.specs.Prelude.{◌≡◌, ℕ, ◌+◌, ◌<◌, Bool, true, false, List, [], ◌∷◌, ◌++◌, slice_get, slice_index_or, Option, Some, None}
 use Rattle.xs_base.specs.declared.class.Class.TheVariants as classes
 use Rattle.xs_base.specs.declared.component.Row.{Row}
 use Rattle.xs_base.specs.Task.{root_task}
@@ -10,6 +10,7 @@ use Rattle.xs_model.specs.Script.{is_user_kind}
 use Rattle.xs_pool.specs.Pool.{Pool, leased}
 use Rattle.xs_task.specs.declared.task.Task as tasks
 use Rattle.xs_board.specs.Home.{IsHome}
+use Rattle.xs_board.specs.Mailbox.{Mailbox}
 
 abbrev pub one_user : BlockKind → ℕ
 one_user Task = 1
@@ -41,6 +42,16 @@ born_if Kthread i = i ∷ []
 abbrev pub born_from : ℕ → List Block → List ℕ
 born_from i [] = []
 born_from i (block ∷ blocks) = born_if block.kind i ++ born_from (i + 1) blocks
+
+-- the block is born then
+abbrev pub is_born : BlockKind → Bool
+is_born Task = true
+is_born Child = false
+is_born Kthread = true
+
+-- its mailbox
+abbrev pub first_mailbox : Block → Mailbox
+first_mailbox block = record { alive = is_born block.kind; pending = [] }
 
 -- The task of a block of the kind and of this number, before the first event.
 pub record IsFirstTask (rows : List Row) (kind : BlockKind) (name : ℕ) (task : tasks.Task) : Type 0 where

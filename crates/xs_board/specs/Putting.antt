@@ -9,33 +9,38 @@ use Rattle.xs_task.specs.declared.task.Task.{Task}
 use Rattle.xs_task.specs.Parked.{IsParked}
 use Rattle.xs_task.specs.TaskArea.{IsTask}
 use Rattle.xs_board.specs.declared.turn.Close.{Close}
-use Rattle.xs_board.specs.declared.turn.Close.TheVariants.{Quantum, Yield, Outer, End}
+use Rattle.xs_board.specs.declared.turn.Close.TheVariants.{Quantum, Yield, Outer, Refused, End}
 use Rattle.xs_board.specs.Home.{IsClear}
+use Rattle.xs_board.specs.Mailbox.{Mailbox, closed}
 
 abbrev pub IfEnd : Close → Type 0 → Type 0
 IfEnd Quantum Holds = Unit {0}
 IfEnd Yield Holds = Unit {0}
 IfEnd (Outer line) Holds = Unit {0}
+IfEnd (Refused error) Holds = Holds
 IfEnd End Holds = Holds
 
 abbrev pub UnlessEnd : Close → Type 0 → Type 0
 UnlessEnd Quantum Holds = Holds
 UnlessEnd Yield Holds = Holds
 UnlessEnd (Outer line) Holds = Holds
+UnlessEnd (Refused error) Holds = Unit {0}
 UnlessEnd End Holds = Unit {0}
 
 abbrev pub IfOuter : Close → Type 0 → Type 0
 IfOuter Quantum Holds = Unit {0}
 IfOuter Yield Holds = Unit {0}
 IfOuter (Outer line) Holds = Holds
+IfOuter (Refused error) Holds = Unit {0}
 IfOuter End Holds = Unit {0}
 
--- a block that the line at the task's place forks, where such a line closes the turn
-abbrev pub forked_there : Close → Option ℕ → Option ℕ
-forked_there Quantum child = None
-forked_there Yield child = None
-forked_there (Outer line) child = child
-forked_there End child = None
+-- what the line at the task's place does, where that line closes the turn
+abbrev pub at_outer : {A : Type 0} → Close → Option A → Option A
+at_outer Quantum deed = None
+at_outer Yield deed = None
+at_outer (Outer line) deed = deed
+at_outer (Refused error) deed = None
+at_outer End deed = None
 
 -- ---- a birth
 
@@ -72,6 +77,7 @@ abbrev pub moved_on : Close → Task → Task
 moved_on Quantum task = task
 moved_on Yield task = task
 moved_on (Outer line) task = record task { place = task.place + 1 }
+moved_on (Refused error) task = task
 moved_on End task = task
 
 -- ---- the task itself
@@ -81,6 +87,7 @@ abbrev pub home_after : Close → Task → List (Option Task) → List (Option T
 home_after Quantum task home = slice_set home task.name (Some task)
 home_after Yield task home = slice_set home task.name (Some task)
 home_after (Outer line) task home = slice_set home task.name (Some task)
+home_after (Refused error) task home = home
 home_after End task home = home
 
 -- the queue: the block stands at its end, if it hasn't ended
@@ -88,6 +95,7 @@ abbrev pub ready_after : Close → ℕ → List ℕ → List ℕ
 ready_after Quantum t list = list ++ t ∷ []
 ready_after Yield t list = list ++ t ∷ []
 ready_after (Outer line) t list = list ++ t ∷ []
+ready_after (Refused error) t list = list
 ready_after End t list = list
 
 -- how many blocks live
@@ -95,7 +103,16 @@ abbrev pub living_after : Close → ℕ → ℕ
 living_after Quantum living = living
 living_after Yield living = living
 living_after (Outer line) living = living
+living_after (Refused error) living = living - 1
 living_after End living = living - 1
+
+-- the mailboxes: that of a block that has ended is closed
+abbrev pub boxes_after : Close → ℕ → List Mailbox → List Mailbox
+boxes_after Quantum t boxes = boxes
+boxes_after Yield t boxes = boxes
+boxes_after (Outer line) t boxes = boxes
+boxes_after (Refused error) t boxes = slice_set boxes t closed
+boxes_after End t boxes = slice_set boxes t closed
 
 -- the pool after an area came back, if there was one
 abbrev pub pool_without : Option Lease → Pool → Pool
@@ -106,4 +123,5 @@ abbrev pub pool_after : Close → Option Lease → Pool → Pool
 pool_after Quantum lease pool = pool
 pool_after Yield lease pool = pool
 pool_after (Outer line) lease pool = pool
+pool_after (Refused error) lease pool = pool_without lease pool
 pool_after End lease pool = pool_without lease pool

@@ -1,39 +1,46 @@
 -- A turn as a worker brings it back: the lines that ran and how it came to its end. The rules are those of the private machine.
 use Rattle.std.specs.Prelude.{◌≡◌, ℕ, ◌+◌, Bool, true, false, List, [], ◌∷◌, ◌++◌, map, reverse, slice_get, Option, Some, None, if◌then◌else◌}
+use Rattle.xs_base.specs.declared.header.HeaderError.{HeaderError}
+use Rattle.xs_base.specs.Frame.{refused_file}
 use Rattle.xs_base.specs.Task.{PrivateTask, child_of}
 use Rattle.xs_model.specs.declared.event.Event.{Event}
 use Rattle.xs_model.specs.declared.event.Event.TheVariants.{Local}
 use Rattle.xs_model.specs.declared.event.Event.TheVariants as events
+use Rattle.xs_model.specs.declared.event.Reply.{Reply}
 use Rattle.xs_model.specs.declared.event.Reply.TheVariants as replies
 use Rattle.xs_model.specs.declared.script.Block.{Block}
 use Rattle.xs_model.specs.declared.script.Command.{Command}
-use Rattle.xs_model.specs.declared.script.Command.TheVariants.{Fork}
+use Rattle.xs_model.specs.declared.script.Command.TheVariants.{Fork, Kill}
 use Rattle.xs_model.specs.declared.script.Order.{Order}
 use Rattle.xs_model.specs.declared.script.Script.{Script}
 use Rattle.xs_model.specs.declared.stage.Stage.{Stage}
 use Rattle.xs_model.specs.declared.stage.Stage.TheVariants.{Ready, Ended}
 use Rattle.xs_model.specs.Script.{block_named, command_at, command_of, is_outer, is_yield}
-use Rattle.xs_model.specs.Line.{line_at, local_reply, local_after, next_line, traps, refusal}
+use Rattle.xs_model.specs.Line.{line_at, local_reply, local_after, next_line, traps, refusal, frame_cause}
+use Rattle.xs_model.specs.Outer.{outer_reply}
+use Rattle.xs_model.specs.Due.{violation}
 use Rattle.xs_model.specs.Machine.{goes_on}
 use Rattle.xs_model.specs.State.{BlockState}
+use Rattle.xs_board.specs.declared.sending.Sent.{Sent}
 use Rattle.xs_board.specs.declared.turn.Entry.{Entry}
 use Rattle.xs_board.specs.declared.turn.Close.{Close}
-use Rattle.xs_board.specs.declared.turn.Close.TheVariants.{Quantum, Yield, Outer, End}
+use Rattle.xs_board.specs.declared.turn.Close.TheVariants.{Quantum, Yield, Outer, Refused, End}
 
 -- ---- the events of a turn after its Start
 
 abbrev pub entry_event : ℕ → Entry → Event
 entry_event t entry = Local t entry.line entry.reply
 
--- A close may have an event of its own: that of an outer line, which is a fork and answers nothing, or the end.
-abbrev pub close_events : ℕ → Close → List Event
-close_events t Quantum = []
-close_events t Yield = []
-close_events t (Outer line) = events.Outer t line replies.Done ∷ []
-close_events t End = events.End t ∷ []
+-- A close may have an event of its own: that of an outer line with its reply, the kill by a refused return, or the end.
+abbrev pub close_events : ℕ → Close → Reply → List Event
+close_events t Quantum reply = []
+close_events t Yield reply = []
+close_events t (Outer line) reply = events.Outer t line reply ∷ []
+close_events t (Refused error) reply = events.Kill t violation (frame_cause error) ∷ []
+close_events t End reply = events.End t ∷ []
 
-abbrev pub turn_events : ℕ → List Entry → Close → List Event
-turn_events t entries close = map (entry_event t) entries ++ close_events t close
+abbrev pub turn_events : ℕ → List Entry → Close → Reply → List Event
+turn_events t entries close reply = map (entry_event t) entries ++ close_events t close reply
 
 -- the past after the lines of these entries, the latest event first
 abbrev pub past_with : ℕ → List Entry → List Event → List Event
@@ -46,13 +53,23 @@ abbrev pub stage_closed : Close → Stage
 stage_closed Quantum = Ready
 stage_closed Yield = Ready
 stage_closed (Outer line) = Ready
+stage_closed (Refused error) = Ended
 stage_closed End = Ended
 
--- the task that came to the close: an outer line is behind it then
+-- the task that its processor hands back at the close: a refused return left it no registers
+abbrev pub task_handed : Close → PrivateTask → PrivateTask
+task_handed Quantum task = task
+task_handed Yield task = task
+task_handed (Outer line) task = task
+task_handed (Refused error) task = record task { file = refused_file task }
+task_handed End task = task
+
+-- the task after the close: an outer line is behind it then
 abbrev pub task_closed : Close → PrivateTask → PrivateTask
 task_closed Quantum task = task
 task_closed Yield task = task
 task_closed (Outer line) task = next_line task
+task_closed (Refused error) task = record task { file = refused_file task }
 task_closed End task = task
 
 -- the block that block t bears, which has this task at its fork
@@ -64,12 +81,34 @@ abbrev pub forked_by : Script → Option Command → Option ℕ
 forked_by script (Some (Fork name)) = Some (block_named script name)
 forked_by script other = None
 
--- the block that block t forks with this close
+-- what a `kill` sends
+abbrev pub sent_by : Script → Option Command → Option Sent
+sent_by script (Some (Kill name signo)) = Some (record { target = block_named script name; signo = signo })
+sent_by script other = None
+
+-- the command of the outer line with which block t closes its turn, if it closes it so
+abbrev pub close_command : Script → ℕ → Close → Option Command
+close_command script t Quantum = None
+close_command script t Yield = None
+close_command script t (Outer line) = command_at script t line
+close_command script t (Refused error) = None
+close_command script t End = None
+
+-- the block that block t forks with this close, and what it sends with it
 abbrev pub forked : Script → ℕ → Close → Option ℕ
-forked script t Quantum = None
-forked script t Yield = None
-forked script t (Outer line) = forked_by script (command_at script t line)
-forked script t End = None
+forked script t close = forked_by script (close_command script t close)
+
+abbrev pub sent : Script → ℕ → Close → Option Sent
+sent script t close = sent_by script (close_command script t close)
+
+-- what an outer line answers, where the blocks are in these states
+abbrev pub line_answer : Script → List BlockState → ℕ → Option Command → Reply
+line_answer script blocks t None = replies.Done
+line_answer script blocks t (Some command) = outer_reply script blocks t command
+
+-- what the outer line answers with which block t closes its turn, if it closes it so
+abbrev pub close_answer : Script → List BlockState → ℕ → Close → Reply
+close_answer script blocks t close = line_answer script blocks t (close_command script t close)
 
 -- ---- the lines of a turn
 
@@ -103,19 +142,24 @@ pub record IsEntry (script : Script) (t : ℕ) (task : PrivateTask) (entry : Ent
   pub line : entry.line ≡ order.number
   pub reply : entry.reply ≡ local_reply task order.command
 
--- The line of this number is at the task's place, and it's outer: a fork.
+-- The line of this number is at the task's place, and it's outer.
 pub record IsOuterLine (script : Script) (t : ℕ) (task : PrivateTask) (line : ℕ) (order : Order) : Type 0 where
   pub at : line_of script t task ≡ Some order
   pub number : order.number ≡ line
-  pub name : List ℕ
-  pub forks : order.command ≡ Fork name
+  pub outer : is_outer order.command ≡ true
 
--- Two closes come in a turn in which more Local events could come: an outer line at the task's place, and the end, where no line
--- stands there and no handler runs.
+-- The line at the task's place is a return from a handler, and the task's frame is refused with this error.
+pub record IsRefusedReturn (script : Script) (t : ℕ) (task : PrivateTask) (error : HeaderError) (order : Order) : Type 0 where
+  pub at : line_of script t task ≡ Some order
+  pub why : refusal task order.command ≡ Some (frame_cause error)
+
+-- Three closes come in a turn in which more Local events could come: an outer line at the task's place, a refused return there, and
+-- the end, where no line stands there and no handler runs.
 abbrev pub IsOpenClose : Script → ℕ → PrivateTask → Close → Type 0
 IsOpenClose script t task Quantum = ⊥
 IsOpenClose script t task Yield = ⊥
 IsOpenClose script t task (Outer line) = (order : Order) × IsOuterLine script t task line order
+IsOpenClose script t task (Refused error) = (order : Order) × IsRefusedReturn script t task error order
 IsOpenClose script t task End = (line_of script t task ≡ None) × (task.handling ≡ false)
 
 -- What follows an entry: these lines where the turn goes on, and else nothing.

@@ -9,22 +9,23 @@ ghost use Rattle.xs_model.specs.Note as notes;
 ghost use Rattle.xs_model.specs.Replay.{entry};
 ghost use Rattle.xs_model.specs.Script.{IsValid, IsBuilt, is_user};
 ghost use Rattle.xs_model.specs.State.{none_lives};
-ghost use Rattle.xs_board.specs.Board.{past_of, machine_in, ready_of, stage_in, private_in, private_with, private_after, private_closed, turn_on, IsBoard, KeepsOthers, KeepsOrBears, KeepsTurns, WasBorn};
+ghost use Rattle.xs_board.specs.Board.{past_of, machine_in, ready_of, stage_in, private_in, private_with, private_after, private_closed, begun, answer_in, turn_on, IsBoard, KeepsOthers, KeepsOrBears, KeepsTurns, WasBorn};
 ghost use Rattle.xs_board.specs.Home.{IsHome};
 ghost use Rattle.xs_board.specs.Taken.{HasOther, IfTurn, OnNothing, OnDone, IsTurnOf};
 ghost use Rattle.xs_board.specs.Turn.{forked, turn_events, AreLines, stage_closed};
 
 use crate::forking::{forked, move_on, perform};
 use crate::laws::machine_laws;
-use crate::opening::{born_blocks, count_born, first_tasks, users};
+use crate::mailbox::Mailbox;
+use crate::opening::{born_blocks, count_born, first_mailboxes, first_tasks, users};
 use crate::putting::put_back;
-use crate::room::most_events;
+use crate::sending::{find_sent, send};
 use crate::telling::{tell, tell_turn};
 use crate::turn::{Close, Entries, Taken, Turn, start_how};
 use std::alloc::{AllocError, Global};
 use std::collections::VecDeque;
 use std::marker::Model;
-use xs_model::{Event, History, Script};
+use xs_model::{Event, History, Script, most_events};
 use xs_pool::AreaPool;
 use xs_task::Task;
 
@@ -39,6 +40,8 @@ pub struct Board {
     ready: VecDeque<u32>,
     /// How many blocks live.
     living: u32,
+    /// The mailbox of each block.
+    mailboxes: Vec<Mailbox>,
     pool: AreaPool,
 }
 
@@ -54,27 +57,26 @@ impl Model for Board {
 
     ghost invariant = { λ b.
         IsBoard (record { script = b.script; history = b.events.items; home = b.tasks.items; pool = b.pool; room = vec_capacity b.events })
-        × IsKeptBeside (record { script = b.script; history = b.events.items; home = b.tasks.items; pool = b.pool; room = vec_capacity b.events }) b.ready.items (deque_capacity b.ready) b.living };
+        × IsKeptBeside (record { script = b.script; history = b.events.items; home = b.tasks.items; pool = b.pool; room = vec_capacity b.events }) b.ready.items (deque_capacity b.ready) b.living b.mailboxes.items };
 }
 
 impl Board {
     /// The board of a script before the first event. It takes the whole room of a run: that of the most events that a run has,
-    /// both memories of each user task, the pool of save areas and the ready list. Fails for want of memory alone, and then the
-    /// script is dropped.
+    /// both memories of each user task, the pool of save areas, the ready list and the mailboxes. Fails for want of memory alone,
+    /// and then the script is dropped.
     pub fn open(alloc: Global, script: Script) -> Result<Board, AllocError>
         requires valid { IsValid script }
         requires built { IsBuilt script }
         ensures script { IfOk result (λ board. board.script ≡ script) }
         ensures history { IfOk result (λ board. board.history ≡ []) }
     {
-        let Some(room) = most_events(&script) else {
-            return Err(AllocError);
-        };
         let blocks = script.blocks.as_slice();
+        let room = most_events(blocks) as usize;
         let events = Vec::with_capacity(alloc, room)?;
         let mut pool = AreaPool::open(alloc, &script.layout, users(blocks), script.large)?;
         let tasks = first_tasks(alloc, &script.layout, blocks, &mut pool)?;
         let ready = born_blocks(alloc, blocks)?;
+        let mailboxes = first_mailboxes(alloc, blocks)?;
         let living = count_born(blocks);
         Ok(Board {
             script,
@@ -82,12 +84,14 @@ impl Board {
             tasks,
             ready,
             living,
+            mailboxes,
             pool,
         })
     }
 
     /// Hands out the first ready block for a turn on the processor, which is one of the script's and has no turn; `mark` is the
-    /// owner mark that the history gives it. Its Start joins the history. Takes no memory.
+    /// owner mark that the history gives it. The turn has the lowest pending signal of a task in which no handler runs; it isn't
+    /// delivered yet, and is pending no more. The Start joins the history. Takes no memory.
     ///
     /// `Nothing` comes exactly where no block is ready and one lives: then another processor has a turn. `Done` comes exactly where
     /// none lives. After both nothing has changed.
@@ -113,7 +117,7 @@ impl Board {
 
         // What the history tells then.
         ensures stage { IfTurn result (λ turn. stage_in self.new turn.task.name ≡ stages.Turn cpu 0) }
-        ensures private { IfTurn result (λ turn. private_in self.new turn.task.name ≡ private_in self.old turn.task.name) }
+        ensures private { IfTurn result (λ turn. private_in self.new turn.task.name ≡ begun turn.signal (private_in self.old turn.task.name)) }
         ensures busy { IfTurn result (λ turn. turn_on self.new cpu ≡ Some turn.task.name) }
         ensures others { IfTurn result (λ turn. KeepsOthers turn.task.name self.old self.new) }
         ensures turns { KeepsTurns cpu self.old self.new }
@@ -136,38 +140,40 @@ impl Board {
             unreachable!()
         };
         let how = start_how(kind, mark, task.last, name, cpu);
+        let signal = self.mailboxes[name as usize].take_next(task.handling);
         tell(
             &mut self.events,
             Event::Start {
                 task: name,
                 cpu,
                 how,
-                signal: None,
+                signal,
             },
         );
         Taken::Turn(Turn {
             task,
             cpu,
             how,
-            signal: None,
+            signal,
         })
     }
 
     /// Takes a task back after its turn, with the lines that ran and the turn's close. Their events join the history. A fork bears
-    /// its child, which is ready before its parent is. At End the task's area goes back to the pool and the task is dropped; else
-    /// the block is the last of the ready list. Takes no memory.
+    /// its child, which is ready before its parent is; a `kill` adds its signal to those that are pending of a block that lives. At
+    /// End and after a refused return the task's area goes back to the pool and the task is dropped; else the block is the last of
+    /// the ready list. Takes no memory.
     ///
     /// The block is in this turn, and the lines and the close are the script's from the task's place on. The task stands for the
     /// private task after the lines, with the marks after a turn: a user task was switched out on the turn's processor. An outer
-    /// line is still before it.
+    /// line is still before it, and a refused return left it no registers.
     pub fn commit(&mut self, turn: Turn, entries: &Entries, close: Close)
         requires turn { stage_in self.old turn.task.name ≡ stages.Turn turn.cpu 0 }
         requires lines { AreLines self.old.script turn.task.name (private_in self.old turn.task.name) 0 entries.now.items close }
-        requires task { IsHome (is_user self.old.script turn.task.name) self.old.script.layout turn.task (private_after self.old turn.task.name entries.now.items) }
+        requires task { IsHome (is_user self.old.script turn.task.name) self.old.script.layout turn.task (private_after self.old turn.task.name entries.now.items close) }
         requires last { is_user self.old.script turn.task.name ≡ true → turn.task.last ≡ Some turn.cpu }
 
         // What joins the history, which stays legal.
-        ensures history { self.new.history ≡ self.old.history ++ turn_events turn.task.name entries.now.items close }
+        ensures history { self.new.history ≡ self.old.history ++ turn_events turn.task.name entries.now.items close (answer_in self.old turn.task.name close) }
         ensures grows { length self.old.history < length self.new.history }
         ensures legal { IsLegal self.new.script self.new.history }
         ensures replay { past_of self.new ≡ entry self.old.script (past_of self.old) turn.cpu }
@@ -187,12 +193,21 @@ impl Board {
         let Turn { task, .. } = turn;
         let mut task = task;
         let child = forked(&self.script, task.name, task.place, close);
-        tell_turn(&mut self.events, task.name, entries.as_slice(), close);
+        let sent = find_sent(&self.script, task.name, task.place, close);
+        let answer = send(&mut self.mailboxes, sent);
+        tell_turn(
+            &mut self.events,
+            task.name,
+            entries.as_slice(),
+            close,
+            answer,
+        );
         perform(
             &self.script.layout,
             &mut self.tasks,
             &mut self.ready,
             &mut self.living,
+            &mut self.mailboxes,
             &task,
             child,
         );
@@ -201,6 +216,7 @@ impl Board {
             &mut self.tasks,
             &mut self.ready,
             &mut self.living,
+            &mut self.mailboxes,
             &mut self.pool,
             task,
             close,

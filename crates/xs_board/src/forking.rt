@@ -6,9 +6,11 @@ ghost use Rattle.std.specs.VecDeque.{deque_capacity};
 ghost use Rattle.xs_model.specs.declared.script.Block.{Block};
 ghost use Rattle.xs_task.specs.declared.task.Task as types;
 ghost use Rattle.xs_task.specs.TaskArea.{IsTask};
-ghost use Rattle.xs_board.specs.Putting.{BecameChild, Bears, CanBeBorn, IfOuter, forked_there, living_born, moved_on, ready_born};
+ghost use Rattle.xs_board.specs.Mailbox.{boxes_born};
+ghost use Rattle.xs_board.specs.Putting.{BecameChild, Bears, CanBeBorn, IfOuter, at_outer, living_born, moved_on, ready_born};
 ghost use Rattle.xs_board.specs.Turn.{body_command, forked_by};
 
+use crate::mailbox::Mailbox;
 use crate::turn::Close;
 use std::collections::VecDeque;
 use xs_layout::Layout;
@@ -19,7 +21,7 @@ use xs_task::{Task, inherit};
 pub fn forked(script: &Script, name: u32, place: u32, close: Close) -> Option<u32>
     requires known { name < length script.now.blocks }
     requires few { length script.now.blocks ≤ 64 }
-    ensures { result ≡ forked_there close (forked_by script.now (body_command script.now name place)) }
+    ensures { result ≡ at_outer close (forked_by script.now (body_command script.now name place)) }
 {
     match close {
         Close::Outer(_) => forked_at(script, name, place),
@@ -42,7 +44,7 @@ fn forked_at(script: &Script, name: u32, place: u32) -> Option<u32>
 }
 
 /// The number of the block of this name, and the number of blocks where none has it.
-fn block_named(blocks: &[Block], name: &[u8]) -> u32
+pub fn block_named(blocks: &[Block], name: &[u8]) -> u32
     requires few { length blocks.now ≤ 64 }
     ensures { result ≡ position_or_len (λ (block : Block). bytes_eq block.name name.now) blocks.now }
 {
@@ -62,21 +64,25 @@ pub fn perform(
     tasks: &mut Vec<Option<Task>>,
     ready: &mut VecDeque<u32>,
     living: &mut u32,
+    mailboxes: &mut Vec<Mailbox>,
     parent: &Task,
     child: Option<u32>,
 )
     requires parent { IfSome child (λ child. IsTask layout.now parent.now) }
     requires child { IfSome child (λ child. (before : types.Task) × (slice_index_or tasks.old.items child None ≡ Some before) × CanBeBorn layout.now before) }
     requires known { IfSome child (λ child. child < length tasks.old.items) }
+    requires boxed { IfSome child (λ child. child < length mailboxes.old.items) }
     requires room { IfSome child (λ child. length ready.old.items < deque_capacity ready.old) }
     requires few { IfSome child (λ child. living.old + 1 < 2 ^ 32) }
     ensures home { Bears child layout.now parent.now tasks.old.items tasks.new.items }
     ensures ready { ready.new.items ≡ ready_born child ready.old.items }
     ensures capacity { deque_capacity ready.new ≡ deque_capacity ready.old }
     ensures living { living.new ≡ living_born child living.old }
+    ensures boxes { mailboxes.new.items ≡ boxes_born child mailboxes.old.items }
 {
     if let Some(child) = child {
         bear(layout, &mut tasks[child as usize], parent);
+        mailboxes[child as usize].open();
         ready.push_back_reserved(child);
         *living += 1;
     }

@@ -8,9 +8,10 @@
 mod board;
 mod forking;
 mod laws;
+mod mailbox;
 mod opening;
 mod putting;
-mod room;
+mod sending;
 mod telling;
 mod turn;
 

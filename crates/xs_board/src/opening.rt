@@ -1,14 +1,16 @@
 //! What a board has before its first event.
 
-ghost use Rattle.std.specs.Prelude.{◌≡◌, true, ◌+◌, ◌-◌, ◌<◌, ◌≤◌, ◌^◌, ◌++◌, length, IfOk, OnOk, Some, None};
+ghost use Rattle.std.specs.Prelude.{◌≡◌, true, map, ◌+◌, ◌-◌, ◌<◌, ◌≤◌, ◌^◌, ◌++◌, length, IfOk, OnOk, Some, None};
 ghost use Rattle.std.specs.VecDeque.{deque_capacity};
 ghost use Rattle.xs_base.specs.Task.{root_task};
 ghost use Rattle.xs_model.specs.Script.{is_user_kind};
 ghost use Rattle.xs_pool.specs.Pool.{leased};
 ghost use Rattle.xs_board.specs.Home.{IsUserHome, IsThreadHome};
-ghost use Rattle.xs_board.specs.Opening.{one_user, one_born, users_in, born_if, born_in, born_from, IsFirstTask, AreFirst, pool_first};
+ghost use Rattle.xs_board.specs.Opening as opening;
+ghost use Rattle.xs_board.specs.Opening.{first_mailbox, one_user, one_born, users_in, born_if, born_in, born_from, IsFirstTask, AreFirst, pool_first};
 ghost use Rattle.xs_base.specs.declared.class.Class.TheVariants as classes;
 
+use crate::mailbox::Mailbox;
 use std::alloc::{AllocError, Global};
 use std::collections::VecDeque;
 use xs_area::Class;
@@ -86,6 +88,27 @@ fn add_born(born: &mut VecDeque<u32>, kind: BlockKind, number: u32)
     match kind {
         BlockKind::Child => {}
         _ => born.push_back_reserved(number),
+    }
+}
+
+/// The mailbox of each block before the first event.
+pub fn first_mailboxes(alloc: Global, blocks: &[Block]) -> Result<Vec<Mailbox>, AllocError>
+    ensures { IfOk result (λ mailboxes. mailboxes.items ≡ map first_mailbox blocks.now) }
+{
+    let mut mailboxes = Vec::with_capacity(alloc, blocks.len())?;
+    'each: for block in blocks {
+        mailboxes.push_reserved(Mailbox::new(alloc, is_born(block.kind))?);
+    }
+    Ok(mailboxes)
+}
+
+/// Whether a block is born before the first event.
+fn is_born(kind: BlockKind) -> bool
+    ensures { result ≡ opening.is_born kind }
+{
+    match kind {
+        BlockKind::Child => false,
+        _ => true,
     }
 }
 

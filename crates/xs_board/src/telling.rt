@@ -1,15 +1,18 @@
 //! Events that join a history, which has room for them.
 
 ghost use Rattle.std.specs.Prelude.{◌≡◌, ◌+◌, ◌≤◌, ◌++◌, [], ◌∷◌, length, vec_capacity};
+ghost use Rattle.xs_model.specs.Due.{violation};
+ghost use Rattle.xs_model.specs.Line as lines;
 ghost use Rattle.xs_board.specs.Turn.{close_events, turn_events};
 
 use crate::turn::{Close, Entry, copy_reply};
-use xs_model::{Event, Reply};
+use xs_base::{HeaderError, Signo};
+use xs_model::{Event, Reply, Why};
 
-/// Adds the events of a turn after its Start.
-pub fn tell_turn(events: &mut Vec<Event>, task: u32, entries: &[Entry], close: Close)
-    requires room { length events.old.items + length (turn_events task entries.now close) ≤ vec_capacity events.old }
-    ensures told { events.new.items ≡ events.old.items ++ turn_events task entries.now close }
+/// Adds the events of a turn after its Start; an outer line with which it closes answered this.
+pub fn tell_turn(events: &mut Vec<Event>, task: u32, entries: &[Entry], close: Close, answer: Reply)
+    requires room { length events.old.items + length (turn_events task entries.now close answer) ≤ vec_capacity events.old }
+    ensures told { events.new.items ≡ events.old.items ++ turn_events task entries.now close answer }
     ensures capacity { vec_capacity events.new ≡ vec_capacity events.old }
 {
     'each: for entry in entries {
@@ -23,13 +26,13 @@ pub fn tell_turn(events: &mut Vec<Event>, task: u32, entries: &[Entry], close: C
             },
         );
     }
-    tell_close(events, task, close);
+    tell_close(events, task, close, answer);
 }
 
 /// Adds the event of a close, if it has one.
-fn tell_close(events: &mut Vec<Event>, task: u32, close: Close)
-    requires room { length events.old.items + length (close_events task close) ≤ vec_capacity events.old }
-    ensures told { events.new.items ≡ events.old.items ++ close_events task close }
+fn tell_close(events: &mut Vec<Event>, task: u32, close: Close, answer: Reply)
+    requires room { length events.old.items + length (close_events task close answer) ≤ vec_capacity events.old }
+    ensures told { events.new.items ≡ events.old.items ++ close_events task close answer }
     ensures capacity { vec_capacity events.new ≡ vec_capacity events.old }
 {
     match close {
@@ -39,10 +42,37 @@ fn tell_close(events: &mut Vec<Event>, task: u32, close: Close)
             Event::Outer {
                 task,
                 line,
-                reply: Reply::Done,
+                reply: answer,
+            },
+        ),
+        Close::Refused(error) => tell(
+            events,
+            Event::Kill {
+                task,
+                signo: violation_signal(),
+                why: frame_cause(error),
             },
         ),
         Close::End => tell(events, Event::End { task }),
+    }
+}
+
+/// SIGSEGV.
+fn violation_signal() -> Signo
+    ensures { result ≡ violation }
+{
+    Signo { number: 11 }
+}
+
+/// The cause of the kill by a frame that is refused.
+fn frame_cause(error: HeaderError) -> Why
+    ensures { result ≡ lines.frame_cause error }
+{
+    match error {
+        HeaderError::Features => Why::FrameFeatures,
+        HeaderError::Compacted => Why::FrameCompacted,
+        HeaderError::Reserved => Why::FrameReserved,
+        HeaderError::Mxcsr => Why::FrameMxcsr,
     }
 }
 

@@ -6,7 +6,7 @@ ghost use Rattle.xs_model.specs.Note.{is_at};
 ghost use Rattle.xs_model.specs.Script.{is_user_kind};
 
 use arrayvec::ArrayVec;
-use xs_base::{How, Lane, Signo};
+use xs_base::{HeaderError, How, Lane, Signo};
 use xs_model::{BlockKind, Reply};
 use xs_task::Task;
 
@@ -64,6 +64,8 @@ pub enum Close {
     Yield,
     /// By the outer line of this number, at which the task stands.
     Outer(u32),
+    /// By a return from a handler, at which the task stands: its frame is refused with this error, and the task ends.
+    Refused(HeaderError),
     /// At the end of the body.
     End,
 }

@@ -1,15 +1,20 @@
 -- The board before its first event.
-use Rattle.std.proofs.Common.{◌≤◌, List, length, ap, sym, subst, ◌∙◌, arith}
+use Rattle.std.proofs.Common.{◌≤◌, List, length, map, ap, sym, subst, ◌∙◌, arith}
 use Rattle.std.specs.Prelude.{vec_capacity}
 use Rattle.std.specs.VecDeque.{deque_capacity}
 use Rattle.xs_model.specs.declared.event.Event.{Event}
 use Rattle.xs_model.specs.declared.script.Block.{Block}
-use Rattle.xs_model.specs.Bound.{most_events}
+use Rattle.xs_model.specs.Bound.{most_events, most_of}
 use Rattle.xs_pool.specs.Pool.{Pool}
 use Rattle.xs_board.specs.Board.{IsBoard, IsKeptBeside}
-use Rattle.xs_board.specs.Opening.{users_in, born_from, born_in, AreFirst}
-use Rattle.xs_board.proofs.Beginning.{board_open, beside_open}
+use Rattle.xs_board.specs.Opening.{first_mailbox, users_in, born_from, born_in, AreFirst}
+use Rattle.xs_board.proofs.Beginning.{bound_small, board_open, beside_open}
 use Rattle.xs_board.proofs.board.Board.open.Goals as goal
+
+pub most_events-room-requires : goal.most_events-room-requires
+most_events-room-requires c =
+    let small = bound_small c.args.script c.requires.valid in
+    rw c.as_slice-blocks.ensures (record { lines = small.0; signals = small.1; blocks = small.2 })
 
 pub invariant_of-result : goal.invariant_of-result
 invariant_of-result c =
@@ -18,9 +23,10 @@ invariant_of-result c =
     let pool = c.first_tasks.new.pool in
     let room = vec_capacity c.in_ok-events.events in
     let queue = c.in_ok-ready.ready in
+    let boxes = c.in_ok-mailboxes.mailboxes.items in
     let blocks = c.as_slice-blocks.ensures in
     let opened = c.in_ok-pool.ensures.opened in
-    let most : most_events script ≤ room = omega (arith, c.in-Some.ensures, c.in_ok-events.ensures.capacity) in (
+    let most : most_events script ≤ room = omega (arith, c.most_events-room.ensures ∙ ap most_of blocks, c.in_ok-events.ensures.capacity) in (
       subst (λ (history : List Event). IsBoard (record { script = script; history = history; home = tasks; pool = pool; room = room })) (sym c.in_ok-events.ensures.items)
           (board_open script tasks pool room c.requires.valid c.requires.built
           (c.in_ok-tasks.ensures.count ∙ ap length blocks)
@@ -30,9 +36,10 @@ invariant_of-result c =
           (c.in_ok-tasks.ensures.large ∙ ap (λ (p : Pool). p.large.out) opened)
           (c.in_ok-tasks.ensures.given ∙ ap users_in blocks)
           most),
-      subst (λ (history : List Event). IsKeptBeside (record { script = script; history = history; home = tasks; pool = pool; room = room }) queue.items (deque_capacity queue) c.count_born-living.result) (sym c.in_ok-events.ensures.items)
-          (beside_open script tasks pool room queue.items (deque_capacity queue) c.count_born-living.result
+      subst (λ (history : List Event). IsKeptBeside (record { script = script; history = history; home = tasks; pool = pool; room = room }) queue.items (deque_capacity queue) c.count_born-living.result boxes) (sym c.in_ok-events.ensures.items)
+          (beside_open script tasks pool room queue.items (deque_capacity queue) c.count_born-living.result boxes
           (c.in_ok-ready.ensures.born ∙ ap (born_from 0) blocks)
           (subst (λ (all : List Block). length all ≤ deque_capacity queue) blocks c.in_ok-ready.ensures.room)
-          (c.count_born-living.ensures ∙ ap born_in blocks)),
+          (c.count_born-living.ensures ∙ ap born_in blocks)
+          (c.in_ok-mailboxes.ensures ∙ ap (map first_mailbox) blocks)),
     )

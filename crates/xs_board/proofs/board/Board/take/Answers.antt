@@ -15,9 +15,11 @@ use Rattle.xs_model.specs.Held.{held}
 use Rattle.xs_model.specs.Note.{is_at}
 use Rattle.xs_model.specs.Script.{is_user, is_user_kind}
 use Rattle.xs_model.specs.State.{stage_at}
-use Rattle.xs_board.specs.Board.{Board, IsKeptBeside, IsTaskOf, past_of, private_in, task_of_state}
+use Rattle.xs_base.specs.declared.words.Signo.{Signo}
+use Rattle.std.specs.Prelude.{Option}
+use Rattle.xs_board.specs.Board.{Board, begun, signal_in, IsKeptBeside, IsTaskOf, past_of, private_in, task_of_state}
 use Rattle.xs_board.specs.Taken.{is_user_how}
-use Rattle.xs_board.proofs.Asking.{nil_of_len, nobody_lives, somebody_lives, first_ready, ready_known, ready_lives, ready_home, may_take, other_has, user_how, skip_held, is_at_some}
+use Rattle.xs_board.proofs.Asking.{box_known, thread_quiet, nil_of_len, nobody_lives, somebody_lives, first_ready, ready_known, ready_lives, ready_home, may_take, other_has, user_how, skip_held, is_at_some}
 use Rattle.xs_board.proofs.Taking.{MayTake, start_fits, taken_legal, taken_replay, taken_stage, taken_private, taken_others, taken_busy, taken_turns, board_taken, beside_taken}
 use Rattle.xs_board.proofs.board.Board.take.Goals as goal
 use Rattle.xs_board.proofs.board.Board.take.Goals.{then-self-eq0, else-self-eq0}
@@ -33,7 +35,7 @@ returns-in_default-clause-nothing c =
     let empty = nil_of_len c.self.inside.ready.items none in
     elim c.if-self-eq0.branch [
       | then-self-eq0 w ↦ rw w.result-is tt
-      | else-self-eq0 w ↦ rw (w.result-is, ← c.self.view_is) (sym c.self.invariant.1.queue ∙ empty, somebody_lives (before c) c.self.inside.ready.items (deque_capacity c.self.inside.ready) c.self.inside.living c.self.invariant.1 w.if-self-eq0.false)
+      | else-self-eq0 w ↦ rw (w.result-is, ← c.self.view_is) (sym c.self.invariant.1.queue ∙ empty, somebody_lives (before c) c.self.inside.ready.items (deque_capacity c.self.inside.ready) c.self.inside.living c.self.inside.mailboxes.items c.self.invariant.1 w.if-self-eq0.false)
     ]
 
 pub returns-in_default-clause-idle : goal.returns-in_default-clause-idle
@@ -44,40 +46,40 @@ returns-in_default-clause-idle c =
       | then-self-eq0 w ↦ rw w.result-is tt
       | else-self-eq0 w ↦ rw (w.result-is, ← c.self.view_is)
           (other_has c.machine_laws.ensures (before c) c.args.cpu c.self.invariant.0 (sym c.self.invariant.1.queue ∙ empty)
-          (somebody_lives (before c) c.self.inside.ready.items (deque_capacity c.self.inside.ready) c.self.inside.living c.self.invariant.1 w.if-self-eq0.false)
+          (somebody_lives (before c) c.self.inside.ready.items (deque_capacity c.self.inside.ready) c.self.inside.living c.self.inside.mailboxes.items c.self.invariant.1 w.if-self-eq0.false)
           (rw (← c.self.view_is) at c.requires.free))
     ]
 
 pub returns-in_default-clause-done : goal.returns-in_default-clause-done
 returns-in_default-clause-done c =
     elim c.if-self-eq0.branch [
-      | then-self-eq0 w ↦ rw (w.result-is, ← c.self.view_is) (nobody_lives (before c) c.self.inside.ready.items (deque_capacity c.self.inside.ready) c.self.inside.living c.self.invariant.1 w.if-self-eq0.true)
+      | then-self-eq0 w ↦ rw (w.result-is, ← c.self.view_is) (nobody_lives (before c) c.self.inside.ready.items (deque_capacity c.self.inside.ready) c.self.inside.living c.self.inside.mailboxes.items c.self.invariant.1 w.if-self-eq0.true)
       | else-self-eq0 w ↦ rw w.result-is tt
     ]
 
 pub bounds-as_slice-name : goal.bounds-as_slice-name
 bounds-as_slice-name c =
     let board : Board = record { script = c.self.inside.script; history = c.self.inside.events.items; home = c.self.inside.tasks.items; pool = c.self.inside.pool; room = vec_capacity c.self.inside.events } in
-    rw c.as_slice.ensures (ready_known c.machine_laws.ensures.machine board c.in-Some.name (first_ready c.machine_laws.ensures.first board c.self.inside.ready.items (deque_capacity c.self.inside.ready) c.self.inside.living c.in-Some.name c.pop_front.new.self.items c.self.invariant.0 c.self.invariant.1 c.in-Some.ensures.items))
+    rw c.as_slice.ensures (ready_known c.machine_laws.ensures.machine board c.in-Some.name (first_ready c.machine_laws.ensures.first board c.self.inside.ready.items (deque_capacity c.self.inside.ready) c.self.inside.living c.in-Some.name c.self.inside.mailboxes.items c.pop_front.new.self.items c.self.invariant.0 c.self.invariant.1 c.in-Some.ensures.items))
 
 pub bounds-as_slice-name-in-Some : goal.bounds-as_slice-name-in-Some
 bounds-as_slice-name-in-Some c =
     let board : Board = record { script = c.self.inside.script; history = c.self.inside.events.items; home = c.self.inside.tasks.items; pool = c.self.inside.pool; room = vec_capacity c.self.inside.events } in
-    rw c.as_slice.ensures (ready_known c.machine_laws.ensures.machine board c.in-Some.name (first_ready c.machine_laws.ensures.first board c.self.inside.ready.items (deque_capacity c.self.inside.ready) c.self.inside.living c.in-Some.name c.pop_front.new.self.items c.self.invariant.0 c.self.invariant.1 c.in-Some.ensures.items))
+    rw c.as_slice.ensures (ready_known c.machine_laws.ensures.machine board c.in-Some.name (first_ready c.machine_laws.ensures.first board c.self.inside.ready.items (deque_capacity c.self.inside.ready) c.self.inside.living c.in-Some.name c.self.inside.mailboxes.items c.pop_front.new.self.items c.self.invariant.0 c.self.invariant.1 c.in-Some.ensures.items))
 
 -- ---- the first ready block
 
 pub index_mut-requires : goal.index_mut-requires
 index_mut-requires c =
     let board : Board = record { script = c.self.inside.script; history = c.self.inside.events.items; home = c.self.inside.tasks.items; pool = c.self.inside.pool; room = vec_capacity c.self.inside.events } in
-    let known = ready_known c.machine_laws.ensures.machine board c.in-Some.name (first_ready c.machine_laws.ensures.first board c.self.inside.ready.items (deque_capacity c.self.inside.ready) c.self.inside.living c.in-Some.name c.pop_front.new.self.items c.self.invariant.0 c.self.invariant.1 c.in-Some.ensures.items) in
+    let known = ready_known c.machine_laws.ensures.machine board c.in-Some.name (first_ready c.machine_laws.ensures.first board c.self.inside.ready.items (deque_capacity c.self.inside.ready) c.self.inside.living c.in-Some.name c.self.inside.mailboxes.items c.pop_front.new.self.items c.self.invariant.0 c.self.invariant.1 c.in-Some.ensures.items) in
     let count = c.self.invariant.0.count in
     omega arith
 
 pub unreachable-requires : goal.unreachable-requires
 unreachable-requires c =
     let board : Board = record { script = c.self.inside.script; history = c.self.inside.events.items; home = c.self.inside.tasks.items; pool = c.self.inside.pool; room = vec_capacity c.self.inside.events } in
-    let ready = first_ready c.machine_laws.ensures.first board c.self.inside.ready.items (deque_capacity c.self.inside.ready) c.self.inside.living c.in-Some.name c.pop_front.new.self.items c.self.invariant.0 c.self.invariant.1 c.in-Some.ensures.items in
+    let ready = first_ready c.machine_laws.ensures.first board c.self.inside.ready.items (deque_capacity c.self.inside.ready) c.self.inside.living c.in-Some.name c.self.inside.mailboxes.items c.pop_front.new.self.items c.self.invariant.0 c.self.invariant.1 c.in-Some.ensures.items in
     let known = ready_known c.machine_laws.ensures.machine board c.in-Some.name ready in
     let count = c.self.invariant.0.count in
     let home = ready_home c.machine_laws.ensures.machine board c.in-Some.name c.self.invariant.0 ready in
@@ -86,11 +88,12 @@ unreachable-requires c =
 pub tell-requires : goal.tell-requires
 tell-requires c =
     let board : Board = record { script = c.self.inside.script; history = c.self.inside.events.items; home = c.self.inside.tasks.items; pool = c.self.inside.pool; room = vec_capacity c.self.inside.events } in
-    let both = may_take c.machine_laws.ensures board c.self.inside.ready.items (deque_capacity c.self.inside.ready) c.self.inside.living c.in-Some.name c.pop_front.new.self.items c.args.cpu c.index-as_slice-name.result c.index_mut.result.now c.in-Some-take.task c.args.mark c.start_how-how.result
+    let both = may_take c.machine_laws.ensures board c.self.inside.ready.items (deque_capacity c.self.inside.ready) c.self.inside.living c.in-Some.name c.self.inside.mailboxes.items c.pop_front.new.self.items c.args.cpu c.index-as_slice-name.result c.index_mut.result.now c.in-Some-take.task c.args.mark c.start_how-how.result c.index_mut-2.result.now c.take_next-signal.result
     c.self.invariant.0 c.self.invariant.1 c.in-Some.ensures.items (sym c.take.ensures.value ∙ c.in-Some-take.is) c.index_mut.ensures.value (c.index-as_slice-name.is ∙ ap (λ (blocks : List Block). get_or blocks c.in-Some.name c.index-as_slice-name.result) c.as_slice.ensures)
     (rw (← c.self.view_is) at c.requires.processor) (rw (← c.self.view_is) at c.requires.free) (rw (← c.self.view_is) at c.requires.mark)
-    (c.start_how-how.ensures ∙ ap (λ (b : Block). how_of (is_user_kind b.kind) (is_at c.args.mark c.in-Some.name && is_at c.in-Some-take.task.last c.args.cpu)) (sym c.index-as_slice-name.is)) in
-    record { room = start_fits c.machine_laws.ensures board c.in-Some.name c.args.cpu c.pop_front.new.self.items c.start_how-how.result both.0 }
+    (c.start_how-how.ensures ∙ ap (λ (b : Block). how_of (is_user_kind b.kind) (is_at c.args.mark c.in-Some.name && is_at c.in-Some-take.task.last c.args.cpu)) (sym c.index-as_slice-name.is))
+    c.index_mut-2.ensures.value c.take_next-signal.ensures.signal in
+    record { room = start_fits c.machine_laws.ensures board c.in-Some.name c.args.cpu c.pop_front.new.self.items c.start_how-how.result c.take_next-signal.result both.0 }
 
 -- ---- after its Start
 
@@ -106,33 +109,38 @@ rest c = c.pop_front.new.self.items
 abbrev how : goal.After-tell → How
 how c = c.start_how-how.result
 
+abbrev signal : goal.After-tell → Option Signo
+signal c = c.take_next-signal.result
+
 abbrev history : goal.After-tell → List Event
 history c = c.tell.new.events.items
 
 -- the block may start, with its task
-both : (c : goal.After-tell) → MayTake (old c) (t c) c.args.cpu (rest c) (how c) × IsTaskOf (old c) (t c) c.in-Some-take.task
+both : (c : goal.After-tell) → MayTake (old c) (t c) c.args.cpu (rest c) (how c) (signal c) × IsTaskOf (old c) (t c) c.in-Some-take.task
 both c =
-    may_take c.machine_laws.ensures (old c) c.self.inside.ready.items (deque_capacity c.self.inside.ready) c.self.inside.living c.in-Some.name c.pop_front.new.self.items c.args.cpu c.index-as_slice-name.result c.index_mut.result.now c.in-Some-take.task c.args.mark c.start_how-how.result
+    may_take c.machine_laws.ensures (old c) c.self.inside.ready.items (deque_capacity c.self.inside.ready) c.self.inside.living c.in-Some.name c.self.inside.mailboxes.items c.pop_front.new.self.items c.args.cpu c.index-as_slice-name.result c.index_mut.result.now c.in-Some-take.task c.args.mark c.start_how-how.result c.index_mut-2.result.now c.take_next-signal.result
     c.self.invariant.0 c.self.invariant.1 c.in-Some.ensures.items (sym c.take.ensures.value ∙ c.in-Some-take.is) c.index_mut.ensures.value (c.index-as_slice-name.is ∙ ap (λ (blocks : List Block). get_or blocks c.in-Some.name c.index-as_slice-name.result) c.as_slice.ensures)
     (rw (← c.self.view_is) at c.requires.processor) (rw (← c.self.view_is) at c.requires.free) (rw (← c.self.view_is) at c.requires.mark)
     (c.start_how-how.ensures ∙ ap (λ (b : Block). how_of (is_user_kind b.kind) (is_at c.args.mark c.in-Some.name && is_at c.in-Some-take.task.last c.args.cpu)) (sym c.index-as_slice-name.is))
+    c.index_mut-2.ensures.value c.take_next-signal.ensures.signal
 
 name_is : (c : goal.After-tell) → c.in-Some-take.task.name ≡ t c
 name_is c = (both c).1.name
 
-told : (c : goal.After-tell) → history c ≡ (old c).history ++ events.Start (t c) c.args.cpu (how c) None ∷ []
+told : (c : goal.After-tell) → history c ≡ (old c).history ++ events.Start (t c) c.args.cpu (how c) (signal c) ∷ []
 told c = c.tell.ensures.told
 
 pub invariant_of-self-2 : goal.invariant_of-self-2
 invariant_of-self-2 c =
     let home = slice_set c.self.inside.tasks.items (t c) c.take.new.self in (
-      board_taken c.machine_laws.ensures (old c) (t c) c.args.cpu (rest c) (how c) (both c).0 (history c) (told c) home (vec_capacity c.tell.new.events)
+      board_taken c.machine_laws.ensures (old c) (t c) c.args.cpu (rest c) (how c) (signal c) (both c).0 (history c) (told c) home (vec_capacity c.tell.new.events)
           (length-set c.self.inside.tasks.items (t c) c.take.new.self)
           (λ (u : ℕ) (other : u ≡ t c → ⊥). get_or-set_other c.self.inside.tasks.items (t c) u c.take.new.self None other)
           c.tell.ensures.capacity,
-      beside_taken c.machine_laws.ensures (old c) (t c) c.args.cpu (rest c) (how c) (both c).0 (history c) (told c) home (vec_capacity c.tell.new.events) (deque_capacity c.pop_front.new.self) c.self.inside.living
-          (subst (λ (list : List ℕ). IsKeptBeside (old c) list (deque_capacity c.pop_front.new.self) c.self.inside.living) c.in-Some.ensures.items
-          (subst (λ (capacity : ℕ). IsKeptBeside (old c) c.self.inside.ready.items capacity c.self.inside.living) (sym c.pop_front.ensures.capacity) c.self.invariant.1)),
+      beside_taken c.machine_laws.ensures (old c) (t c) c.args.cpu (rest c) (how c) (signal c) (both c).0 (history c) (told c) home (vec_capacity c.tell.new.events) (deque_capacity c.pop_front.new.self) c.self.inside.living c.self.inside.mailboxes.items c.take_next-signal.new.self
+          (subst (λ (list : List ℕ). IsKeptBeside (old c) list (deque_capacity c.pop_front.new.self) c.self.inside.living c.self.inside.mailboxes.items) c.in-Some.ensures.items
+          (subst (λ (capacity : ℕ). IsKeptBeside (old c) c.self.inside.ready.items capacity c.self.inside.living c.self.inside.mailboxes.items) (sym c.pop_front.ensures.capacity) c.self.invariant.1))
+          (c.take_next-signal.ensures.rest ∙ box_known c.machine_laws.ensures (old c) c.self.inside.ready.items (deque_capacity c.self.inside.ready) c.self.inside.living (t c) c.args.cpu c.self.inside.mailboxes.items c.index_mut-2.result.now c.in-Some-take.task (signal c) c.self.invariant.0 c.self.invariant.1 (both c).1 (both c).0.ready c.index_mut-2.ensures.value (both c).0.signal_is),
     )
 
 pub returns-clause-turn : goal.returns-clause-turn
@@ -146,7 +154,8 @@ returns-clause-turn c =
       cpu_is = refl;
       how = subst (λ (n : ℕ). how c ≡ how_of (is_user script n) (held script past c.args.cpu n)) (sym (name_is c)) may.how_is;
       user = ap is_user_how may.how_is ∙ user_how (is_user script (t c)) (held script past c.args.cpu (t c)) ∙ ap (is_user script) (sym (name_is c));
-      signal = refl;
+      signal = may.signal_is ∙ ap (signal_in (old c)) (sym (name_is c));
+      quiet = λ thread. may.signal_is ∙ thread_quiet c.machine_laws.ensures (old c) (t c) may.is_board may.ready (ap (is_user script) (sym (name_is c)) ∙ thread);
     })
 
 pub returns-clause-lives : goal.returns-clause-lives
@@ -159,25 +168,25 @@ returns-clause-skip c skip =
     (is_at_some c.args.mark (t c) numbers.0 ∙ ap Some (sym (name_is c)), is_at_some c.in-Some-take.task.last c.args.cpu numbers.1)
 
 pub returns-clause-history : goal.returns-clause-history
-returns-clause-history c = rw (← c.self.view_is) (told c ∙ ap (λ (n : ℕ). (old c).history ++ events.Start n c.args.cpu (how c) None ∷ []) (sym (name_is c)))
+returns-clause-history c = rw (← c.self.view_is) (told c ∙ ap (λ (n : ℕ). (old c).history ++ events.Start n c.args.cpu (how c) (signal c) ∷ []) (sym (name_is c)))
 
 pub returns-clause-legal : goal.returns-clause-legal
-returns-clause-legal c = taken_legal c.machine_laws.ensures (old c) (t c) c.args.cpu (rest c) (how c) (both c).0 (history c) (told c)
+returns-clause-legal c = taken_legal c.machine_laws.ensures (old c) (t c) c.args.cpu (rest c) (how c) (signal c) (both c).0 (history c) (told c)
 
 pub returns-clause-replay : goal.returns-clause-replay
-returns-clause-replay c = rw (← c.self.view_is) (taken_replay c.machine_laws.ensures (old c) (t c) c.args.cpu (rest c) (how c) (both c).0 (history c) (told c))
+returns-clause-replay c = rw (← c.self.view_is) (taken_replay c.machine_laws.ensures (old c) (t c) c.args.cpu (rest c) (how c) (signal c) (both c).0 (history c) (told c))
 
 pub returns-clause-stage : goal.returns-clause-stage
-returns-clause-stage c = subst (λ (n : ℕ). stage_at (machine c.self.inside.script (reverse (history c))).blocks n ≡ stages.Turn c.args.cpu 0) (sym (name_is c)) (taken_stage c.machine_laws.ensures (old c) (t c) c.args.cpu (rest c) (how c) (both c).0 (history c) (told c))
+returns-clause-stage c = subst (λ (n : ℕ). stage_at (machine c.self.inside.script (reverse (history c))).blocks n ≡ stages.Turn c.args.cpu 0) (sym (name_is c)) (taken_stage c.machine_laws.ensures (old c) (t c) c.args.cpu (rest c) (how c) (signal c) (both c).0 (history c) (told c))
 
 pub returns-clause-private : goal.returns-clause-private
-returns-clause-private c = rw (← c.self.view_is) (subst (λ (n : ℕ). task_of_state (slice_get (machine c.self.inside.script (reverse (history c))).blocks n) ≡ private_in (old c) n) (sym (name_is c)) (taken_private c.machine_laws.ensures (old c) (t c) c.args.cpu (rest c) (how c) (both c).0 (history c) (told c)))
+returns-clause-private c = rw (← c.self.view_is) (subst (λ (n : ℕ). task_of_state (slice_get (machine c.self.inside.script (reverse (history c))).blocks n) ≡ begun (signal c) (private_in (old c) n)) (sym (name_is c)) (taken_private c.machine_laws.ensures (old c) (t c) c.args.cpu (rest c) (how c) (signal c) (both c).0 (history c) (told c)))
 
 pub returns-clause-busy : goal.returns-clause-busy
-returns-clause-busy c = taken_busy c.machine_laws.ensures (old c) (t c) c.args.cpu (rest c) (how c) (both c).0 (history c) (told c) ∙ ap Some (sym (name_is c))
+returns-clause-busy c = taken_busy c.machine_laws.ensures (old c) (t c) c.args.cpu (rest c) (how c) (signal c) (both c).0 (history c) (told c) ∙ ap Some (sym (name_is c))
 
 pub returns-clause-others : goal.returns-clause-others
-returns-clause-others c = rw (← c.self.view_is) (λ u other. taken_others c.machine_laws.ensures (old c) (t c) c.args.cpu (rest c) (how c) (both c).0 (history c) (told c) u (λ (same : u ≡ t c). other (same ∙ sym (name_is c))))
+returns-clause-others c = rw (← c.self.view_is) (λ u other. taken_others c.machine_laws.ensures (old c) (t c) c.args.cpu (rest c) (how c) (signal c) (both c).0 (history c) (told c) u (λ (same : u ≡ t c). other (same ∙ sym (name_is c))))
 
 pub returns-clause-turns : goal.returns-clause-turns
-returns-clause-turns c = rw (← c.self.view_is) (taken_turns c.machine_laws.ensures (old c) (t c) c.args.cpu (rest c) (how c) (both c).0 (history c) (told c))
+returns-clause-turns c = rw (← c.self.view_is) (taken_turns c.machine_laws.ensures (old c) (t c) c.args.cpu (rest c) (how c) (signal c) (both c).0 (history c) (told c))

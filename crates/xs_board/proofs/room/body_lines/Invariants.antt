@@ -1,6 +1,0 @@
-use Rattle.std.proofs.Common.{◌≡◌, ◌+◌, drop}
-use Rattle.xs_model.specs.Bound as bound
-use Rattle.xs_board.proofs.room.body_lines.Given as goal
-
-abbrev pub invariant-each : goal.invariant-each
-invariant-each l = l.lines + bound.body_lines (drop l.block-index l.blocks) ≡ bound.body_lines l.blocks

@@ -1,9 +1,0 @@
-use Rattle.std.proofs.Common.{◌≡◌, ◌+◌, ◌≤◌, drop}
-use Rattle.xs_model.specs.Bound as bound
-use Rattle.xs_board.proofs.room.kill_lines.Given as goal
-
-abbrev pub invariant-each : goal.invariant-each
-invariant-each l = record {
-  few : l.kills ≤ l.order-index;
-  so_far : l.kills + bound.kill_lines (drop l.order-index l.orders) ≡ bound.kill_lines l.orders;
-}
