@@ -1,7 +1,7 @@
 -- An entry that takes a turn from the board.
 use Rattle.std.proofs.Common.{◌≡◌, ℕ, zero, suc, ◌+◌, Bool, true, false, ◌==◌, List, [], ◌∷◌, Option, Some, None, if◌then◌else◌, slice_get, refl, sym, ap, ◌∙◌, inl, inr, arith, subst}
 use Rattle.std.proofs.lemmas.Bool.{cases_eq, cases_Bool, eq-eqb}
-use Rattle.xs_base.specs.Counts.{after_start}
+use Rattle.xs_base.specs.Counts.{Counts, after_start}
 use Rattle.xs_base.specs.File.{File, AreSameButPkru, pkru_bytes, pkru_of}
 use Rattle.xs_base.specs.Task.{PrivateTask, start_pkru}
 use Rattle.xs_base.proofs.FileLemmas.{part_other}
@@ -16,6 +16,7 @@ use Rattle.xs_model.specs.declared.stage.Stage.TheVariants as stages
 use Rattle.xs_model.specs.Counts as told
 use Rattle.xs_model.specs.Counts.{in_section}
 use Rattle.xs_model.specs.Laws.{HadNoTurn}
+use Rattle.xs_model.specs.Runs.{NeverIdle}
 use Rattle.xs_model.specs.Machine.{machine}
 use Rattle.xs_model.specs.Note.{cpu_of, notes_of, mark, mark_after, last, Starts}
 use Rattle.xs_model.specs.Replay.{runner}
@@ -24,20 +25,43 @@ use Rattle.xs_model.specs.State.{BlockState, stage_at, stage_of, turn_cpu, is_on
 use Rattle.xs_switch.specs.Pkru.{given_pkru}
 use Rattle.xs_task.specs.declared.task.Task.{Task}
 use Rattle.xs_board.specs.declared.turn.Turn.{Turn}
-use Rattle.xs_board.specs.Board.{Board, past_of, machine_in, private_in, stage_in, turn_on, task_of_state, KeepsOthers, KeepsTurns}
+use Rattle.xs_board.specs.Board.{Board, past_of, machine_in, private_in, stage_in, turn_on, task_of_state, but_signals, KeepsOthers, KeepsTurns}
+use Rattle.xs_board.specs.Board as boards
 use Rattle.xs_board.specs.Taken.{is_user_how}
+use Rattle.xs_board.specs.Turn.{line_of}
 use Rattle.xs_machine.specs.Line.{IsOn}
 use Rattle.xs_machine.specs.Running.{IsRun, IsTold, IsProcessor, IsTurnHeld, HasTurn, IsAt, LeavesOthers, MayBegin, Begun}
 use Rattle.xs_machine.specs.Turn.{AreRunning, Continues, HasLeft}
 use Rattle.xs_machine.proofs.Histories.{one_event, counts_here, mark_here, section_here, file_here, mark_user}
+use Rattle.xs_machine.proofs.ScriptLemmas.{handler_stands}
 
 -- ---- boards
 
-pub private_same : (old new : Board) (u : ℕ) → slice_get (machine_in new).blocks u ≡ slice_get (machine_in old).blocks u → private_in new u ≡ private_in old u
-private_same old new u same = ap task_of_state same
+-- pending signals aside, a block has its task, its stage and its file
+task_but : (block : Option BlockState) → task_of_state (but_signals block) ≡ task_of_state block
+task_but None = refl
+task_but (Some block) = refl
 
-stage_same : (old new : Board) (u : ℕ) → slice_get (machine_in new).blocks u ≡ slice_get (machine_in old).blocks u → stage_in new u ≡ stage_in old u
-stage_same old new u same = ap stage_of same
+stage_but : (block : Option BlockState) → stage_of (but_signals block) ≡ stage_of block
+stage_but None = refl
+stage_but (Some block) = refl
+
+file_but : (block : Option BlockState) → told.file_of (but_signals block) ≡ told.file_of block
+file_but None = refl
+file_but (Some block) = refl
+
+-- The block is the same one, pending signals aside.
+abbrev pub SameBlock : Board → Board → ℕ → Type 0
+SameBlock old new u = but_signals (slice_get (machine_in new).blocks u) ≡ but_signals (slice_get (machine_in old).blocks u)
+
+pub private_same : (old new : Board) (u : ℕ) → SameBlock old new u → private_in new u ≡ private_in old u
+private_same old new u same = sym (task_but (slice_get (machine_in new).blocks u)) ∙ ap task_of_state same ∙ task_but (slice_get (machine_in old).blocks u)
+
+stage_same : (old new : Board) (u : ℕ) → SameBlock old new u → stage_in new u ≡ stage_in old u
+stage_same old new u same = sym (stage_but (slice_get (machine_in new).blocks u)) ∙ ap stage_of same ∙ stage_but (slice_get (machine_in old).blocks u)
+
+file_same : (old new : Board) (u : ℕ) → SameBlock old new u → told.file_of (slice_get (machine_in new).blocks u) ≡ told.file_of (slice_get (machine_in old).blocks u)
+file_same old new u same = sym (file_but (slice_get (machine_in new).blocks u)) ∙ ap told.file_of same ∙ file_but (slice_get (machine_in old).blocks u)
 
 -- the block that is found in a turn on a processor is in one there
 runner_found : (cpu i t : ℕ) (blocks : List BlockState) → runner cpu i blocks ≡ Some t → (k : ℕ) × (t ≡ i + k) × (is_on_cpu cpu (turn_cpu (stage_at blocks k)) ≡ true)
@@ -73,9 +97,9 @@ remains_none script past d file is some = let none : told.remains script past d 
 
 -- ---- other processors
 
--- Every other block that had a turn is in the state in which it was.
+-- Every other block that had a turn is in the state in which it was, pending signals aside.
 abbrev pub KeepsSeen : Script → ℕ → Board → Board → Type 0
-KeepsSeen script t old new = (u : ℕ) → (u ≡ t → ⊥) → (HadNoTurn script (past_of old) u → ⊥) → slice_get (machine_in new).blocks u ≡ slice_get (machine_in old).blocks u
+KeepsSeen script t old new = (u : ℕ) → (u ≡ t → ⊥) → (HadNoTurn script (past_of old) u → ⊥) → SameBlock old new u
 
 -- a block with a last processor had a turn
 pub had_turn : (script : Script) (past : List Event) (d u : ℕ) → last script past u ≡ Some d → HadNoTurn script past u → ⊥
@@ -100,7 +124,7 @@ module _ (script : Script) (i t : ℕ) (old new : Board) (cont : Continues scrip
         busy = turns d other ∙ was.busy;
         here = cont.cpu u ne ∙ was.here;
         home = cont.last_is u ne ∙ was.home;
-        latest = cont.files d u other ∙ was.latest ∙ ap told.file_of (sym same);
+        latest = cont.files d u other ∙ was.latest ∙ sym (file_same old new u same);
         fresh = cont.section u ne ∙ was.fresh;
         on = rw (private_same old new u same) was.on;
         flag = was.flag;
@@ -207,10 +231,10 @@ given_armed old new is = elim (cases_Bool (pkru_of old.file == start_pkru)) [ in
 
 module _ {B : Type 0} (script : Script) (i : ℕ) (old new : Board) (turn begun_turn : Turn) (cpu new_cpu : Cpu B) (before bank : banks.Bank) (block : BlockState)
     (at : IsAt script old i None cpu before)
-    (past : past_of new ≡ events.Start turn.task.name i turn.how turn.signal ∷ past_of old) (signal : turn.signal ≡ None)
+    (past : past_of new ≡ events.Start turn.task.name i turn.how turn.signal ∷ past_of old)
     (user : is_user_how turn.how ≡ is_user script turn.task.name) (may : MayBegin cpu.layout turn before (private_in old turn.task.name))
     (begun : Begun turn begun_turn cpu new_cpu before bank)
-    (keep : KeepsOthers turn.task.name old new) (here : slice_get (machine_in new).blocks turn.task.name ≡ Some block) (script_is : new.script ≡ script) (private : private_in new turn.task.name ≡ private_in old turn.task.name) where
+    (keep : KeepsOthers turn.task.name old new) (here : slice_get (machine_in new).blocks turn.task.name ≡ Some block) (script_is : new.script ≡ script) (private : private_in new turn.task.name ≡ boards.begun turn.signal (private_in old turn.task.name)) where
   t : ℕ
   t = turn.task.name
 
@@ -233,8 +257,7 @@ module _ {B : Type 0} (script : Script) (i : ℕ) (old new : Board) (turn begun_
   counts_new =
       ap (λ ps. told.counts_of script ps i) past
       ∙ counts_here script (past_of old) (events.Start turn.task.name i turn.how turn.signal) turn.task.name i refl refl
-      ∙ ap (λ s. told.delivery s (after_start turn.how (told.counts_of script (past_of old) i))) signal
-      ∙ ap (after_start turn.how) at.told_is.counts ∙ sym begun.counts
+      ∙ ap (λ (n : Counts). told.delivery turn.signal (after_start turn.how n)) at.told_is.counts ∙ sym begun.counts
 
   own_mark : is_user script turn.task.name ≡ true → mark script (past_of new) i ≡ Some turn.task.name
   own_mark known = mark_new ∙ ap (λ u. mark_after u turn.task.name (Starts i) (mark script (past_of old) i)) known
@@ -266,7 +289,7 @@ module _ {B : Type 0} (script : Script) (i : ℕ) (old new : Board) (turn begun_
         let ne = no_mark script (past_of new) i turn.task.name u kernel is in
         let same = begun.kernel (user ∙ kernel) in
         let held = at.processor.holds u (sym (old_mark kernel) ∙ is) (sym (start_continues.last_is u ne) ∙ last) in
-        rw (private_same old new u (keep u ne)) (record { file = given_file (private_in old u).file before bank same held.file; armed = given_armed before bank same ∙ held.armed })
+        rw (private_same old new u (ap but_signals (keep u ne))) (record { file = given_file (private_in old u).file before bank same held.file; armed = given_armed before bank same ∙ held.armed })
   ]
 
   begun_mark : (b : Bool) → is_user script turn.task.name ≡ b → new_cpu.mark ≡ mark script (past_of new) i
@@ -320,11 +343,16 @@ continues_same script t i past here home = record {
   home = home;
 }
 
-pub start_running : {B : Type 0} (script : Script) (board : Board) (i : ℕ) (turn : Turn) (cpu : Cpu B) (bank : banks.Bank) → IsRun script board → IsAt script board i (Some turn) cpu bank
+pub start_running : {B : Type 0} (script : Script) (board : Board) (i : ℕ) (turn : Turn) (cpu : Cpu B) (bank : banks.Bank) → IsRun script board → NeverIdle → IsAt script board i (Some turn) cpu bank
     → AreRunning script turn.task.name i (past_of board) bank (private_in board turn.task.name) [] (private_in board turn.task.name) turn.task cpu bank
-start_running script board i turn cpu bank run at = record {
+start_running script board i turn cpu bank run idle at = record {
   run = record { task_is = refl; follow = λ more close lines. lines };
   few = run.valid.quantum.0;
+  inside = λ on none.
+      let stage : stage_at (machine script (past_of board)).blocks turn.task.name ≡ stages.Turn i 0 = rw (sym run.script_is) at.turn.stage in
+      let handling : (task_of_state (slice_get (machine script (past_of board)).blocks turn.task.name)).handling ≡ true = rw (sym run.script_is) on in
+      let last : line_of script turn.task.name (task_of_state (slice_get (machine script (past_of board)).blocks turn.task.name)) ≡ None = ap (λ (s : Script). line_of script turn.task.name (task_of_state (slice_get (machine s (past_of board)).blocks turn.task.name))) (sym run.script_is) ∙ none in
+      handler_stands script (past_of board) turn.task.name i 0 (idle script (past_of board) turn.task.name i run.valid run.legal (ap turn_cpu stage)) stage handling last;
   turning = record {
     follows = continues_same script turn.task.name i (past_of board) at.turn.here at.turn.home;
     stage = λ _. rw (sym run.script_is) at.turn.stage;
@@ -333,7 +361,6 @@ start_running script board i turn cpu bank run at = record {
     set_up = at.processor.set_up;
     name = refl;
     on = at.turn.on;
-    outside = run.outside turn.task.name;
     flag = λ user. at.turn.flag user ∙ sym at.turn.fresh;
     mark_is = at.processor.mark_is;
     own = λ user. at.turn.own user ∙ ap (λ b. if b then None else Some turn.task.name) (sym at.turn.fresh);

@@ -1,6 +1,6 @@
 -- A command of a user task whose registers are in the bank.
-use Rattle.std.proofs.Common.{◌≡◌, ℕ, zero, suc, ◌+◌, ◌<◌, ◌^◌, false, List, [], ◌∷◌, length, Some, None, if◌then◌else◌, refl, sym, ap, ◌∙◌, inl, inr, arith}
-use Rattle.std.proofs.lemmas.Bool.{cases_Bool, cases_eq, cases_lt}
+use Rattle.std.proofs.Common.{◌≡◌, ℕ, zero, suc, ◌+◌, ◌<◌, ◌≤◌, ◌^◌, Bool, true, false, ◌&&◌, nat_le, List, [], ◌∷◌, length, Some, None, if◌then◌else◌, refl, sym, ap, ◌∙◌, inl, inr, arith}
+use Rattle.std.proofs.lemmas.Bool.{and_parts, cases_Bool, cases_eq, cases_lt, leb-true}
 use Rattle.std.proofs.lemmas.List.{get_or_past}
 use Rattle.std.proofs.Math.ListN.{length-set}
 use Rattle.std.specs.Prelude.{slice_index, slice_set as set_at}
@@ -21,9 +21,10 @@ use Rattle.xs_bank.specs.Holds.{Holds}
 use Rattle.xs_model.specs.declared.script.Command.TheVariants as commands
 use Rattle.xs_model.specs.Counts.{exec_of, is_pkru}
 use Rattle.xs_model.specs.Line.{next_line, local_after}
-use Rattle.xs_model.specs.Script.{IsCommand, IsBuiltName}
+use Rattle.xs_model.specs.Script.{IsCommand, IsBuiltName, fits_memory}
 use Rattle.xs_task.specs.declared.task.Task.{Task}
-use Rattle.xs_machine.specs.Line.{IsUserOn, after_get, after_set}
+use Rattle.xs_task.specs.Private.{private_of}
+use Rattle.xs_machine.specs.Line.{IsOn, IsUserOn, after_get, after_set}
 use Rattle.xs_machine.proofs.BuiltRegisters.{built_place, built_not_tiles, pkru_place, pkru_written, register_of, set_length, set_control}
 
 -- ---- the file after a write
@@ -138,6 +139,11 @@ next_on rows task bank private new is on =
       };
     })
 
+-- the task behind its line
+pub advanced : (user : Bool) (rows : List Row) (task : Task) (bank : banks.Bank) (p : PrivateTask) → IsOn user rows task bank p → IsOn user rows (record task { place = task.place + 1 }) bank (next_line p)
+advanced true rows task bank p on = next_on rows task bank p (record task { place = task.place + 1 }) refl on
+advanced false rows task bank p on = record { home = record { lease = on.home.lease; frame = on.home.frame; buffer = on.home.buffer; place = ap (λ n. n + 1) on.home.place }; outside = on.outside; pkru = on.pkru }
+
 -- A register of the task in the bank is set.
 module _ (rows : List Row) (task : Task) (old new : banks.Bank) (reg bytes : List ℕ) (known : IsCommand rows (commands.Set reg bytes)) (built : IsBuiltName reg) (loaded : task.need_load ≡ false)
     (after : new ≡ after_set old (place_of reg) bytes)
@@ -196,3 +202,59 @@ module _ (rows : List Row) (task : Task) (old new : banks.Bank) (reg bytes : Lis
     | inl nine ↦ rw (after, nine) (record { file = holds.file; armed = holds.armed })
     | inr other ↦ rw (after, other) (record { file = holds.file; armed = holds.armed })
   ]
+
+-- ---- the memory of the frame
+
+-- Bytes from a place on lie within so many.
+pub fits_within : (size at len : ℕ) → fits_memory size at len ≡ true → (at + len ≤ size) × (len ≤ 64)
+fits_within size at len fits =
+    let high = and_parts (nat_le 1 len && nat_le len 64) (nat_le (at + len) size) fits in
+    let low = and_parts (nat_le 1 len) (nat_le len 64) high.0 in
+    (leb-true (at + len) size high.1, leb-true len 64 low.1)
+
+-- The memory of the frame of the task in the bank has other bytes.
+module _ (rows : List Row) (task new_task : Task) (bank : banks.Bank) (at : ℕ) (bytes : List ℕ) (known : IsCommand rows (commands.Poke at bytes))
+    (others : new_task ≡ record task { frame = new_task.frame }) (written : new_task.frame.items ≡ splice at bytes task.frame.items) (len : length new_task.frame.items ≡ length task.frame.items)
+    (p : PrivateTask) (on : IsUserOn rows task bank (next_line p)) where
+  frame_was : p.frame ≡ task.frame.items
+  frame_was = ap (λ (q : PrivateTask). q.frame) on.running.form
+
+  lease_is : new_task.lease ≡ task.lease
+  lease_is = ap (λ (x : Task). x.lease) others
+
+  flag_is : new_task.need_load ≡ task.need_load
+  flag_is = ap (λ (x : Task). x.need_load) others
+
+  buffer_is : new_task.buffer.items ≡ task.buffer.items
+  buffer_is = ap (λ (x : Task). x.buffer.items) others
+
+  poked_form : local_after p (commands.Poke at bytes) ≡ private_of new_task p.file p.marks
+  poked_form =
+      ap (λ (q : PrivateTask). record q { frame = splice at bytes p.frame }) on.running.form
+      ∙ ap (λ (f : List ℕ). record (private_of task p.file p.marks) { frame = f }) (ap (splice at bytes) frame_was ∙ sym written)
+      ∙ sym (ap (λ (x : Task). private_of x p.file p.marks) others)
+
+  pub poke_on : IsUserOn rows new_task bank (local_after p (commands.Poke at bytes))
+  poke_on = record {
+    whole = record {
+      frame = len ∙ on.whole.frame;
+      buffer = ap length buffer_is ∙ on.whole.buffer;
+      some = λ none. on.whole.some (sym lease_is ∙ none);
+      area = λ lease is. on.whole.area lease (sym lease_is ∙ is);
+    };
+    ready = λ off lease is. on.ready (sym flag_is ∙ off) lease (sym lease_is ∙ is);
+    running = record {
+      valid = record {
+        file = on.running.valid.file;
+        tiles_are = on.running.valid.tiles_are;
+        frame_size = ap length (ap (splice at bytes) frame_was ∙ sym written) ∙ len ∙ on.whole.frame;
+        frame_bytes = splice_are at bytes p.frame (byte_at bytes known.1) on.running.valid.frame_bytes;
+        buffer_size = on.running.valid.buffer_size;
+        buffer_bytes = on.running.valid.buffer_bytes;
+      };
+      form = poked_form;
+      pkru = on.running.pkru;
+      saved = λ off lease is. on.running.saved (sym flag_is ∙ off) lease (sym lease_is ∙ is);
+      whole = λ off. on.running.whole (sym flag_is ∙ off);
+    };
+  }

@@ -1,10 +1,10 @@
 -- An entry of the schedule: what its turn leaves.
 use Rattle.std.proofs.Common.{◌≡◌, ℕ, Bool, true, false, List, [], ◌∷◌, ◌++◌, ◌<◌, length, reverse, Option, Some, None, slice_get, refl, sym, ap, ◌∙◌, inl, inr, subst}
-use Rattle.std.proofs.lemmas.Bool.{cases_eq, ne_eqb}
+use Rattle.std.proofs.lemmas.Bool.{ne_eqb}
 use Rattle.std.proofs.lemmas.List.{reverse-append}
 use Rattle.xs_base.specs.declared.component.Row.{Row}
 use Rattle.xs_base.specs.declared.words.How.TheVariants as hows
-use Rattle.xs_base.specs.Task.{PrivateTask, child_of, parked}
+use Rattle.xs_base.specs.Task.{PrivateTask, parked, root_task}
 use Rattle.xs_bank.specs.declared.cpu.Cpu.{Cpu}
 use Rattle.xs_bank.specs.Bank as banks
 use Rattle.xs_model.specs.declared.event.Event.{Event}
@@ -13,25 +13,27 @@ use Rattle.xs_model.specs.declared.script.Script.{Script}
 use Rattle.xs_model.specs.declared.stage.Stage.TheVariants as stages
 use Rattle.xs_model.specs.Counts as told
 use Rattle.xs_model.specs.History.{IsLegal}
-use Rattle.xs_model.specs.Laws.{HadNoTurn}
-use Rattle.xs_model.specs.Machine.{machine}
+use Rattle.xs_model.specs.Laws.{HadNoTurn, ThreadsQuiet}
+use Rattle.xs_model.specs.Runs.{NeverIdle}
+use Rattle.xs_model.specs.Machine.{IsLegalPast, machine}
 use Rattle.xs_model.specs.Note.{last}
-use Rattle.xs_model.specs.Script.{is_user}
-use Rattle.xs_model.specs.State.{BlockState, stage_of, turn_cpu, is_on_cpu}
+use Rattle.xs_model.specs.Script.{IsValid, is_user}
+use Rattle.xs_model.specs.State.{BlockState, stage_at, stage_of, turn_cpu, is_on_cpu}
 use Rattle.xs_task.specs.declared.task.Task.{Task}
 use Rattle.xs_board.specs.declared.turn.Close.{Close}
 use Rattle.xs_board.specs.declared.turn.Close.TheVariants as closes
 use Rattle.xs_board.specs.declared.turn.Entry.{Entry}
 use Rattle.xs_board.specs.declared.turn.Turn.{Turn}
-use Rattle.xs_board.specs.Board.{Board, past_of, machine_in, stage_in, private_in, private_with, private_after, private_closed, task_of_state, turn_on, KeepsOthers, KeepsOrBears, KeepsTurns}
+use Rattle.xs_board.specs.Board.{Board, past_of, machine_in, stage_in, private_in, private_with, private_after, private_closed, task_of_state, answer_in, but_signals, turn_on, KeepsOthers, KeepsOrBears, KeepsTurns}
+use Rattle.xs_board.specs.Board as boards
 use Rattle.xs_board.specs.Home.{IsHome}
 use Rattle.xs_board.specs.Taken.{is_user_how, IsTurnOf}
-use Rattle.xs_board.specs.Turn.{AreLines, task_after, task_closed, turn_events, stage_closed}
+use Rattle.xs_board.specs.Turn.{AreLines, task_after, task_closed, task_handed, turn_events, stage_closed}
 use Rattle.xs_machine.specs.Line.{KeepsCpu}
 use Rattle.xs_machine.specs.Processors.{KeepsProcessor}
 use Rattle.xs_machine.specs.Running.{IsRun, IsAt, LeavesOthers, MayBegin, Begun}
 use Rattle.xs_machine.specs.Turn.{Continues, HasLeft, SomeRunning, past_after}
-use Rattle.xs_machine.proofs.BoardLemmas.{KeepsSeen, private_same, on_cpu, came_home, leaves_others, start_continues, begun_at, start_running}
+use Rattle.xs_machine.proofs.BoardLemmas.{KeepsSeen, on_cpu, came_home, leaves_others, start_continues, begun_at, start_running}
 use Rattle.xs_machine.proofs.ScriptLemmas.{turn_known}
 use Rattle.xs_machine.proofs.Stages.{InTurn, in_turn}
 
@@ -60,23 +62,23 @@ keeps_bank {B} old new keeps = record {
 -- ---- a turn comes back
 
 -- the first of a turn's lines may run
-pub some_running : {B : Type 0} (script : Script) (board : Board) (turn : Turn) (cpu : Cpu B) (bank : banks.Bank) → IsRun script board → IsAt script board turn.cpu (Some turn) cpu bank → SomeRunning script [] turn.task cpu bank
-some_running script board turn cpu bank run at = record {
+pub some_running : {B : Type 0} (script : Script) (board : Board) (turn : Turn) (cpu : Cpu B) (bank : banks.Bank) → IsRun script board → NeverIdle → IsAt script board turn.cpu (Some turn) cpu bank → SomeRunning script [] turn.task cpu bank
+some_running script board turn cpu bank run idle at = record {
   t = turn.task.name;
   c = turn.cpu;
   first = past_of board;
   before = bank;
   start = private_in board turn.task.name;
   private = private_in board turn.task.name;
-  running = start_running script board turn.cpu turn cpu bank run at;
+  running = start_running script board turn.cpu turn cpu bank run idle at;
 }
 
 -- the block of the turn is one of the script's
 pub known_home : {B : Type 0} (script : Script) (board : Board) (turn : Turn) (cpu : Cpu B) (bank : banks.Bank) → IsRun script board → IsAt script board turn.cpu (Some turn) cpu bank
     → length (machine script (past_of board)).blocks ≡ length script.blocks → (name : ℕ) → name ≡ turn.task.name → name < length script.blocks
 known_home script board turn cpu bank run at count name is =
-    let running = start_running script board turn.cpu turn cpu bank run at in
-    let known = turn_known script (past_of board) turn.task.name turn.cpu 0 count (running.turning.stage refl) in
+    let stage : stage_at (machine script (past_of board)).blocks turn.task.name ≡ stages.Turn turn.cpu 0 = rw (sym run.script_is) at.turn.stage in
+    let known = turn_known script (past_of board) turn.task.name turn.cpu 0 count stage in
     subst (λ (u : ℕ). u < length script.blocks) (sym is) known
 
 -- a block whose stage isn't that of no block is there
@@ -84,32 +86,24 @@ block_there : (o : Option BlockState) (close : Close) → stage_of o ≡ stage_c
 block_there None closes.Quantum is = absurd (cc)
 block_there None closes.Yield is = absurd (cc)
 block_there None (closes.Outer line) is = absurd (cc)
+block_there None (closes.Refused error) is = absurd (cc)
 block_there None closes.End is = absurd (cc)
 block_there (Some block) close is = (block, refl)
 
--- what a close leaves of a private task
-closed_file : (close : Close) (p : PrivateTask) → (task_closed close p).file ≡ p.file
+-- what a close leaves of a private task is what was handed over, its place aside
+closed_file : (close : Close) (p : PrivateTask) → (task_closed close p).file ≡ (task_handed close p).file
 closed_file closes.Quantum p = refl
 closed_file closes.Yield p = refl
 closed_file (closes.Outer line) p = refl
+closed_file (closes.Refused error) p = refl
 closed_file closes.End p = refl
 
-closed_class : (close : Close) (p : PrivateTask) → (task_closed close p).large ≡ p.large
+closed_class : (close : Close) (p : PrivateTask) → (task_closed close p).large ≡ (task_handed close p).large
 closed_class closes.Quantum p = refl
 closed_class closes.Yield p = refl
 closed_class (closes.Outer line) p = refl
+closed_class (closes.Refused error) p = refl
 closed_class closes.End p = refl
-
-closed_outside : (close : Close) (p : PrivateTask) → (task_closed close p).handling ≡ p.handling
-closed_outside closes.Quantum p = refl
-closed_outside closes.Yield p = refl
-closed_outside (closes.Outer line) p = refl
-closed_outside closes.End p = refl
-
--- no handler runs in a child
-child_outside : (p : PrivateTask) → (child_of p).handling ≡ false
-unfolding child_of
-child_outside p = refl
 
 -- a turn is on one processor
 two_cpus : (d i : ℕ) → stages.Turn d 0 ≡ stages.Turn i 0 → d ≡ i
@@ -118,7 +112,7 @@ two_cpus d i same = cc
 module _ {B : Type 0} (script : Script) (old : Board) (turn : Turn) (task : Task) (cpu new_cpu : Cpu B) (bank new_bank : banks.Bank) (items : List Entry) (close : Close)
     (run : IsRun script old) (at : IsAt script old turn.cpu (Some turn) cpu bank)
     (lines : AreLines script turn.task.name (private_in old turn.task.name) 0 items close)
-    (left : HasLeft script turn.task.name turn.cpu (past_of old) (past_after turn.task.name items close (past_of old)) bank (task_after script turn.task.name (private_in old turn.task.name) items) task new_cpu new_bank) where
+    (left : HasLeft script turn.task.name turn.cpu (past_of old) (past_after turn.task.name items close (answer_in old turn.task.name close) (past_of old)) bank (task_handed close (task_after script turn.task.name (private_in old turn.task.name) items)) task new_cpu new_bank) where
   -- what the board asks of a turn that comes back
   pub stage_home : stage_in old task.name ≡ stages.Turn turn.cpu 0
   stage_home = ap (stage_in old) left.name ∙ at.turn.stage
@@ -128,41 +122,34 @@ module _ {B : Type 0} (script : Script) (old : Board) (turn : Turn) (task : Task
       subst (λ (s : Script). AreLines s task.name (private_in old task.name) 0 items close) (sym run.script_is)
       (subst (λ (u : ℕ). AreLines script u (private_in old u) 0 items close) (sym left.name) lines)
 
-  pub task_home : IsHome (is_user old.script task.name) old.script.layout task (private_after old task.name items)
+  pub task_home : IsHome (is_user old.script task.name) old.script.layout task (private_after old task.name items close)
   task_home =
-      subst (λ (s : Script). IsHome (is_user s task.name) s.layout task (parked (task_after s task.name (private_in old task.name) items))) (sym run.script_is)
-      (subst (λ (u : ℕ). IsHome (is_user script u) script.layout task (parked (task_after script u (private_in old u) items))) (sym left.name) left.home)
+      subst (λ (s : Script). IsHome (is_user s task.name) s.layout task (parked (task_handed close (task_after s task.name (private_in old task.name) items)))) (sym run.script_is)
+      (subst (λ (u : ℕ). IsHome (is_user script u) script.layout task (parked (task_handed close (task_after script u (private_in old u) items)))) (sym left.name) left.home)
 
   pub last_home : is_user old.script task.name ≡ true → task.last ≡ Some turn.cpu
   last_home user = left.last_is (ap (is_user script) (sym left.name) ∙ ap (λ (s : Script). is_user s task.name) (sym run.script_is) ∙ user)
 
-  module _ (new : Board) (script_same : new.script ≡ old.script) (history : new.history ≡ old.history ++ turn_events task.name items close) (legal : IsLegal new.script new.history)
+  module _ (new : Board) (script_same : new.script ≡ old.script) (history : new.history ≡ old.history ++ turn_events task.name items close (answer_in old task.name close)) (legal : IsLegal new.script new.history)
       (stage : stage_in new task.name ≡ stage_closed close) (private : private_in new task.name ≡ private_closed old task.name items close) (free : turn_on new turn.cpu ≡ None)
       (others : KeepsOrBears task.name (private_with old task.name items) close old new) (turns : KeepsTurns turn.cpu old new) where
     -- what the board then is
     script_new : new.script ≡ script
     script_new = script_same ∙ run.script_is
 
-    past_new : past_of new ≡ past_after turn.task.name items close (past_of old)
+    past_new : past_of new ≡ past_after turn.task.name items close (answer_in old turn.task.name close) (past_of old)
     past_new =
         ap (λ (told_events : List Event). reverse told_events) history
-        ∙ reverse-append old.history (turn_events task.name items close)
-        ∙ ap (λ (u : ℕ). reverse (turn_events u items close) ++ past_of old) left.name
+        ∙ reverse-append old.history (turn_events task.name items close (answer_in old task.name close))
+        ∙ ap (λ (u : ℕ). reverse (turn_events u items close (answer_in old u close)) ++ past_of old) left.name
 
-    left_new : HasLeft script turn.task.name turn.cpu (past_of old) (past_of new) bank (task_after script turn.task.name (private_in old turn.task.name) items) task new_cpu new_bank
-    left_new = subst (λ (past : List Event). HasLeft script turn.task.name turn.cpu (past_of old) past bank (task_after script turn.task.name (private_in old turn.task.name) items) task new_cpu new_bank) (sym past_new) left
+    left_new : HasLeft script turn.task.name turn.cpu (past_of old) (past_of new) bank (task_handed close (task_after script turn.task.name (private_in old turn.task.name) items)) task new_cpu new_bank
+    left_new = subst (λ (past : List Event). HasLeft script turn.task.name turn.cpu (past_of old) past bank (task_handed close (task_after script turn.task.name (private_in old turn.task.name) items)) task new_cpu new_bank) (sym past_new) left
 
     keep : KeepsSeen script turn.task.name old new
     keep u ne seen = elim (others u (λ e. ne (e ∙ left.name))) [
       | inl same ↦ same
       | inr born ↦ absurd (seen (subst (λ (s : Script). HadNoTurn s (past_of old) u) run.script_is born.1.fresh))
-    ]
-
-    -- no handler runs in another block
-    other_outside : (u : ℕ) → (u ≡ turn.task.name → ⊥) → (private_in new u).handling ≡ false
-    other_outside u ne = elim (others u (λ e. ne (e ∙ left.name))) [
-      | inl same ↦ ap (λ (p : PrivateTask). p.handling) (private_same old new u same) ∙ run.outside u
-      | inr born ↦ ap (λ (b : Option BlockState). (task_of_state b).handling) born.1.state ∙ child_outside (private_with old task.name items)
     ]
 
     -- the block's private task and its state
@@ -182,16 +169,12 @@ module _ {B : Type 0} (script : Script) (old : Board) (turn : Turn) (task : Task
       built = run.built;
       script_is = script_new;
       legal = subst (λ (s : Script). IsLegal s new.history) script_new legal;
-      outside = λ u. elim (cases_eq u turn.task.name) [
-        | inl same ↦ ap (λ (v : ℕ). (private_in new v).handling) same ∙ ap (λ (p : PrivateTask). p.handling) private_new ∙ closed_outside close (task_after script turn.task.name (private_in old turn.task.name) items) ∙ left.outside
-        | inr ne ↦ other_outside u ne
-      ];
     }
 
     -- the processor without its turn
     pub at_home : IsAt script new turn.cpu None new_cpu new_bank
     at_home =
-        came_home script turn.cpu turn.task.name old new (task_after script turn.task.name (private_in old turn.task.name) items) task new_cpu bank new_bank block_new.0
+        came_home script turn.cpu turn.task.name old new (task_handed close (task_after script turn.task.name (private_in old turn.task.name) items)) task new_cpu bank new_bank block_new.0
         left_new keep block_new.1
         (ap (λ (p : PrivateTask). p.file) private_new ∙ closed_file close (task_after script turn.task.name (private_in old turn.task.name) items))
         (ap (λ (p : PrivateTask). p.large) private_new ∙ closed_class close (task_after script turn.task.name (private_in old turn.task.name) items))
@@ -207,22 +190,35 @@ module _ {B : Type 0} (script : Script) (old : Board) (turn : Turn) (task : Task
 
 -- ---- a turn begins
 
+-- no handler runs in a kernel thread
+root_outside : (rows : List Row) → (root_task rows).handling ≡ false
+unfolding root_task
+root_outside rows = refl
+
+thread_outside : (script : Script) (past : List Event) (t : ℕ) → ThreadsQuiet → IsValid script → IsLegalPast script past → is_user script t ≡ false → (p : PrivateTask) → p ≡ task_of_state (slice_get (machine script past).blocks t) → p.handling ≡ false
+thread_outside script past t threads valid legal kernel p is = by_state (slice_get (machine script past).blocks t) refl is
+  where
+    by_state : (block : Option BlockState) → slice_get (machine script past).blocks t ≡ block → p ≡ task_of_state block → p.handling ≡ false
+    by_state None at is = ap (λ (q : PrivateTask). q.handling) is ∙ root_outside []
+    by_state (Some block) at is = ap (λ (q : PrivateTask). q.handling) is ∙ (threads script past t block valid legal kernel at).1
+
 -- the processor of a turn, which isn't another one
 not_there : (d i : ℕ) → (d ≡ i → ⊥) → is_on_cpu d (Some i) ≡ true → ⊥
 not_there d i other on = let off : is_on_cpu d (Some i) ≡ false = ne_eqb i d (λ e. other (sym e)) in let no : true ≡ false = sym on ∙ off in cc
 
 module _ {B : Type 0} (script : Script) (old : Board) (i : ℕ) (turn : Turn) (cpu : Cpu B) (bank : banks.Bank)
-    (run : IsRun script old) (at : IsAt script old i None cpu bank) (is : IsTurnOf old i turn) (skip : turn.how ≡ hows.Skip → (cpu.mark ≡ Some turn.task.name) × (turn.task.last ≡ Some i)) where
+    (run : IsRun script old) (threads : ThreadsQuiet) (at : IsAt script old i None cpu bank) (is : IsTurnOf old i turn) (skip : turn.how ≡ hows.Skip → (cpu.mark ≡ Some turn.task.name) × (turn.task.last ≡ Some i)) where
   -- whether it is a user task's
   user_how : is_user_how turn.how ≡ is_user script turn.task.name
   user_how = is.user ∙ ap (λ (s : Script). is_user s turn.task.name) run.script_is
 
   -- the task that the board handed out may begin
-  may_begin : MayBegin cpu.layout turn bank (private_in old turn.task.name)
+  pub may_begin : MayBegin cpu.layout turn bank (private_in old turn.task.name)
   may_begin = record {
     home =
         subst (λ (b : Bool). IsHome b cpu.layout turn.task (private_in old turn.task.name)) (sym is.user)
         (subst (λ (rows : List Row). IsHome (is_user old.script turn.task.name) rows turn.task (private_in old turn.task.name)) (ap (λ (s : Script). s.layout) run.script_is ∙ sym at.processor.layout) is.task.stands);
+    outside = λ kernel. thread_outside script (past_of old) turn.task.name threads run.valid run.legal (sym user_how ∙ kernel) (private_in old turn.task.name) (ap (λ (s : Script). task_of_state (slice_get (machine s (past_of old)).blocks turn.task.name)) run.script_is);
     held = λ skips.
         let user : is_user old.script turn.task.name ≡ true = sym is.user ∙ ap is_user_how skips in
         at.processor.holds turn.task.name (sym at.processor.mark_is ∙ (skip skips).0)
@@ -231,7 +227,7 @@ module _ {B : Type 0} (script : Script) (old : Board) (i : ℕ) (turn : Turn) (c
 
   module _ (new : Board) (begun_turn : Turn) (new_cpu : Cpu B) (new_bank : banks.Bank) (begun : Begun turn begun_turn cpu new_cpu bank new_bank)
       (script_same : new.script ≡ old.script) (history : new.history ≡ old.history ++ events.Start turn.task.name i turn.how turn.signal ∷ [])
-      (stage : stage_in new turn.task.name ≡ stages.Turn i 0) (private : private_in new turn.task.name ≡ private_in old turn.task.name) (busy : turn_on new i ≡ Some turn.task.name)
+      (stage : stage_in new turn.task.name ≡ stages.Turn i 0) (private : private_in new turn.task.name ≡ boards.begun turn.signal (private_in old turn.task.name)) (busy : turn_on new i ≡ Some turn.task.name)
       (others : KeepsOthers turn.task.name old new) (turns : KeepsTurns i old new) where
     -- the Start joins the past
     past_begun : past_of new ≡ events.Start turn.task.name i turn.how turn.signal ∷ past_of old
@@ -243,13 +239,13 @@ module _ {B : Type 0} (script : Script) (old : Board) (i : ℕ) (turn : Turn) (c
     -- the processor with its turn
     pub at_begun : IsAt script new i (Some begun_turn) new_cpu new_bank
     at_begun =
-        begun_at script i old new turn begun_turn cpu new_cpu bank new_bank here.block at past_begun is.signal user_how may_begin begun others here.is
+        begun_at script i old new turn begun_turn cpu new_cpu bank new_bank here.block at past_begun user_how may_begin begun others here.is
         (script_same ∙ run.script_is) private stage busy is.cpu_is
 
     -- nothing is told of others by the Start
     continues : Continues script turn.task.name i (past_of old) (past_of new)
     continues =
-        start_continues script i old new turn begun_turn cpu new_cpu bank new_bank here.block at past_begun is.signal user_how may_begin begun others here.is
+        start_continues script i old new turn begun_turn cpu new_cpu bank new_bank here.block at past_begun user_how may_begin begun others here.is
         (script_same ∙ run.script_is) private
 
     -- no other processor's turn is of this block, which was ready
@@ -259,4 +255,4 @@ module _ {B : Type 0} (script : Script) (old : Board) (i : ℕ) (turn : Turn) (c
         not_there d i other (ap (λ s. is_on_cpu d (turn_cpu s)) (sym stage) ∙ on)
 
     pub others_begun : (C : Type 0) → LeavesOthers C script i old new
-    others_begun C = leaves_others script i turn.task.name old new continues (λ u ne seen. others u ne) turns apart_begun C
+    others_begun C = leaves_others script i turn.task.name old new continues (λ u ne seen. ap but_signals (others u ne)) turns apart_begun C

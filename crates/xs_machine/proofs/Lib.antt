@@ -6,6 +6,7 @@ pub mod SwitchLemmas
 pub mod Histories
 pub mod Stages
 pub mod TurnLemmas
+pub mod Leaving
 pub mod ScriptLemmas
 pub mod LineLemmas
 pub mod BoardLemmas

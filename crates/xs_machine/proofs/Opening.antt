@@ -3,10 +3,9 @@ use Rattle.std.proofs.Common.{◌≡◌, ℕ, zero, suc, ◌+◌, ◌-◌, ◌<�
 use Rattle.std.specs.List.{AllByRecursion}
 use Rattle.xs_base.specs.declared.component.Row.{Row}
 use Rattle.xs_base.specs.File.{File}
-use Rattle.xs_base.specs.Task.{root_task}
 use Rattle.xs_bank.specs.Bank as banks
 use Rattle.xs_bank.specs.Bank.{counts_of}
-use Rattle.xs_board.specs.Board.{Board, past_of, machine_in, task_of_state, turn_on}
+use Rattle.xs_board.specs.Board.{Board, past_of, machine_in, turn_on}
 use Rattle.xs_board.specs.declared.turn.Turn.{Turn}
 use Rattle.xs_machine.specs.declared.proc.Proc.{Proc}
 use Rattle.xs_machine.specs.Processors.{AreSetUp, HasRun, HaveRun}
@@ -40,16 +39,6 @@ free_opening : (rows : List Row) (blocks : List Block) (c i : ℕ) → runner c 
 free_opening rows [] c i = refl
 free_opening rows (block ∷ blocks) c i = rw (off block.kind c) (free_opening rows blocks c (i + 1))
 
--- no handler runs at the opening
-root_outside : (rows : List Row) → (root_task rows).handling ≡ false
-unfolding root_task
-root_outside rows = refl
-
-opening_outside : (rows : List Row) (blocks : List Block) (t : ℕ) → (task_of_state (slice_get (map (opening_block rows) blocks) t)).handling ≡ false
-opening_outside rows [] t = root_outside []
-opening_outside rows (block ∷ blocks) zero = root_outside rows
-opening_outside rows (block ∷ blocks) (suc t) = opening_outside rows blocks t
-
 -- an empty list of turns has none at any place
 none_at : (turns : List (Option Turn)) (i : ℕ) → AllByRecursion (λ (slot : Option Turn). slot ≡ None) turns → slice_index_or turns i None ≡ None
 none_at [] i none = refl
@@ -74,7 +63,6 @@ module _ (script : Script) (board : Board) (script_is : board.script ≡ script)
     built = built;
     script_is = script_is;
     legal = subst (IsLegal script) (sym new) tt;
-    outside = λ t. ap (λ (m : Machine). (task_of_state (slice_get m.blocks t)).handling) opened ∙ opening_outside script.layout script.blocks t;
   }
 
   free_opened : (c : ℕ) → turn_on board c ≡ None

@@ -1,23 +1,34 @@
 -- What each command of a user task leaves, as one fact.
-use Rattle.std.proofs.Common.{◌≡◌, ℕ, true, false, List, Option, None, refl, sym, ap, ◌∙◌}
+use Rattle.std.proofs.Common.{◌≡◌, ℕ, ◌+◌, Bool, true, false, ◌&&◌, List, length, slice_range, Option, Some, None, refl, sym, ap, subst, ◌∙◌}
 use Rattle.xs_area.specs.declared.area.Lease.{Lease}
-use Rattle.xs_base.specs.Counts.{one_save, one_section}
-use Rattle.xs_base.specs.File.{read_place}
+use Rattle.xs_base.specs.declared.header.HeaderError.{HeaderError}
+use Rattle.xs_base.specs.Bytes.{splice}
+use Rattle.xs_base.specs.Counts.{load_if, one_load, one_save, one_section, save_if}
+use Rattle.xs_base.specs.File.{File, read_place}
+use Rattle.xs_base.specs.Frame.{Return, Refused, return_of, after_return}
 use Rattle.xs_base.specs.Register.{place_of}
 use Rattle.xs_base.specs.Task.{PrivateTask}
 use Rattle.xs_bank.specs.declared.cpu.Cpu.{Cpu}
 use Rattle.xs_bank.specs.Bank as banks
 use Rattle.xs_bank.specs.Bank.{IsReady, counts_of}
+use Rattle.xs_bank.specs.Holds.{Holds}
 use Rattle.xs_bank.specs.SetUp.{WasSetUp}
+use Rattle.xs_frame.specs.declared.image.Restored.{Restored}
+use Rattle.xs_frame.specs.declared.image.Restored.TheVariants as answers
+use Rattle.xs_frame.specs.Restored.{restored_as}
+use Rattle.xs_model.specs.declared.event.Reply.{Reply}
 use Rattle.xs_model.specs.declared.event.Reply.TheVariants as replies
+use Rattle.xs_model.specs.declared.script.Command.{Command}
 use Rattle.xs_model.specs.declared.script.Command.TheVariants as commands
-use Rattle.xs_model.specs.Line.{next_line}
-use Rattle.xs_model.specs.Script.{IsCommand, IsBuiltName}
+use Rattle.xs_model.specs.Counts.{exec_of, numbers_of}
+use Rattle.xs_model.specs.Line.{local_after, next_line, refusal, return_cause, return_reply}
+use Rattle.xs_model.specs.Note.{is_section}
+use Rattle.xs_model.specs.Script.{IsCommand, IsBuiltName, is_return}
 use Rattle.xs_switch.specs.Running.{CanSave, IsRunning}
 use Rattle.xs_task.specs.declared.task.Task.{Task}
 use Rattle.xs_task.specs.TaskArea.{IsTask}
-use Rattle.xs_machine.specs.Line.{Ran, after_get, after_set}
-use Rattle.xs_machine.proofs.Commands.{set_on, set_holds, set_rows, set_counts, read_on, read_holds, get_rows, get_counts}
+use Rattle.xs_machine.specs.Line.{IsUserOn, KeepsCpu, Ran, RanLine, WasRefused, after_get, after_set, restored_reply}
+use Rattle.xs_machine.proofs.Commands.{advanced, poke_on, set_on, set_holds, set_rows, set_counts, read_on, read_holds, get_rows, get_counts}
 
 -- A register is set.
 pub set_ran : {B : Type 0} (cpu : Cpu B) (bank : B) (task : Task) (old new : banks.Bank) (reg bytes : List ℕ)
@@ -77,3 +88,128 @@ section_ran {B} cpu new_cpu task new_task old new byte lease set_up whole task_i
       counts = λ script. counts;
       still = λ no. absurd (cc);
     }
+
+-- Bytes of the frame are read.
+pub peek_ran : {B : Type 0} (cpu : Cpu B) (task : Task) (bank : banks.Bank) (at len : ℕ) (bytes : List ℕ)
+    → WasSetUp cpu.layout bank cpu.initial → task.need_load ≡ false → bytes ≡ slice_range task.frame.items at (at + len)
+    → Ran true (commands.Peek at len) (replies.Bytes bytes) task task cpu cpu bank bank
+peek_ran cpu task bank at len bytes set_up loaded lane = record {
+  set_up = set_up;
+  cpu = refl;
+  mark = refl;
+  name = refl;
+  loaded = λ _. loaded;
+  on = λ p on. on;
+  reply_is = λ p on. ap replies.Bytes (lane ∙ ap (λ (f : List ℕ). slice_range f at (at + len)) (sym (ap (λ (q : PrivateTask). q.frame) on.running.form)));
+  holds = λ _ plain p on held. record { file = held.file; armed = held.armed };
+  counts = λ script. refl;
+  still = λ no. absurd (cc);
+}
+
+-- Bytes of the frame are written.
+pub poke_ran : {B : Type 0} (cpu : Cpu B) (task new_task : Task) (bank : banks.Bank) (at : ℕ) (bytes : List ℕ)
+    → WasSetUp cpu.layout bank cpu.initial → IsCommand cpu.layout (commands.Poke at bytes) → task.need_load ≡ false
+    → new_task ≡ record task { frame = new_task.frame } → new_task.frame.items ≡ splice at bytes task.frame.items → length new_task.frame.items ≡ length task.frame.items
+    → Ran true (commands.Poke at bytes) replies.Done task new_task cpu cpu bank bank
+poke_ran cpu task new_task bank at bytes set_up known loaded others written len = record {
+  set_up = set_up;
+  cpu = refl;
+  mark = refl;
+  name = ap (λ (x : Task). x.name) others;
+  loaded = λ _. ap (λ (x : Task). x.need_load) others ∙ loaded;
+  on = λ p on. poke_on cpu.layout task new_task bank at bytes known others written len p on;
+  reply_is = λ p on. refl;
+  holds = λ _ plain p on held. record { file = held.file; armed = held.armed };
+  counts = λ script. refl;
+  still = λ no. absurd (cc);
+}
+
+-- ---- a line
+
+no_refusal : (p : PrivateTask) (command : Command) → is_return command ≡ false → refusal p command ≡ None
+no_refusal p commands.Sigreturn stays = absurd (cc)
+no_refusal p other stays = refl
+
+-- A line that is no return, whose command ran behind it.
+pub behind_ran : {B : Type 0} (user : Bool) (command : Command) (reply : Reply) (task new_task : Task) (cpu new_cpu : Cpu B) (old new : banks.Bank) → is_return command ≡ false
+    → Ran user command reply (record task { place = task.place + 1 }) new_task cpu new_cpu old new → RanLine user command reply task new_task cpu new_cpu old new
+behind_ran user command reply task new_task cpu new_cpu old new stays ran = record {
+  set_up = ran.set_up;
+  cpu = ran.cpu;
+  mark = ran.mark;
+  name = ran.name;
+  loaded = ran.loaded;
+  on = λ p on. ran.on p (advanced user cpu.layout task old p on);
+  whole = λ p on. no_refusal p command stays;
+  reply_is = λ p on. ran.reply_is p (advanced user cpu.layout task old p on);
+  holds = λ known plain p on held. ran.holds known plain p (advanced user cpu.layout task old p on) held;
+  counts = λ script. ran.counts script ∙ ap (λ b. exec_of (numbers_of script (Some command) reply) (save_if (user && is_section (Some command)) (load_if b (counts_of old)))) (sym stays);
+  still = ran.still;
+}
+
+-- ---- a return from a handler
+
+pub return_line : (command : Command) → is_return command ≡ true → command ≡ commands.Sigreturn
+return_line commands.Sigreturn returns = refl
+return_line other returns = absurd (cc)
+
+back_is : (p : PrivateTask) → p.handling ≡ true → local_after p commands.Sigreturn ≡ after_return p (return_of p)
+back_is p inside = rw inside refl
+
+no_cause : (restored : Restored) (file : File) → return_cause (restored_as restored file) ≡ None
+no_cause answers.Full file = refl
+no_cause answers.LegacyOnly file = refl
+
+same_reply : (restored : Restored) (file : File) → restored_reply restored ≡ return_reply (restored_as restored file)
+same_reply answers.Full file = refl
+same_reply answers.LegacyOnly file = refl
+
+module _ {B : Type 0} (cpu new_cpu : Cpu B) (task new_task : Task) (old new : banks.Bank) (inside : task.handling ≡ true) (set_up : WasSetUp new_cpu.layout new new_cpu.initial) (whole : IsTask new_cpu.layout new_task)
+    (name : new_task.name ≡ task.name) (loaded : new_task.need_load ≡ false) (cpu_is : new_cpu ≡ record cpu { bank = new_cpu.bank }) (ready : CanSave new_cpu.layout new_task new)
+    (running : (p : PrivateTask) → IsRunning cpu.layout task old p → IsRunning new_cpu.layout new_task new (after_return p (return_of p)))
+    (holds : (p : PrivateTask) → IsRunning cpu.layout task old p → Holds new (after_return p (return_of p)))
+    (counts : counts_of new ≡ one_load (counts_of old)) where
+  layout : new_cpu.layout ≡ cpu.layout
+  layout = ap (λ (x : Cpu B). x.layout) cpu_is
+
+  mark : new_cpu.mark ≡ cpu.mark
+  mark = ap (λ (x : Cpu B). x.mark) cpu_is
+
+  keeps : KeepsCpu cpu new_cpu
+  keeps = cpu_is ∙ ap (λ (m : Option ℕ). record cpu { bank = new_cpu.bank; mark = m }) (sym mark)
+
+  -- what the return leaves
+  on_return : (p : PrivateTask) → IsUserOn cpu.layout task old p → IsUserOn cpu.layout new_task new (after_return p (return_of p))
+  on_return p on = record { whole = rw layout at whole; ready = rw layout at ready; running = rw layout at (running p on.running) }
+
+  handles : (p : PrivateTask) → IsUserOn cpu.layout task old p → p.handling ≡ true
+  handles p on = ap (λ (q : PrivateTask). q.handling) on.running.form ∙ inside
+
+  pub return_ran : (restored : Restored) → ((p : PrivateTask) → IsRunning cpu.layout task old p → return_of p ≡ restored_as restored new.file) → RanLine true commands.Sigreturn (restored_reply restored) task new_task cpu new_cpu old new
+  return_ran restored answer = record {
+    set_up = rw layout at set_up;
+    cpu = keeps;
+    mark = mark;
+    name = name;
+    loaded = λ _. loaded;
+    on = λ p on. subst (IsUserOn cpu.layout new_task new) (sym (back_is p (handles p on))) (on_return p on);
+    whole = λ p on. ap return_cause (answer p on.running) ∙ no_cause restored new.file;
+    reply_is = λ p on. same_reply restored new.file ∙ ap return_reply (sym (answer p on.running));
+    holds = λ _ plain p on held. subst (Holds new) (sym (back_is p (handles p on))) (holds p on.running);
+    counts = λ script. counts;
+    still = λ no. absurd (cc);
+  }
+
+  pub return_refused : (error : HeaderError) → ((p : PrivateTask) → IsRunning cpu.layout task old p → return_of p ≡ Refused error) → WasRefused true commands.Sigreturn error task new_task cpu new_cpu old new
+  return_refused error answer = record {
+    known = refl;
+    set_up = rw layout at set_up;
+    cpu = keeps;
+    mark = mark;
+    name = name;
+    loaded = loaded;
+    on = λ p on. subst (λ (r : Return). IsUserOn cpu.layout new_task new (after_return p r)) (answer p on.running) (on_return p on);
+    why = λ p on. ap return_cause (answer p on.running);
+    holds = λ p on. subst (λ (r : Return). Holds new (after_return p r)) (answer p on.running) (holds p on.running);
+    counts = counts;
+  }

@@ -1,11 +1,13 @@
 -- The lines of a script that is valid and built.
-use Rattle.std.proofs.Common.{◌≡◌, ℕ, zero, suc, ◌+◌, ◌<◌, ◌^◌, Bool, true, false, not, ◌&&◌, ◌==◌, List, [], ◌∷◌, ◌++◌, length, map, Option, Some, None, slice_get, refl, sym, subst, arith}
+use Rattle.std.proofs.Common.{◌≡◌, ℕ, zero, suc, ◌+◌, ◌<◌, ◌^◌, Bool, true, false, not, ◌&&◌, ◌==◌, nat_lt, List, [], ◌∷◌, ◌++◌, length, map, Option, Some, None, if◌then◌else◌, slice_get, refl, sym, ap, ◌∙◌, subst, arith}
 use Rattle.std.proofs.lemmas.Bool.{and_parts, ne_eqb}
 use Rattle.std.specs.List.{list_all, AllByRecursion}
+use Rattle.xs_base.specs.Frame.{Return, Full, LegacyOnly, Refused, return_of, after_return}
 use Rattle.xs_base.specs.Layout.{has_row}
 use Rattle.xs_base.specs.Register.{place_of}
 use Rattle.xs_base.specs.Task.{PrivateTask}
 use Rattle.xs_model.specs.declared.event.Event.{Event}
+use Rattle.xs_model.specs.declared.event.Event.TheVariants as events
 use Rattle.xs_model.specs.declared.script.Block.{Block}
 use Rattle.xs_model.specs.declared.script.BlockKind.{BlockKind}
 use Rattle.xs_model.specs.declared.script.BlockKind.TheVariants as kinds
@@ -14,14 +16,16 @@ use Rattle.xs_model.specs.declared.script.Command.TheVariants as commands
 use Rattle.xs_model.specs.declared.script.Order.{Order}
 use Rattle.xs_model.specs.declared.script.Script.{Script}
 use Rattle.xs_model.specs.declared.stage.Stage.TheVariants as stages
-use Rattle.xs_model.specs.Line.{line_at, traps, refusal}
+use Rattle.xs_model.specs.Due.{block_event, due, place_event}
+use Rattle.xs_model.specs.Line.{line_at, local_after, next_line, return_cause, traps, refusal}
 use Rattle.xs_model.specs.Machine.{machine}
-use Rattle.xs_model.specs.Script.{AreRising, order_numbers, IsBody, IsValid, IsBuilt, IsCommand, IsBuiltCommand, fits_kind, is_fork, is_kernel_command, is_outer, is_user, is_user_kind}
-use Rattle.xs_model.specs.State.{stage_at}
+use Rattle.xs_model.specs.Script.{AreBuilt, AreRising, order_numbers, IsBody, IsValid, IsBuilt, IsCommand, IsBuiltCommand, fits_kind, is_handler, is_handler_from, is_kernel_command, is_outer, is_return, is_user, is_user_kind}
+use Rattle.xs_model.specs.State.{BlockState, Machine, stage_at, stage_of}
+use Rattle.xs_board.specs.Board.{task_of_state}
 use Rattle.xs_board.specs.Turn.{line_of, line_in}
 use Rattle.xs_machine.proofs.BuiltRegisters.{built_place, built_not_config, built_not_tiles}
 use Rattle.xs_machine.proofs.Histories.{and_no}
-use Rattle.xs_machine.proofs.Stages.{in_turn}
+use Rattle.xs_machine.proofs.Stages.{in_turn, script_stays}
 
 -- ---- lists
 
@@ -63,10 +67,27 @@ block_rising last (first ∷ blocks) (suc t) lines rising at =
     block_rising rest.0 blocks t lines rest.1 at
 
 -- a line's number is above its place
-above : (last : ℕ) (orders more : List Order) (i : ℕ) (order : Order) → AreRising last (numbers (orders ++ more)) → slice_get orders i ≡ Some order → last + i < order.number
-above last [] more i order rising at = absurd (cc)
-above last (first ∷ orders) more zero order rising at = let same : first ≡ order = cc in subst (λ (o : Order). last + 0 < o.number) same (omega (arith, rising.0))
-above last (first ∷ orders) more (suc i) order rising at = let beyond = above first.number orders more i order rising.1 at in let here : last < first.number = rising.0 in omega arith
+above : (last : ℕ) (orders : List Order) (i : ℕ) (order : Order) → AreRising last (numbers orders) → slice_get orders i ≡ Some order → last + i < order.number
+above last [] i order rising at = absurd (cc)
+above last (first ∷ orders) zero order rising at = let same : first ≡ order = cc in subst (λ (o : Order). last + 0 < o.number) same (omega (arith, rising.0))
+above last (first ∷ orders) (suc i) order rising at = let beyond = above first.number orders i order rising.1 at in let here : last < first.number = rising.0 in omega arith
+
+-- and so it is above its place in the handler, whose lines are behind those of the body
+in_first : (orders more : List Order) (i : ℕ) (order : Order) → slice_get orders i ≡ Some order → slice_get (orders ++ more) i ≡ Some order
+in_first [] more i order at = absurd (cc)
+in_first (first ∷ orders) more zero order at = at
+in_first (first ∷ orders) more (suc i) order at = in_first orders more i order at
+
+behind : (last : ℕ) (orders more : List Order) → AreRising last (numbers (orders ++ more)) → (l : ℕ) × AreRising l (numbers more)
+behind last [] more rising = (last, rising)
+behind last (first ∷ orders) more rising = behind first.number orders more rising.1
+
+low_place : (last : ℕ) (lines : Block) (p : PrivateTask) (order : Order) → AreRising last (numbers (lines.body ++ lines.handler)) → line_at lines p ≡ Some order → p.place < order.number
+low_place last lines p order rising at = by_lines p.handling at
+  where
+    by_lines : (h : Bool) → slice_get (if h then lines.handler else lines.body) p.place ≡ Some order → p.place < order.number
+    by_lines true at = let l = behind last lines.body lines.handler rising in let high = above l.0 lines.handler p.place order l.1 at in omega arith
+    by_lines false at = let high = above last (lines.body ++ lines.handler) p.place order rising (in_first lines.body lines.handler p.place order at) in omega arith
 
 -- ---- a block that is in a turn is one of the script's
 
@@ -90,68 +111,114 @@ line_found script t p order is = go (slice_get script.blocks t) refl is
     go None known at = absurd (cc)
     go (Some lines) known at = record { lines = lines; known = known; at = at }
 
-in_body : (lines : Block) (p : PrivateTask) (order : Order) → p.handling ≡ false → line_at lines p ≡ Some order → slice_get lines.body p.place ≡ Some order
-in_body lines p order outside at = rw outside at at
+-- ---- the lines of a handler
+
+handler_from : (first : Order) (orders : List Order) (i : ℕ) (order : Order) → is_handler_from first orders ≡ true → slice_get (first ∷ orders) i ≡ Some order → is_return order.command ≡ false → slice_get (first ∷ orders) (suc i) ≡ None → ⊥
+handler_from first [] zero order returns at stays none = let same : first ≡ order = cc in let no : true ≡ false = sym returns ∙ ap (λ (o : Order). is_return o.command) same ∙ stays in absurd (cc no)
+handler_from first [] (suc i) order returns at stays none = absurd (cc)
+handler_from first (next ∷ orders) zero order returns at stays none = absurd (cc)
+handler_from first (next ∷ orders) (suc i) order returns at stays none = handler_from next orders i order (and_parts (not (is_outer first.command) && not (is_return first.command)) (is_handler_from next orders) returns).1 at stays none
+
+handler_follows : (handler : List Order) (i : ℕ) (order : Order) → is_handler handler ≡ true → slice_get handler i ≡ Some order → is_return order.command ≡ false → slice_get handler (i + 1) ≡ None → ⊥
+handler_follows [] i order returns at stays none = absurd (cc)
+handler_follows (first ∷ orders) i order returns at stays none =
+    let next : i + 1 ≡ suc i = omega arith in
+    handler_from first orders i order returns at stays (subst (λ (n : ℕ). slice_get (first ∷ orders) n ≡ None) next none)
+
+-- A line after which a handler runs is one of it, and no return.
+record StaysInside (p : PrivateTask) (command : Command) : Type 0 where
+  inside : p.handling ≡ true
+  stays : is_return command ≡ false
+  place : (local_after p command).place ≡ p.place + 1
+
+over_return : (p : PrivateTask) (h : Bool) → p.handling ≡ h → (r : Return) → return_cause r ≡ None → (if h then after_return p r else next_line p).handling ≡ true → ⊥
+over_return p true is (Full file) whole on = cc on
+over_return p true is (LegacyOnly file) whole on = cc on
+over_return p true is (Refused error) whole on = cc whole
+over_return p false is r whole on = let no : true ≡ false = sym on ∙ is in cc no
+
+stays_inside : (p : PrivateTask) (command : Command) → IsBuiltCommand command → refusal p command ≡ None → (local_after p command).handling ≡ true → StaysInside p command
+stays_inside p (commands.Set reg bytes) built whole on = record { inside = on; stays = refl; place = refl }
+stays_inside p (commands.Get reg) built whole on = record { inside = on; stays = refl; place = refl }
+stays_inside p (commands.Ksec byte) built whole on = record { inside = on; stays = refl; place = refl }
+stays_inside p commands.Yield built whole on = record { inside = on; stays = refl; place = refl }
+stays_inside p (commands.Peek at len) built whole on = record { inside = on; stays = refl; place = refl }
+stays_inside p (commands.Poke at bytes) built whole on = record { inside = on; stays = refl; place = refl }
+stays_inside p commands.Sigreturn built whole on = absurd (over_return p p.handling refl (return_of p) whole on)
+stays_inside p (commands.Fork name) built whole on = record { inside = on; stays = refl; place = refl }
+stays_inside p (commands.Kill name signo) built whole on = record { inside = on; stays = refl; place = refl }
+stays_inside p other built whole on = absurd built
+
+-- The handler of a block in a turn has a line at the task's place, since the block has a next event.
+handler_due : (m : Machine) (t c ran : ℕ) (block : Option BlockState) (lines : Option Block) (event : Event) → block_event m t block lines ≡ Some event → stage_of block ≡ stages.Turn c ran
+    → (task_of_state block).handling ≡ true → line_in lines (task_of_state block) ≡ None → ⊥
+handler_due m t c ran None lines event is stage on none = cc is
+handler_due m t c ran (Some block) None event is stage on none = cc is
+handler_due m t c ran (Some block) (Some lines) event is stage on none =
+    let placed : place_event m t ran block.task (line_at lines block.task) ≡ Some event = rw stage at is in
+    let over : place_event m t ran block.task None ≡ Some event = ap (place_event m t ran block.task) (sym none) ∙ placed in
+    let no : None ≡ Some event = sym (ap (λ (b : Bool). if nat_lt ran m.script.quantum && not b then Some (events.End t) else None) on ∙ ap (λ (b : Bool). if b then Some (events.End t) else None) (and_no (nat_lt ran m.script.quantum))) ∙ over in
+    cc no
+
+pub handler_stands : (script : Script) (past : List Event) (t c ran : ℕ) → ((event : Event) × (due (machine script past) t ≡ Some event)) → stage_at (machine script past).blocks t ≡ stages.Turn c ran
+    → (task_of_state (slice_get (machine script past).blocks t)).handling ≡ true → line_of script t (task_of_state (slice_get (machine script past).blocks t)) ≡ None → ⊥
+handler_stands script past t c ran next stage on none =
+    handler_due (machine script past) t c ran (slice_get (machine script past).blocks t) (slice_get (machine script past).script.blocks t) next.0 next.1 stage on
+    (ap (λ (s : Script). line_of s t (task_of_state (slice_get (machine script past).blocks t))) (script_stays script past) ∙ none)
+
+-- ---- the line at a task's place
 
 kernel_body : (kind : BlockKind) (body handler : List Order) → fits_kind kind body handler ≡ true → is_user_kind kind ≡ false → list_all (λ (order : Order). is_kernel_command order.command) body ≡ true
 kernel_body kinds.Task body handler fits user = absurd (cc)
 kernel_body kinds.Child body handler fits user = absurd (cc)
 kernel_body kinds.Kthread body handler fits user = (and_parts (list_all (λ (order : Order). is_kernel_command order.command) body) (length handler == 0) fits).0
 
-module _ (script : Script) (valid : IsValid script) (built : IsBuilt script) (t : ℕ) (p : PrivateTask) (order : Order) (outside : p.handling ≡ false) (is : line_of script t p ≡ Some order) where
-  body_at : slice_get (line_found script t p order is).lines.body p.place ≡ Some order
-  body_at = in_body (line_found script t p order is).lines p order outside (line_found script t p order is).at
+-- what holds of all lines of a block holds of the one at the task's place
+line_all : (P : Order → Type 0) (lines : Block) (p : PrivateTask) (order : Order) → AllByRecursion P lines.body → AllByRecursion P lines.handler → line_at lines p ≡ Some order → P order
+line_all P lines p order body handler at = by_lines p.handling at
+  where
+    by_lines : (h : Bool) → slice_get (if h then lines.handler else lines.body) p.place ≡ Some order → P order
+    by_lines true at = all_at P lines.handler p.place order handler at
+    by_lines false at = all_at P lines.body p.place order body at
 
+module _ (script : Script) (valid : IsValid script) (built : IsBuilt script) (t : ℕ) (p : PrivateTask) (order : Order) (is : line_of script t p ≡ Some order) where
   fits : IsBody script.layout (line_found script t p order is).lines
   fits = all_at (λ (block : Block). IsBody script.layout block) script.blocks t (line_found script t p order is).lines valid.bodies (line_found script t p order is).known
 
   pub known_line : IsCommand script.layout order.command
-  known_line = all_at (λ (o : Order). IsCommand script.layout o.command) (line_found script t p order is).lines.body p.place order fits.body body_at
+  known_line = line_all (λ (o : Order). IsCommand script.layout o.command) (line_found script t p order is).lines p order fits.body fits.handler (line_found script t p order is).at
 
   pub built_line : IsBuiltCommand order.command
   built_line =
-      let here = all_at (λ (block : Block). AllByRecursion (λ (o : Order). IsBuiltCommand o.command) block.body) script.blocks t (line_found script t p order is).lines built.commands (line_found script t p order is).known in
-      all_at (λ (o : Order). IsBuiltCommand o.command) (line_found script t p order is).lines.body p.place order here body_at
+      let body = all_at (λ (block : Block). AreBuilt block.body) script.blocks t (line_found script t p order is).lines built.bodies (line_found script t p order is).known in
+      let handler = all_at (λ (block : Block). AreBuilt block.handler) script.blocks t (line_found script t p order is).lines built.handlers (line_found script t p order is).known in
+      line_all (λ (o : Order). IsBuiltCommand o.command) (line_found script t p order is).lines p order body handler (line_found script t p order is).at
 
-  pub kernel_line : is_user script t ≡ false → is_kernel_command order.command ≡ true
-  kernel_line kernel =
+  pub kernel_line : p.handling ≡ false → is_user script t ≡ false → is_kernel_command order.command ≡ true
+  kernel_line outside kernel =
       let user : is_user_kind (line_found script t p order is).lines.kind ≡ false = rw (line_found script t p order is).known at kernel in
-      list_at (λ (o : Order). is_kernel_command o.command) (line_found script t p order is).lines.body p.place order (kernel_body (line_found script t p order is).lines.kind (line_found script t p order is).lines.body (line_found script t p order is).lines.handler fits.kind user) body_at
+      let at = sym (ap (λ (h : Bool). slice_get (if h then (line_found script t p order is).lines.handler else (line_found script t p order is).lines.body) p.place) outside) ∙ (line_found script t p order is).at in
+      list_at (λ (o : Order). is_kernel_command o.command) (line_found script t p order is).lines.body p.place order (kernel_body (line_found script t p order is).lines.kind (line_found script t p order is).lines.body (line_found script t p order is).lines.handler fits.kind user) at
 
   pub place_fits : p.place + 1 < 2 ^ 32
   place_fits =
       let rising = block_rising 0 script.blocks t (line_found script t p order is).lines valid.rising (line_found script t p order is).known in
-      let high = above rising.0 (line_found script t p order is).lines.body (line_found script t p order is).lines.handler p.place order rising.1 body_at in
+      let high = low_place rising.0 (line_found script t p order is).lines p order rising.1 (line_found script t p order is).at in
       let small : order.number < 2 ^ 32 = order.in_range in
       omega arith
 
--- a line that forks names whom
-pub forked_name : (command : Command) → is_fork command ≡ true → (name : List ℕ) × (command ≡ commands.Fork name)
-forked_name (commands.Fork name) forks = (name, refl)
-forked_name other forks = absurd (cc)
+  -- While a handler runs, a line follows each of its lines but the return.
+  pub line_follows : refusal p order.command ≡ None → (local_after p order.command).handling ≡ true → line_of script t (local_after p order.command) ≡ None → ⊥
+  line_follows whole inside none =
+      let moved = stays_inside p order.command built_line whole inside in
+      let at = sym (ap (λ (h : Bool). slice_get (if h then (line_found script t p order is).lines.handler else (line_found script t p order is).lines.body) p.place) moved.inside) ∙ (line_found script t p order is).at in
+      let last : line_in (Some (line_found script t p order is).lines) (local_after p order.command) ≡ None = rw (line_found script t p order is).known at none in
+      let next : slice_get (line_found script t p order is).lines.handler (local_after p order.command).place ≡ None = rw inside at last in
+      handler_follows (line_found script t p order is).lines.handler p.place order fits.returns at moved.stays (ap (slice_get (line_found script t p order is).lines.handler) (sym moved.place) ∙ next)
 
--- ---- a built line that forks nobody runs in its own task
-
-pub built_inner : (command : Command) → IsBuiltCommand command → is_fork command ≡ false → is_outer command ≡ false
-built_inner (commands.Set reg bytes) built here = refl
-built_inner (commands.Get reg) built here = refl
-built_inner (commands.Ksec byte) built here = refl
-built_inner commands.Yield built here = refl
-built_inner (commands.Fork name) built here = absurd (cc)
-built_inner other built here = absurd built
-
-pub built_whole : (p : PrivateTask) (command : Command) → IsBuiltCommand command → refusal p command ≡ None
-built_whole p (commands.Set reg bytes) built = refl
-built_whole p (commands.Get reg) built = refl
-built_whole p (commands.Ksec byte) built = refl
-built_whole p commands.Yield built = refl
-built_whole p (commands.Fork name) built = refl
-built_whole p other built = absurd built
+-- ---- a built local line runs in its own task
 
 pub built_free : (p : PrivateTask) (command : Command) → IsBuiltCommand command → traps p command ≡ false
 built_free p (commands.Set reg bytes) built = rw (ne_eqb (place_of reg).comp.0 18 (built_not_tiles (place_of reg) (built_place reg built)), ne_eqb (place_of reg).comp.0 17 (built_not_config (place_of reg) (built_place reg built))) (and_no (has_row p.file.rows 18 && not p.large))
 built_free p (commands.Get reg) built = rw (ne_eqb (place_of reg).comp.0 18 (built_not_tiles (place_of reg) (built_place reg built))) (and_no (has_row p.file.rows 18 && not p.large))
-built_free p (commands.Ksec byte) built = refl
-built_free p commands.Yield built = refl
-built_free p (commands.Fork name) built = refl
-built_free p other built = absurd built
+built_free p other built = refl

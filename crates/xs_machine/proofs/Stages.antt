@@ -2,15 +2,19 @@
 use Rattle.std.proofs.Common.{◌≡◌, ℕ, zero, suc, ◌+◌, Bool, true, false, not, List, [], ◌∷◌, map, slice_get, Option, Some, None, if◌then◌else◌, is_none, refl, ap, ◌∙◌}
 use Rattle.xs_model.specs.declared.event.Event.{Event}
 use Rattle.xs_model.specs.declared.event.Event.TheVariants as events
+use Rattle.xs_base.specs.declared.words.Signo.{Signo}
 use Rattle.xs_model.specs.declared.event.Reply.{Reply}
+use Rattle.xs_model.specs.declared.event.Why.{Why}
 use Rattle.xs_model.specs.declared.script.Command.{Command}
 use Rattle.xs_model.specs.declared.script.Command.TheVariants as commands
 use Rattle.xs_model.specs.declared.script.Script.{Script}
 use Rattle.xs_model.specs.declared.stage.Stage.TheVariants.{Ready, Turn}
 use Rattle.xs_model.specs.Counts.{ends_turn}
+use Rattle.xs_model.specs.Line.{killed}
 use Rattle.xs_model.specs.Machine.{machine, goes_on, own, reach, ran_line, ended_with}
-use Rattle.xs_model.specs.Outer.{born, freed}
-use Rattle.xs_model.specs.Script.{block_named, command_at}
+use Rattle.xs_model.specs.Note.{Plain, is_count, set_act, set_target}
+use Rattle.xs_model.specs.Outer.{born, freed, outer_own, outer_reach, signalled}
+use Rattle.xs_model.specs.Script.{IsBuiltCommand, block_named, command_at, is_outer}
 use Rattle.xs_model.specs.State.{BlockState, changed, stage_of, stage_at, turn_cpu}
 
 -- ---- lists
@@ -74,15 +78,61 @@ module _ (script : Script) (past : List Event) (t c ran line : ℕ) (reply : Rep
       by_going true = refl
       by_going false = refl
 
--- after the end of its body it isn't
+-- after the end of its body it isn't, and neither is it after a kill
 pub end_ends : (script : Script) (past : List Event) (t c ran : ℕ) → stage_at (machine script past).blocks t ≡ Turn c ran → ends_turn script past (events.End t) ≡ true
 end_ends script past t c ran turn =
     let b = in_turn (machine script past).blocks t c ran turn in
     rw (changed_here t (λ (block : BlockState). ended_with block.task block) (map (freed t) (machine script past).blocks) (freed t b.block) (mapped_here t (freed t) (machine script past).blocks b.block b.is)) refl
 
--- and neither is it after a fork
-pub fork_ends : (script : Script) (past : List Event) (t c ran line : ℕ) (reply : Reply) (name : List ℕ) → command_at script t line ≡ Some (commands.Fork name) → stage_at (machine script past).blocks t ≡ Turn c ran → ends_turn script past (events.Outer t line reply) ≡ true
-fork_ends script past t c ran line reply name found turn = ap (λ s. is_none (turn_cpu s)) after_fork
+pub kill_ends : (script : Script) (past : List Event) (t c ran : ℕ) (signo : Signo) (why : Why) → stage_at (machine script past).blocks t ≡ Turn c ran → ends_turn script past (events.Kill t signo why) ≡ true
+kill_ends script past t c ran signo why turn =
+    let b = in_turn (machine script past).blocks t c ran turn in
+    rw (changed_here t (λ (block : BlockState). ended_with (killed why block.task) block) (map (freed t) (machine script past).blocks) (freed t b.block) (mapped_here t (freed t) (machine script past).blocks b.block b.is)) refl
+
+-- ---- outer lines
+
+-- an outer line that the program has: a fork or a `kill`
+pub data IsSent (command : Command) : Type 0 where
+  Forks : (name : List ℕ) → command ≡ commands.Fork name → IsSent command
+  Kills : (name : List ℕ) (signo : Signo) → command ≡ commands.Kill name signo → IsSent command
+
+pub sent_line : (command : Command) → IsBuiltCommand command → is_outer command ≡ true → IsSent command
+sent_line (commands.Fork name) built outer = Forks name refl
+sent_line (commands.Kill name signo) built outer = Kills name signo refl
+sent_line (commands.Set reg bytes) built outer = absurd (cc)
+sent_line (commands.Get reg) built outer = absurd (cc)
+sent_line (commands.Ksec byte) built outer = absurd (cc)
+sent_line commands.Yield built outer = absurd (cc)
+sent_line (commands.Peek at len) built outer = absurd (cc)
+sent_line (commands.Poke at bytes) built outer = absurd (cc)
+sent_line commands.Sigreturn built outer = absurd (cc)
+sent_line other built outer = absurd built
+
+-- it sets no registers
+pub sent_plain : (script : Script) (command : Command) (accepted : Bool) → IsSent command → set_act (set_target script (Some command)) accepted ≡ Plain
+sent_plain script command accepted (Forks name is) = rw is refl
+sent_plain script command accepted (Kills name signo is) = rw is refl
+
+-- it leaves its own block ready
+sent_ready : (script : Script) (command : Command) (reply : Reply) (block : BlockState) → IsSent command → (outer_own script (Some command) reply block).stage ≡ Ready
+sent_ready script command reply block (Forks name is) = rw is refl
+sent_ready script command reply block (Kills name signo is) = rw is refl
+
+-- and the block is there still
+signal_there : (accepted : Bool) (i t : ℕ) (f : BlockState → BlockState) (blocks : List BlockState) (block : BlockState) → slice_get blocks t ≡ Some block
+    → (new : BlockState) × (slice_get (if accepted then changed i f blocks else blocks) t ≡ Some new)
+signal_there true i t f blocks block is = changed_some i t f blocks block is
+signal_there false i t f blocks block is = (block, is)
+
+sent_there : (script : Script) (t : ℕ) (command : Command) (reply : Reply) (blocks : List BlockState) (block : BlockState) → IsSent command → slice_get blocks t ≡ Some block
+    → (new : BlockState) × (slice_get (outer_reach script t (Some command) reply blocks) t ≡ Some new)
+sent_there script t command reply blocks block (Forks name is) here = rw is (changed_some (block_named script name) t (born t (slice_get blocks t)) blocks block here)
+sent_there script t command reply blocks block (Kills name signo is) here = rw is (signal_there (is_count reply) (block_named script name) t (signalled signo) blocks block here)
+
+-- after it the block isn't in its turn
+pub outer_ends : (script : Script) (past : List Event) (t c ran line : ℕ) (reply : Reply) (command : Command) → command_at script t line ≡ Some command → IsSent command
+    → stage_at (machine script past).blocks t ≡ Turn c ran → ends_turn script past (events.Outer t line reply) ≡ true
+outer_ends script past t c ran line reply command found sent turn = ap (λ s. is_none (turn_cpu s)) after_outer
   where
     blocks : List BlockState
     blocks = reach (machine script past).script (events.Outer t line reply) (machine script past).blocks
@@ -90,8 +140,7 @@ fork_ends script past t c ran line reply name found turn = ap (λ s. is_none (tu
     reached : (block : BlockState) × (slice_get blocks t ≡ Some block)
     reached =
         let b = in_turn (machine script past).blocks t c ran turn in
-        let there = changed_some (block_named script name) t (born t (slice_get (machine script past).blocks t)) (machine script past).blocks b.block b.is in
-        rw (script_stays script past, found) there
+        rw (script_stays script past, found) (sent_there script t command reply (machine script past).blocks b.block sent b.is)
 
-    after_fork : stage_at (machine script (events.Outer t line reply ∷ past)).blocks t ≡ Ready
-    after_fork = ap stage_of (changed_here t (own (machine script past).script (events.Outer t line reply)) blocks reached.0 reached.1) ∙ rw (script_stays script past, found) refl
+    after_outer : stage_at (machine script (events.Outer t line reply ∷ past)).blocks t ≡ Ready
+    after_outer = ap stage_of (changed_here t (own (machine script past).script (events.Outer t line reply)) blocks reached.0 reached.1) ∙ rw (script_stays script past, found) (sent_ready script command reply reached.0 sent)

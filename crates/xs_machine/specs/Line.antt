@@ -3,21 +3,27 @@ use Rattle.std.specs.Prelude.{◌≡◌, ℕ, Bool, true, false, ◌&&◌, List,
 use Rattle.std.specs.Int.{from_le_bytes, w32}
 use Rattle.xs_base.specs.declared.component.Place.{Place}
 use Rattle.xs_base.specs.declared.component.Row.{Row}
-use Rattle.xs_base.specs.Counts.{load_if, save_if}
+use Rattle.xs_base.specs.declared.header.HeaderError.{HeaderError}
+use Rattle.xs_base.specs.Counts.{load_if, one_load, save_if}
 use Rattle.xs_base.specs.Component.{pkru_number}
 use Rattle.xs_base.specs.File.{part, pkru_bytes}
+use Rattle.xs_base.specs.Frame.{refused_file}
 use Rattle.xs_base.specs.Task.{PrivateTask, start_pkru}
 use Rattle.xs_bank.specs.declared.cpu.Cpu.{Cpu}
 use Rattle.xs_bank.specs.Bank as banks
 use Rattle.xs_bank.specs.Bank.{counts_of}
 use Rattle.xs_bank.specs.Holds.{Holds}
 use Rattle.xs_bank.specs.SetUp.{WasSetUp}
+use Rattle.xs_frame.specs.declared.image.Restored.{Restored}
+use Rattle.xs_frame.specs.declared.image.Restored.TheVariants as answers
 use Rattle.xs_model.specs.declared.event.Reply.{Reply}
+use Rattle.xs_model.specs.declared.event.Reply.TheVariants as replies
 use Rattle.xs_model.specs.declared.script.Command.{Command}
 use Rattle.xs_model.specs.declared.script.Script.{Script}
 use Rattle.xs_model.specs.Counts.{exec_of, numbers_of, is_pkru}
-use Rattle.xs_model.specs.Line.{local_after, local_reply, next_line}
+use Rattle.xs_model.specs.Line.{frame_cause, local_after, local_reply, next_line, refusal}
 use Rattle.xs_model.specs.Note.{is_section}
+use Rattle.xs_model.specs.Script.{is_return}
 use Rattle.xs_task.specs.declared.task.Task.{Task}
 use Rattle.xs_task.specs.TaskArea.{IsTask}
 use Rattle.xs_switch.specs.Running.{CanSave, IsRunning}
@@ -36,9 +42,11 @@ pub record IsUserOn (rows : List Row) (task : Task) (bank : banks.Bank) (private
   pub ready : CanSave rows task bank
   pub running : IsRunning rows task bank private
 
--- A kernel thread in a turn: it has its place, and the bank has the PKRU of kernel threads, which is that of a task's start.
+-- A kernel thread in a turn: it has its place and no handler runs, and the bank has the PKRU of kernel threads, which is that of a
+-- task's start.
 pub record IsThreadOn (task : Task) (bank : banks.Bank) (private : PrivateTask) : Type 0 where
   pub home : IsThreadHome task private
+  pub outside : private.handling ≡ false
   pub pkru : part bank.file pkru_number ≡ pkru_bytes start_pkru
 
 -- The task of a user block, or else of a kernel thread, stands for the private task in a turn.
@@ -63,8 +71,8 @@ pub record CameBack {B : Type 0} (user : Bool) (old new : Task) (before after : 
   pub counts : counts_of bank_after ≡ load_if (user && old.need_load) (counts_of bank_before)
   pub still : user ≡ false → bank_after ≡ bank_before
 
--- A command of the task's line ran. The task has its place behind the line from before on. A section leaves the registers in the
--- area.
+-- A command of the task's line ran, which is no return from a handler. The task has its place behind the line from before on. A
+-- section leaves the registers in the area.
 pub record Ran {B : Type 0} (user : Bool) (command : Command) (reply : Reply) (old new : Task) (before after : Cpu B) (bank_before bank_after : banks.Bank) : Type 0 where
   pub set_up : WasSetUp before.layout bank_after after.initial
   pub cpu : KeepsCpu before after
@@ -77,7 +85,40 @@ pub record Ran {B : Type 0} (user : Bool) (command : Command) (reply : Reply) (o
   pub counts : (script : Script) → counts_of bank_after ≡ exec_of (numbers_of script (Some command) reply) (save_if (user && is_section (Some command)) (counts_of bank_before))
   pub still : user ≡ false → is_section (Some command) ≡ false → bank_after ≡ bank_before
 
--- The private task is at the task's place of the body.
-pub record StandsAt (task : Task) (private : PrivateTask) : Type 0 where
-  pub outside : private.handling ≡ false
+-- what a return from a handler answers
+abbrev pub restored_reply : Restored → Reply
+restored_reply answers.Full = replies.Full
+restored_reply answers.LegacyOnly = replies.Legacy
+
+-- The line at the task's place ran: its command is local, and the task came to its next place. A return from a handler loads the
+-- registers that it took of the frame.
+pub record RanLine {B : Type 0} (user : Bool) (command : Command) (reply : Reply) (old new : Task) (before after : Cpu B) (bank_before bank_after : banks.Bank) : Type 0 where
+  pub set_up : WasSetUp before.layout bank_after after.initial
+  pub cpu : KeepsCpu before after
+  pub mark : after.mark ≡ (if is_section (Some command) then None else before.mark)
+  pub name : new.name ≡ old.name
+  pub loaded : user ≡ true → new.need_load ≡ is_section (Some command)
+  pub on : (p : PrivateTask) → IsOn user before.layout old bank_before p → IsOn user before.layout new bank_after (local_after p command)
+  pub whole : (p : PrivateTask) → IsOn user before.layout old bank_before p → refusal p command ≡ None
+  pub reply_is : (p : PrivateTask) → IsOn user before.layout old bank_before p → reply ≡ local_reply p command
+  pub holds : user ≡ true → is_section (Some command) ≡ false → (p : PrivateTask) → IsOn user before.layout old bank_before p → Holds bank_before p → Holds bank_after (local_after p command)
+  pub counts : (script : Script) → counts_of bank_after ≡ exec_of (numbers_of script (Some command) reply) (save_if (user && is_section (Some command)) (load_if (is_return command) (counts_of bank_before)))
+  pub still : user ≡ false → is_section (Some command) ≡ false → bank_after ≡ bank_before
+
+-- A user task's return from its handler was refused with this error: the task stays at its line, and has no registers left.
+pub record WasRefused {B : Type 0} (user : Bool) (command : Command) (error : HeaderError) (old new : Task) (before after : Cpu B) (bank_before bank_after : banks.Bank) : Type 0 where
+  pub known : user ≡ true
+  pub set_up : WasSetUp before.layout bank_after after.initial
+  pub cpu : KeepsCpu before after
+  pub mark : after.mark ≡ before.mark
+  pub name : new.name ≡ old.name
+  pub loaded : new.need_load ≡ false
+  pub on : (p : PrivateTask) → IsOn user before.layout old bank_before p → IsOn user before.layout new bank_after (record p { file = refused_file p })
+  pub why : (p : PrivateTask) → IsOn user before.layout old bank_before p → refusal p command ≡ Some (frame_cause error)
+  pub holds : (p : PrivateTask) → IsOn user before.layout old bank_before p → Holds bank_after (record p { file = refused_file p })
+  pub counts : counts_of bank_after ≡ one_load (counts_of bank_before)
+
+-- The private task is at the task's place: one of its handler where a user task runs that, and else one of its body.
+pub record StandsAt (user : Bool) (task : Task) (private : PrivateTask) : Type 0 where
+  pub inside : private.handling ≡ (user && task.handling)
   pub place : task.place ≡ private.place

@@ -21,19 +21,18 @@ use Rattle.xs_model.specs.Script.{IsValid, IsBuilt, is_user}
 use Rattle.xs_model.specs.State.{none_lives}
 use Rattle.xs_switch.specs.Pkru.{given_pkru}
 use Rattle.xs_board.specs.declared.turn.Turn.{Turn}
-use Rattle.xs_board.specs.Board.{Board, past_of, machine_in, ready_of, stage_in, private_in, turn_on}
+use Rattle.xs_board.specs.Board.{Board, past_of, machine_in, ready_of, stage_in, private_in, begun, turn_on}
 use Rattle.xs_board.specs.Home.{IsHome}
 use Rattle.xs_board.specs.Taken.{is_user_how}
 use Rattle.xs_machine.specs.declared.proc.Proc.{Proc}
 use Rattle.xs_machine.specs.Line.{IsOn, KeepsCpu}
 
--- The board's script and history are those of a run, in which no handler runs.
+-- The board's script and history are those of a run.
 pub record IsRun (script : Script) (board : Board) : Type 0 where
   pub valid : IsValid script
   pub built : IsBuilt script
   pub script_is : board.script ≡ script
   pub legal : IsLegal script board.history
-  pub outside : (t : ℕ) → (private_in board t).handling ≡ false
 
 -- What holds of each processor, also of one past those of the script: what its bank has counted and holds is told by the history.
 pub record IsTold (script : Script) (board : Board) (i : ℕ) (bank : banks.Bank) : Type 0 where
@@ -95,11 +94,14 @@ pub record IsIdle (script : Script) (i : ℕ) (old new : Board) : Type 0 where
 -- ---- the start of a turn
 
 -- The task of a turn that the board handed out stands for the private task, and where its registers are to be in the bank they are.
+-- A kernel thread has no handler.
 pub record MayBegin (rows : List Row) (turn : Turn) (bank : banks.Bank) (private : PrivateTask) : Type 0 where
   pub home : IsHome (is_user_how turn.how) rows turn.task private
+  pub outside : is_user_how turn.how ≡ false → private.handling ≡ false
   pub held : turn.how ≡ hows.Skip → Holds bank private
 
--- The turn's registers came to the bank, if it is a user task's. A kernel thread has its PKRU alone, which is that of a task's start.
+-- The turn's registers came to the bank, if it is a user task's, and its signal was delivered. A kernel thread has its PKRU alone,
+-- which is that of a task's start.
 pub record Begun {B : Type 0} (old new : Turn) (before after : Cpu B) (bank_before bank_after : banks.Bank) : Type 0 where
   pub set_up : WasSetUp before.layout bank_after after.initial
   pub cpu : KeepsCpu before after
@@ -107,7 +109,7 @@ pub record Begun {B : Type 0} (old new : Turn) (before after : Cpu B) (bank_befo
   pub name : new.task.name ≡ old.task.name
   pub cpu_is : new.cpu ≡ old.cpu
   pub loaded : is_user_how old.how ≡ true → new.task.need_load ≡ false
-  pub on : (p : PrivateTask) → MayBegin before.layout old bank_before p → IsOn (is_user_how old.how) before.layout new.task bank_after p
-  pub holds : is_user_how old.how ≡ true → (p : PrivateTask) → MayBegin before.layout old bank_before p → Holds bank_after p
-  pub counts : counts_of bank_after ≡ after_start old.how (counts_of bank_before)
+  pub on : (p : PrivateTask) → MayBegin before.layout old bank_before p → IsOn (is_user_how old.how) before.layout new.task bank_after (begun old.signal p)
+  pub holds : is_user_how old.how ≡ true → (p : PrivateTask) → MayBegin before.layout old bank_before p → Holds bank_after (begun old.signal p)
+  pub counts : counts_of bank_after ≡ told.delivery old.signal (after_start old.how (counts_of bank_before))
   pub kernel : is_user_how old.how ≡ false → bank_after ≡ given_pkru bank_before start_pkru

@@ -8,6 +8,7 @@ use Rattle.xs_bank.specs.Bank.{counts_of}
 use Rattle.xs_bank.specs.Holds.{Holds}
 use Rattle.xs_bank.specs.SetUp.{WasSetUp}
 use Rattle.xs_model.specs.declared.event.Event.{Event}
+use Rattle.xs_model.specs.declared.event.Reply.{Reply}
 use Rattle.xs_model.specs.declared.script.Script.{Script}
 use Rattle.xs_model.specs.declared.stage.Stage.TheVariants as stages
 use Rattle.xs_model.specs.Counts as told
@@ -20,7 +21,7 @@ use Rattle.xs_task.specs.declared.task.Task.{Task}
 use Rattle.xs_board.specs.declared.turn.Entry.{Entry}
 use Rattle.xs_board.specs.declared.turn.Close.{Close}
 use Rattle.xs_board.specs.Home.{IsHome}
-use Rattle.xs_board.specs.Turn.{AreLines, HaveRun, past_with, task_after, turn_events}
+use Rattle.xs_board.specs.Turn.{AreLines, HaveRun, line_of, past_with, task_after, task_handed, turn_events}
 use Rattle.xs_machine.specs.Line.{IsOn}
 
 -- The new past is the old one and events of block t on processor c. Nothing is told by them of another processor, or of another
@@ -47,7 +48,6 @@ pub record IsTurning {B : Type 0} (script : Script) (t c : ℕ) (first past : Li
   pub set_up : WasSetUp script.layout bank cpu.initial
   pub name : task.name ≡ t
   pub on : IsOn (is_user script t) script.layout task bank private
-  pub outside : private.handling ≡ false
   pub flag : is_user script t ≡ true → task.need_load ≡ in_section script past t
   pub mark_is : cpu.mark ≡ mark script past c
   pub own : is_user script t ≡ true → mark script past c ≡ (if in_section script past t then None else Some t)
@@ -56,20 +56,21 @@ pub record IsTurning {B : Type 0} (script : Script) (t c : ℕ) (first past : Li
   pub latest : told.file_after script past c t ≡ told.file_of (slice_get (machine script past).blocks t)
   pub counts : told.counts_of script past c ≡ save_if (over && is_user script t && not task.need_load) (counts_of bank)
 
--- the past after the events of a turn
-abbrev pub past_after : ℕ → List Entry → Close → List Event → List Event
-past_after t entries close past = reverse (turn_events t entries close) ++ past
+-- the past after the events of a turn, whose outer line has this reply
+abbrev pub past_after : ℕ → List Entry → Close → Reply → List Event → List Event
+past_after t entries close reply past = reverse (turn_events t entries close reply) ++ past
 
--- So many lines ran from the Start on, and the turn goes on.
+-- So many lines ran from the Start on, and the turn goes on. While a handler runs, a line of it is left.
 pub record AreRunning {B : Type 0} (script : Script) (t c : ℕ) (first : List Event) (before : banks.Bank) (start : PrivateTask) (entries : List Entry) (private : PrivateTask) (task : Task) (cpu : Cpu B) (bank : banks.Bank) : Type 0 where
   pub run : HaveRun script t start entries private (length entries)
   pub few : length entries < script.quantum
+  pub inside : private.handling ≡ true → line_of script t private ≡ None → ⊥
   pub turning : IsTurning script t c first (past_with t entries first) before false (length entries) private task cpu bank
 
--- The turn is over by its lines and this close. An outer line is still before the task.
+-- The turn is over by its lines and this close. An outer line is still before the task, and it has its reply from the board.
 pub record AreOver {B : Type 0} (script : Script) (t c : ℕ) (first : List Event) (before : banks.Bank) (start : PrivateTask) (entries : List Entry) (close : Close) (task : Task) (cpu : Cpu B) (bank : banks.Bank) : Type 0 where
   pub lines : AreLines script t start 0 entries close
-  pub turning : IsTurning script t c first (past_after t entries close first) before true 0 (task_after script t start entries) task cpu bank
+  pub turning : (reply : Reply) → IsTurning script t c first (past_after t entries close reply first) before true 0 (task_handed close (task_after script t start entries)) task cpu bank
 
 -- After a line the turn goes on, or it is over.
 abbrev pub AfterLine : {B : Type 0} → Script → ℕ → ℕ → List Event → banks.Bank → PrivateTask → List Entry → Option Close → Task → Cpu B → banks.Bank → Type 0
@@ -85,7 +86,6 @@ pub record HasLeft {B : Type 0} (script : Script) (t c : ℕ) (first past : List
   pub name : task.name ≡ t
   pub home : IsHome (is_user script t) script.layout task (parked private)
   pub last_is : is_user script t ≡ true → task.last ≡ Some c
-  pub outside : private.handling ≡ false
   pub mark_is : cpu.mark ≡ mark script past c
   pub own : is_user script t ≡ true → (u : ℕ) → mark script past c ≡ Some u → (u ≡ t) × Holds bank private
   pub alien : is_user script t ≡ false → (u : ℕ) → mark script past c ≡ Some u → (mark script first c ≡ Some u) × (bank.file ≡ before.file) × (bank.armed ≡ before.armed)

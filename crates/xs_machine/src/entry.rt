@@ -1,10 +1,11 @@
 //! One entry of the schedule.
 
-ghost use Rattle.std.specs.Prelude.{◌≡◌, ◌<◌, IsTrue, [], length, Some, None};
+ghost use Rattle.std.specs.Prelude.{◌≡◌, ◌<◌, IsTrue, [], false, length, Some, None};
 ghost use Rattle.xs_base.specs.declared.words.How.TheVariants as hows;
 ghost use Rattle.xs_base.specs.Task.{PrivateTask};
 ghost use Rattle.xs_bank.specs.SetUp.{WasSetUp};
 ghost use Rattle.xs_board.specs.Board.{past_of, KeepsTurns};
+ghost use Rattle.xs_board.specs.Taken.{is_user_how};
 ghost use Rattle.xs_model.specs.Replay.{entry};
 ghost use Rattle.xs_machine.specs.Processors.{KeepsProcessor};
 ghost use Rattle.xs_machine.specs.Running.{IsAt, IsRun, LeavesOthers, IsIdle, MayBegin, Begun};
@@ -13,7 +14,8 @@ use crate::turn::{leave, run_lines};
 use xs_bank::{Bank, Cpu};
 use xs_base::How;
 use xs_board::{Board, Entries, Taken, Turn};
-use xs_model::{Script, machine_known};
+use xs_frame::deliver;
+use xs_model::{Script, machine_known, never_idle, signals_known};
 use xs_switch::{switch_in, to_kernel};
 
 /// One entry of the schedule on a processor: it takes a turn where it has none, and else runs its turn and brings it back. The list
@@ -40,6 +42,7 @@ pub fn run_entry<B: Bank>(
     ensures grows { IsTrue result → length board.old.history < length board.new.history }
     ensures idle { (IsTrue result → ⊥) → IsIdle script.now number board.old board.new }
 {
+    signals_known();
     match slot.take() {
         Some(turn) => {
             finish_turn(script, board, cpu, turn, lines);
@@ -55,11 +58,13 @@ pub fn run_entry<B: Bank>(
     }
 }
 
-/// Begins a turn that the board handed out: the registers of a user task come to the bank. A kernel thread has none but its PKRU.
+/// Begins a turn that the board handed out: the registers of a user task come to the bank, and its signal is delivered. A kernel
+/// thread has no registers but its PKRU, and no signal.
 fn begin_turn<B: Bank>(cpu: &mut Cpu<B>, turn: Turn) -> Turn
     requires set_up { WasSetUp cpu.old.layout (B.state cpu.old.bank) cpu.old.initial }
     requires home { (p : PrivateTask) × MayBegin cpu.old.layout turn (B.state cpu.old.bank) p }
     requires skip { turn.how ≡ hows.Skip → (cpu.old.mark ≡ Some turn.task.name) × (turn.task.last ≡ Some cpu.old.number) }
+    requires quiet { is_user_how turn.how ≡ false → turn.signal ≡ None }
     ensures { Begun turn result cpu.old cpu.new (B.state cpu.old.bank) (B.state cpu.new.bank) }
 {
     let mut turn = turn;
@@ -69,6 +74,9 @@ fn begin_turn<B: Bank>(cpu: &mut Cpu<B>, turn: Turn) -> Turn
         to_kernel(cpu);
     } else {
         switch_in(&mut turn.task, cpu, turn.how);
+        if turn.signal.is_some() {
+            deliver(&mut turn.task, cpu);
+        }
     }
     turn
 }
@@ -94,6 +102,7 @@ fn finish_turn<B: Bank>(
     ensures grows { length board.old.history < length board.new.history }
 {
     machine_known();
+    never_idle();
     let mut turn = turn;
     let close = run_lines(script, cpu, &mut turn.task, lines);
     leave(script, cpu, &mut turn.task);

@@ -1,18 +1,22 @@
 //! The lines of a task on its processor.
 
-ghost use Rattle.std.specs.Prelude.{◌≡◌, ◌<◌, ◌^◌, true, false};
+ghost use Rattle.std.specs.Prelude.{◌≡◌, ◌+◌, ◌<◌, ◌^◌, true, false, MatchResult};
 ghost use Rattle.xs_base.specs.Task.{PrivateTask};
 ghost use Rattle.xs_bank.specs.SetUp.{WasSetUp};
+ghost use Rattle.xs_model.specs.declared.script.Command.TheVariants as commands;
 ghost use Rattle.xs_model.specs.Line.{next_line};
-ghost use Rattle.xs_model.specs.Script.{IsCommand, IsBuiltCommand, is_fork, is_kernel_command};
+ghost use Rattle.xs_model.specs.Script.{IsCommand, IsBuiltCommand, is_kernel_command, is_outer, is_return};
 ghost use Rattle.xs_base.specs.Layout.{IsLayout};
-ghost use Rattle.xs_machine.specs.Line.{CameBack, IsOn, Ran};
+ghost use Rattle.xs_machine.specs.Line.{CameBack, IsOn, Ran, RanLine, WasRefused, restored_reply};
 
 use crate::registers::{read_register, write_register};
+use crate::script::is_return;
 use xs_bank::{Bank, Cpu};
+use xs_base::HeaderError;
+use xs_frame::{Restored, sigreturn};
 use xs_model::{Command, Reply};
 use xs_switch::{kernel_section, resume, thread_section};
-use xs_task::Task;
+use xs_task::{Mem, Task};
 
 /// The registers of a user task come back before its line, and before its end.
 pub fn come_back<B: Bank>(cpu: &mut Cpu<B>, task: &mut Task, user: bool)
@@ -25,21 +29,68 @@ pub fn come_back<B: Bank>(cpu: &mut Cpu<B>, task: &mut Task, user: bool)
     }
 }
 
-/// Runs a command of the task that is no fork, and answers its reply. The task's place is behind the command's line, and a user
-/// task's registers are in the bank.
-pub fn run_command<B: Bank>(
+/// Runs the line at the task's place, whose command is local, and answers its reply. A user task's registers are in the bank. A
+/// return from a handler may be refused; then the task stays at its line.
+pub fn run_local<B: Bank>(
     cpu: &mut Cpu<B>,
     task: &mut Task,
     command: &Command,
     user: bool,
-) -> Reply
+) -> Result<Reply, HeaderError>
+    requires layout { IsLayout cpu.old.layout }
+    requires set_up { WasSetUp cpu.old.layout (B.state cpu.old.bank) cpu.old.initial }
+    requires on { (p : PrivateTask) × IsOn user cpu.old.layout task.old (B.state cpu.old.bank) p }
+    requires loaded { user ≡ true → task.old.need_load ≡ false }
+    requires known { IsCommand cpu.old.layout command.now }
+    requires built { IsBuiltCommand command.now }
+    requires inner { is_outer command.now ≡ false }
+    requires kind { user ≡ false → is_kernel_command command.now ≡ true }
+    requires inside { is_return command.now ≡ true → task.old.handling ≡ true }
+    requires fits { task.old.place + 1 < 2 ^ 32 }
+    ensures { MatchResult result (λ reply. RanLine user command.now reply task.old task.new cpu.old cpu.new (B.state cpu.old.bank) (B.state cpu.new.bank)) (λ error. WasRefused user command.now error task.old task.new cpu.old cpu.new (B.state cpu.old.bank) (B.state cpu.new.bank)) }
+{
+    if is_return(command) {
+        return go_back(cpu, task);
+    }
+    task.place += 1;
+    Ok(run_command(cpu, task, command, user))
+}
+
+/// Returns from the handler of a user task, whose registers are in the bank.
+fn go_back<B: Bank>(cpu: &mut Cpu<B>, task: &mut Task) -> Result<Reply, HeaderError>
+    requires set_up { WasSetUp cpu.old.layout (B.state cpu.old.bank) cpu.old.initial }
+    requires on { (p : PrivateTask) × IsOn true cpu.old.layout task.old (B.state cpu.old.bank) p }
+    requires loaded { task.old.need_load ≡ false }
+    requires inside { task.old.handling ≡ true }
+    ensures { MatchResult result (λ reply. RanLine true commands.Sigreturn reply task.old task.new cpu.old cpu.new (B.state cpu.old.bank) (B.state cpu.new.bank)) (λ error. WasRefused true commands.Sigreturn error task.old task.new cpu.old cpu.new (B.state cpu.old.bank) (B.state cpu.new.bank)) }
+{
+    match sigreturn(task, cpu) {
+        Ok(restored) => Ok(reply_of(restored)),
+        Err(error) => Err(error),
+    }
+}
+
+/// What a return answers.
+fn reply_of(restored: Restored) -> Reply
+    ensures { result ≡ restored_reply restored }
+{
+    match restored {
+        Restored::Full => Reply::Full,
+        Restored::LegacyOnly => Reply::Legacy,
+    }
+}
+
+/// Runs a local command of the task that is no return from a handler, and answers its reply. The task's place is behind the
+/// command's line, and a user task's registers are in the bank.
+fn run_command<B: Bank>(cpu: &mut Cpu<B>, task: &mut Task, command: &Command, user: bool) -> Reply
     requires layout { IsLayout cpu.old.layout }
     requires set_up { WasSetUp cpu.old.layout (B.state cpu.old.bank) cpu.old.initial }
     requires on { (p : PrivateTask) × IsOn user cpu.old.layout task.old (B.state cpu.old.bank) (next_line p) }
     requires loaded { user ≡ true → task.old.need_load ≡ false }
     requires known { IsCommand cpu.old.layout command.now }
     requires built { IsBuiltCommand command.now }
-    requires inner { is_fork command.now ≡ false }
+    requires inner { is_outer command.now ≡ false }
+    requires stays { is_return command.now ≡ false }
     requires kind { user ≡ false → is_kernel_command command.now ≡ true }
     ensures { Ran user command.now result task.old task.new cpu.old cpu.new (B.state cpu.old.bank) (B.state cpu.new.bank) }
 {
@@ -58,7 +109,8 @@ fn run_user_command<B: Bank>(cpu: &mut Cpu<B>, task: &mut Task, command: &Comman
     requires loaded { task.old.need_load ≡ false }
     requires known { IsCommand cpu.old.layout command.now }
     requires built { IsBuiltCommand command.now }
-    requires inner { is_fork command.now ≡ false }
+    requires inner { is_outer command.now ≡ false }
+    requires stays { is_return command.now ≡ false }
     ensures { Ran true command.now result task.old task.new cpu.old cpu.new (B.state cpu.old.bank) (B.state cpu.new.bank) }
 {
     match command {
@@ -74,6 +126,11 @@ fn run_user_command<B: Bank>(cpu: &mut Cpu<B>, task: &mut Task, command: &Comman
             Reply::Done
         }
         Command::Yield => Reply::Done,
+        Command::Peek { at, len } => Reply::Bytes(task.peek(Mem::Frame, *at, *len)),
+        Command::Poke { at, bytes } => {
+            task.poke(Mem::Frame, *at, bytes);
+            Reply::Done
+        }
         _ => unreachable!(),
     }
 }

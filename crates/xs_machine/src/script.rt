@@ -4,7 +4,7 @@ ghost use Rattle.std.specs.Prelude.{◌≡◌, ◌<◌, length, slice_index, tru
 ghost use Rattle.xs_board.specs.Turn.{line_of, closed_by};
 ghost use Rattle.xs_model.specs.Machine.{goes_on};
 ghost use Rattle.xs_model.specs.Replay.{schedule_of};
-ghost use Rattle.xs_model.specs.Script.{IsValid, is_fork, is_user};
+ghost use Rattle.xs_model.specs.Script.{IsValid, is_outer, is_return, is_user};
 ghost use Rattle.xs_base.specs.Task.{PrivateTask};
 ghost use Rattle.xs_machine.specs.Line.{StandsAt};
 
@@ -20,20 +20,41 @@ pub fn is_user(script: &Script, block: u32) -> bool
     script.blocks.as_slice()[block as usize].kind != BlockKind::Kthread
 }
 
-/// The line at the task's place, where it has one.
-pub fn line_of<'a>(script: &'a Script, task: &Task) -> Option<&'a Order>
+/// The line at the task's place, where it has one: that of its handler while a user task runs it, and else that of its body.
+pub fn line_of<'a>(script: &'a Script, task: &Task, user: bool) -> Option<&'a Order>
     requires { task.now.name < length script.now.blocks }
-    ensures { MatchOption result ((p : PrivateTask) → StandsAt task.now p → line_of script.now task.now.name p ≡ None) (λ o. (p : PrivateTask) → StandsAt task.now p → line_of script.now task.now.name p ≡ Some o.now) }
+    ensures { MatchOption result ((p : PrivateTask) → StandsAt user task.now p → line_of script.now task.now.name p ≡ None) (λ o. (p : PrivateTask) → StandsAt user task.now p → line_of script.now task.now.name p ≡ Some o.now) }
 {
-    let body = script.blocks.as_slice()[task.name as usize].body.as_slice();
-    body.get(task.place as usize)
+    let block = &script.blocks.as_slice()[task.name as usize];
+    let lines = if user && task.handling {
+        &block.handler
+    } else {
+        &block.body
+    };
+    lines.as_slice().get(task.place as usize)
 }
 
-/// Whether the command forks a block.
-pub fn is_fork(command: &Command) -> bool
-    ensures { result ≡ is_fork command.now }
+/// Whether the command reaches another block.
+pub fn is_outer(command: &Command) -> bool
+    ensures { result ≡ is_outer command.now }
 {
-    matches!(command, Command::Fork { .. })
+    matches!(
+        command,
+        Command::Fork { .. }
+            | Command::Kill { .. }
+            | Command::Stop
+            | Command::Wait { .. }
+            | Command::Getregs { .. }
+            | Command::Setregs { .. }
+            | Command::Cont { .. }
+    )
+}
+
+/// Whether the command is a return from a handler.
+pub fn is_return(command: &Command) -> bool
+    ensures { result ≡ is_return command.now }
+{
+    matches!(command, Command::Sigreturn)
 }
 
 /// How the turn is over after a line, where it doesn't go on: `ran` Local events came before the line.

@@ -9,11 +9,11 @@ ghost use Rattle.xs_model.specs.Script.{IsValid, IsBuilt};
 ghost use Rattle.xs_machine.specs.Processors.{KeepsProcessor};
 ghost use Rattle.xs_machine.specs.Turn.{AfterLine, AreOver, AreRunning, HasLeft, IsTurning, SomeOver, SomeRunning};
 
-use crate::lines::{come_back, run_command};
-use crate::script::{close_after, is_fork, is_user, line_of};
+use crate::lines::{come_back, run_local};
+use crate::script::{close_after, is_outer, is_user, line_of};
 use xs_bank::{Bank, Cpu};
 use xs_board::{Close, Entries, Entry, lines_follow};
-use xs_model::{Script, lines_found, machine_known};
+use xs_model::{Script, lines_found, machine_known, signals_known};
 use xs_switch::switch_out;
 use xs_task::Task;
 
@@ -38,8 +38,8 @@ pub fn run_lines<B: Bank>(
     }
 }
 
-/// Runs the next line of a turn, which joins the entries, and answers how the turn is over where it doesn't go on. A fork is left to
-/// the board, and without a line the turn closes with the body's end.
+/// Runs the next line of a turn, which joins the entries, and answers how the turn is over where it doesn't go on. An outer line is
+/// left to the board, a refused return ends the task, and without a line the turn closes with the body's end.
 fn run_line<B: Bank>(
     script: &Script,
     cpu: &mut Cpu<B>,
@@ -56,17 +56,20 @@ fn run_line<B: Bank>(
     lines_found();
     machine_known();
     lines_follow();
+    signals_known();
     let ran = entries.len() as u32;
     let user = is_user(script, task.name);
     come_back(cpu, task, user);
-    let Some(order) = line_of(script, task) else {
+    let Some(order) = line_of(script, task, user) else {
         return Some(Close::End);
     };
-    if is_fork(&order.command) {
+    if is_outer(&order.command) {
         return Some(Close::Outer(order.number));
     }
-    task.place += 1;
-    let reply = run_command(cpu, task, &order.command, user);
+    let reply = match run_local(cpu, task, &order.command, user) {
+        Ok(reply) => reply,
+        Err(error) => return Some(Close::Refused(error)),
+    };
     entries.push(Entry {
         line: order.number,
         reply,

@@ -1,9 +1,11 @@
 -- Each command is one of the task in the bank.
-use Rattle.std.proofs.Common.{ℕ, List, ap, ◌∙◌}
+use Rattle.std.proofs.Common.{ℕ, List, length, ap, ◌∙◌, arith}
 use Rattle.xs_base.specs.File.{read_place}
 use Rattle.xs_base.specs.Register.{place_of}
+use Rattle.xs_base.specs.Task.{frame_length}
 use Rattle.xs_machine.specs.Line.{after_get, after_set}
-use Rattle.xs_machine.proofs.RanLemmas.{set_ran, get_ran, section_ran}
+use Rattle.xs_machine.proofs.Commands.{fits_within}
+use Rattle.xs_machine.proofs.RanLemmas.{set_ran, get_ran, section_ran, peek_ran, poke_ran}
 use Rattle.xs_machine.proofs.lines.run_user_command.Goals as goal
 
 pub write_register-requires-clause-known : goal.write_register-requires-clause-known
@@ -32,3 +34,27 @@ pub returns-in-Ksec : goal.returns-in-Ksec
 returns-in-Ksec g c =
     let e = c.kernel_section.ensures in
     rw c.in-Ksec.is (section_ran c.args.cpu.now c.kernel_section.new.cpu c.args.task.now c.kernel_section.new.task (g.B.Bank.state c.args.cpu.now.bank) (g.B.Bank.state c.kernel_section.new.cpu.bank) c.in-Ksec.byte c.kernel_section.new.task.lease e.set_up e.whole e.task e.cpu e.ready e.running e.counts)
+
+pub peek-requires-clause-inside : goal.peek-requires-clause-inside
+peek-requires-clause-inside g c =
+    let known = rw c.in-Peek.is at c.requires.known in
+    omega (arith, (fits_within frame_length c.in-Peek.at c.in-Peek.len known).0, c.requires.on.1.whole.frame)
+
+pub peek-requires-clause-few : goal.peek-requires-clause-few
+peek-requires-clause-few g c =
+    let known = rw c.in-Peek.is at c.requires.known in
+    (fits_within frame_length c.in-Peek.at c.in-Peek.len known).1
+
+pub poke-requires : goal.poke-requires
+poke-requires g c =
+    let known = rw c.in-Poke.is at c.requires.known in
+    omega (arith, (fits_within frame_length c.in-Poke.at (length c.in-Poke.bytes) known.0).0, c.requires.on.1.whole.frame)
+
+pub returns-in-Peek : goal.returns-in-Peek
+returns-in-Peek g c = rw c.in-Peek.is (peek_ran c.args.cpu.now c.args.task.now (g.B.Bank.state c.args.cpu.now.bank) c.in-Peek.at c.in-Peek.len c.peek.result c.requires.set_up c.requires.loaded c.peek.ensures)
+
+pub returns-in-Poke : goal.returns-in-Poke
+returns-in-Poke g c =
+    let known = rw c.in-Poke.is at c.requires.known in
+    let e = c.poke.ensures in
+    rw c.in-Poke.is (poke_ran c.args.cpu.now c.args.task.now c.poke.new.self (g.B.Bank.state c.args.cpu.now.bank) c.in-Poke.at c.in-Poke.bytes c.requires.set_up known c.requires.loaded e.others e.written e.len)

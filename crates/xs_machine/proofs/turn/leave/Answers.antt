@@ -1,6 +1,6 @@
 -- A user task is switched out.
 use Rattle.std.proofs.Common.{sym, ◌∙◌}
-use Rattle.xs_machine.proofs.TurnLemmas.{thread_left, user_left}
+use Rattle.xs_machine.proofs.Leaving.{thread_left, user_left}
 use Rattle.xs_machine.proofs.EntryLemmas.{keeps_bank}
 use Rattle.xs_machine.proofs.turn.leave.Goals as goal
 

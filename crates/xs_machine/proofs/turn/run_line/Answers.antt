@@ -1,9 +1,10 @@
 -- The line is one of a turn that runs.
-use Rattle.std.proofs.Common.{◌≡◌, Some, length, refl, sym, ap, ◌∙◌, arith}
+use Rattle.std.proofs.Common.{◌≡◌, length, refl, sym, ap, ◌∙◌, arith}
 use Rattle.xs_model.specs.Script.{is_user}
 use Rattle.xs_board.specs.declared.turn.Entry.{Entry}
-use Rattle.xs_machine.proofs.LineLemmas.{block_known, back_here, place_here, layout_here, on_here, none_here, line_here, entry_here, body_over, fork_over, after_line, if_longer}
-use Rattle.xs_machine.proofs.ScriptLemmas.{forked_name, line_found, known_line, built_line, kernel_line, place_fits}
+use Rattle.xs_machine.proofs.LineLemmas.{block_known, back_here, place_here, layout_here, on_here, outside_here, handles_here, none_here, line_here, entry_here, handler_over, body_over, outer_over, refused_over, after_line, if_longer}
+use Rattle.xs_machine.proofs.ScriptLemmas.{line_found, known_line, built_line, kernel_line, place_fits, line_follows}
+use Rattle.xs_machine.proofs.Stages.{sent_line}
 use Rattle.xs_machine.proofs.EntryLemmas.{keeps_more, keeps_cpu}
 use Rattle.xs_machine.proofs.turn.run_line.Goals as goal
 
@@ -28,10 +29,13 @@ returns-in_default-clause-after g c = λ t cpu first before start p are.
     let none = none_here script t cpu first before start items p c.args.task.now c.args.cpu.now bank are c.come_back.new.task c.come_back.new.cpu bank1 user same c.come_back.ensures c.in_default.ensures in
     body_over script t cpu first before start items p c.args.task.now c.come_back.new.task c.args.cpu.now c.come_back.new.cpu bank bank1 are
     (back_here script t cpu first before start items p c.args.task.now c.args.cpu.now bank are c.come_back.new.task c.come_back.new.cpu bank1 user same c.come_back.ensures)
-    (c.lines_follow.ensures.end script t start items p (length items) are.run none are.turning.outside)
+    (c.lines_follow.ensures.end script t start items p (length items) are.run none (handler_over script t cpu first before start items p c.args.task.now c.args.cpu.now bank are none))
 
-pub returns-then-is_fork-clause-after : goal.returns-then-is_fork-clause-after
-returns-then-is_fork-clause-after g c = λ t cpu first before start p are.
+pub returns-in_default-clause-kept : goal.returns-in_default-clause-kept
+returns-in_default-clause-kept g c = keeps_cpu c.args.cpu.now c.come_back.new.cpu c.come_back.ensures.cpu
+
+pub returns-then-is_outer-clause-after : goal.returns-then-is_outer-clause-after
+returns-then-is_outer-clause-after g c = λ t cpu first before start p are.
     let script = c.args.script.now in
     let items = c.args.entries.now.items in
     let bank = g.B.Bank.state c.args.cpu.now.bank in
@@ -43,71 +47,115 @@ returns-then-is_fork-clause-after g c = λ t cpu first before start p are.
     let at = line_here script t cpu first before start items p c.args.task.now c.args.cpu.now bank are c.come_back.new.task c.come_back.new.cpu bank1 user same c.come_back.ensures order c.in-Some.ensures in
     let l = line_found script t p order at in
     let found = c.lines_found.ensures script t l.lines p order c.requires.valid l.known l.at in
-    let name = forked_name order.command (sym c.is_fork.ensures ∙ c.if-is_fork.true) in
-    fork_over script t cpu first before start items p c.args.task.now c.come_back.new.task c.args.cpu.now c.come_back.new.cpu bank bank1 are back
-    order.number name.0 (found ∙ ap Some name.1)
-    (c.lines_follow.ensures.outer script t start items p (length items) order.number order are.run (record { at = at; number = refl; name = name.0; forks = name.1 }))
+    let outer = sym c.is_outer.ensures ∙ c.if-is_outer.true in
+    outer_over script t cpu first before start items p c.args.task.now c.come_back.new.task c.args.cpu.now c.come_back.new.cpu bank bank1 are back
+    order.number order.command found (sent_line order.command (built_line script c.requires.valid c.requires.built t p order at) outer)
+    (c.lines_follow.ensures.outer script t start items p (length items) order.number order are.run (record { at = at; number = refl; outer = outer }))
 
-pub returns-then-is_fork-clause-kept : goal.returns-then-is_fork-clause-kept
-returns-then-is_fork-clause-kept g c = keeps_cpu c.args.cpu.now c.come_back.new.cpu c.come_back.ensures.cpu
+pub returns-then-is_outer-clause-kept : goal.returns-then-is_outer-clause-kept
+returns-then-is_outer-clause-kept g c = keeps_cpu c.args.cpu.now c.come_back.new.cpu c.come_back.ensures.cpu
 
-pub overflow_add-task : goal.overflow_add-task
-overflow_add-task g c =
-    let r = c.requires.turning in
-    let script = c.args.script.now in
-    let items = c.args.entries.now.items in
-    let bank = g.B.Bank.state c.args.cpu.now.bank in
-    let bank1 = g.B.Bank.state c.come_back.new.cpu.bank in
-    let user = c.is_user-user.result in
-    let same : user ≡ is_user script r.t = c.is_user-user.ensures ∙ ap (is_user script) r.running.turning.name in
-    let at = line_here script r.t r.c r.first r.before r.start items r.private c.args.task.now c.args.cpu.now bank r.running c.come_back.new.task c.come_back.new.cpu bank1 user same c.come_back.ensures c.in-Some.order.now c.in-Some.ensures in
-    let fits = place_fits script c.requires.valid c.requires.built r.t r.private c.in-Some.order.now r.running.turning.outside at in
-    let place = place_here script r.t r.c r.first r.before r.start items r.private c.args.task.now c.args.cpu.now bank r.running c.come_back.new.task c.come_back.new.cpu bank1 user same c.come_back.ensures in
-    omega (arith, fits, place)
-
-pub run_command-reply-requires-clause-on : goal.run_command-reply-requires-clause-on
-run_command-reply-requires-clause-on g c =
+pub run_local-requires-clause-on : goal.run_local-requires-clause-on
+run_local-requires-clause-on g c =
     let r = c.requires.turning in
     let script = c.args.script.now in
     let same : c.is_user-user.result ≡ is_user script r.t = c.is_user-user.ensures ∙ ap (is_user script) r.running.turning.name in
     (r.private, on_here script r.t r.c r.first r.before r.start c.args.entries.now.items r.private c.args.task.now c.args.cpu.now (g.B.Bank.state c.args.cpu.now.bank) r.running c.come_back.new.task c.come_back.new.cpu (g.B.Bank.state c.come_back.new.cpu.bank) c.is_user-user.result same c.come_back.ensures)
 
-pub run_command-reply-requires-clause-known : goal.run_command-reply-requires-clause-known
-run_command-reply-requires-clause-known g c =
+pub run_local-requires-clause-known : goal.run_local-requires-clause-known
+run_local-requires-clause-known g c =
     let r = c.requires.turning in
     let script = c.args.script.now in
     let items = c.args.entries.now.items in
     let bank = g.B.Bank.state c.args.cpu.now.bank in
     let bank1 = g.B.Bank.state c.come_back.new.cpu.bank in
     let user = c.is_user-user.result in
+    let order = c.in-Some.order.now in
     let same : user ≡ is_user script r.t = c.is_user-user.ensures ∙ ap (is_user script) r.running.turning.name in
-    let at = line_here script r.t r.c r.first r.before r.start items r.private c.args.task.now c.args.cpu.now bank r.running c.come_back.new.task c.come_back.new.cpu bank1 user same c.come_back.ensures c.in-Some.order.now c.in-Some.ensures in
+    let at = line_here script r.t r.c r.first r.before r.start items r.private c.args.task.now c.args.cpu.now bank r.running c.come_back.new.task c.come_back.new.cpu bank1 user same c.come_back.ensures order c.in-Some.ensures in
     let layout = layout_here script r.t r.c r.first r.before r.start items r.private c.args.task.now c.args.cpu.now bank r.running c.come_back.new.task c.come_back.new.cpu bank1 user same c.come_back.ensures in
-    rw layout (known_line script c.requires.valid c.requires.built r.t r.private c.in-Some.order.now r.running.turning.outside at)
+    rw layout (known_line script c.requires.valid c.requires.built r.t r.private order at)
 
-pub run_command-reply-requires-clause-built : goal.run_command-reply-requires-clause-built
-run_command-reply-requires-clause-built g c =
+pub run_local-requires-clause-built : goal.run_local-requires-clause-built
+run_local-requires-clause-built g c =
     let r = c.requires.turning in
     let script = c.args.script.now in
     let items = c.args.entries.now.items in
     let bank = g.B.Bank.state c.args.cpu.now.bank in
     let bank1 = g.B.Bank.state c.come_back.new.cpu.bank in
     let user = c.is_user-user.result in
+    let order = c.in-Some.order.now in
     let same : user ≡ is_user script r.t = c.is_user-user.ensures ∙ ap (is_user script) r.running.turning.name in
-    let at = line_here script r.t r.c r.first r.before r.start items r.private c.args.task.now c.args.cpu.now bank r.running c.come_back.new.task c.come_back.new.cpu bank1 user same c.come_back.ensures c.in-Some.order.now c.in-Some.ensures in
-    built_line script c.requires.valid c.requires.built r.t r.private c.in-Some.order.now r.running.turning.outside at
+    let at = line_here script r.t r.c r.first r.before r.start items r.private c.args.task.now c.args.cpu.now bank r.running c.come_back.new.task c.come_back.new.cpu bank1 user same c.come_back.ensures order c.in-Some.ensures in
+    built_line script c.requires.valid c.requires.built r.t r.private order at
 
-pub run_command-reply-requires-clause-kind : goal.run_command-reply-requires-clause-kind
-run_command-reply-requires-clause-kind g c = λ kernel.
+pub run_local-requires-clause-kind : goal.run_local-requires-clause-kind
+run_local-requires-clause-kind g c = λ kernel.
     let r = c.requires.turning in
     let script = c.args.script.now in
     let items = c.args.entries.now.items in
     let bank = g.B.Bank.state c.args.cpu.now.bank in
     let bank1 = g.B.Bank.state c.come_back.new.cpu.bank in
     let user = c.is_user-user.result in
+    let order = c.in-Some.order.now in
     let same : user ≡ is_user script r.t = c.is_user-user.ensures ∙ ap (is_user script) r.running.turning.name in
-    let at = line_here script r.t r.c r.first r.before r.start items r.private c.args.task.now c.args.cpu.now bank r.running c.come_back.new.task c.come_back.new.cpu bank1 user same c.come_back.ensures c.in-Some.order.now c.in-Some.ensures in
-    kernel_line script c.requires.valid c.requires.built r.t r.private c.in-Some.order.now r.running.turning.outside at (sym same ∙ kernel)
+    let at = line_here script r.t r.c r.first r.before r.start items r.private c.args.task.now c.args.cpu.now bank r.running c.come_back.new.task c.come_back.new.cpu bank1 user same c.come_back.ensures order c.in-Some.ensures in
+    let outside = outside_here script r.t r.c r.first r.before r.start items r.private c.args.task.now c.args.cpu.now bank r.running c.come_back.new.task c.come_back.new.cpu bank1 user same c.come_back.ensures kernel in
+    kernel_line script c.requires.valid c.requires.built r.t r.private order at outside (sym same ∙ kernel)
+
+pub run_local-requires-clause-inside : goal.run_local-requires-clause-inside
+run_local-requires-clause-inside g c = λ returns.
+    let r = c.requires.turning in
+    let script = c.args.script.now in
+    let items = c.args.entries.now.items in
+    let bank = g.B.Bank.state c.args.cpu.now.bank in
+    let bank1 = g.B.Bank.state c.come_back.new.cpu.bank in
+    let user = c.is_user-user.result in
+    let order = c.in-Some.order.now in
+    let same : user ≡ is_user script r.t = c.is_user-user.ensures ∙ ap (is_user script) r.running.turning.name in
+    let at = line_here script r.t r.c r.first r.before r.start items r.private c.args.task.now c.args.cpu.now bank r.running c.come_back.new.task c.come_back.new.cpu bank1 user same c.come_back.ensures order c.in-Some.ensures in
+    let l = line_found script r.t r.private order at in
+    let inside = c.signals_known.ensures.inside script r.t l.lines r.private order c.requires.valid l.known l.at returns in
+    handles_here script r.t r.c r.first r.before r.start items r.private c.args.task.now c.args.cpu.now bank r.running c.come_back.new.task c.come_back.new.cpu bank1 user same c.come_back.ensures inside
+
+pub run_local-requires-clause-fits : goal.run_local-requires-clause-fits
+run_local-requires-clause-fits g c =
+    let r = c.requires.turning in
+    let script = c.args.script.now in
+    let items = c.args.entries.now.items in
+    let bank = g.B.Bank.state c.args.cpu.now.bank in
+    let bank1 = g.B.Bank.state c.come_back.new.cpu.bank in
+    let user = c.is_user-user.result in
+    let order = c.in-Some.order.now in
+    let same : user ≡ is_user script r.t = c.is_user-user.ensures ∙ ap (is_user script) r.running.turning.name in
+    let at = line_here script r.t r.c r.first r.before r.start items r.private c.args.task.now c.args.cpu.now bank r.running c.come_back.new.task c.come_back.new.cpu bank1 user same c.come_back.ensures order c.in-Some.ensures in
+    let fits = place_fits script c.requires.valid c.requires.built r.t r.private order at in
+    let place = place_here script r.t r.c r.first r.before r.start items r.private c.args.task.now c.args.cpu.now bank r.running c.come_back.new.task c.come_back.new.cpu bank1 user same c.come_back.ensures in
+    omega (arith, fits, place)
+
+pub returns-in-Err-clause-after : goal.returns-in-Err-clause-after
+returns-in-Err-clause-after g c = λ t cpu first before start p are.
+    let script = c.args.script.now in
+    let items = c.args.entries.now.items in
+    let bank = g.B.Bank.state c.args.cpu.now.bank in
+    let bank1 = g.B.Bank.state c.come_back.new.cpu.bank in
+    let user = c.is_user-user.result in
+    let order = c.in-Some.order.now in
+    let same : user ≡ is_user script t = c.is_user-user.ensures ∙ ap (is_user script) are.turning.name in
+    let back = back_here script t cpu first before start items p c.args.task.now c.args.cpu.now bank are c.come_back.new.task c.come_back.new.cpu bank1 user same c.come_back.ensures in
+    let at = line_here script t cpu first before start items p c.args.task.now c.args.cpu.now bank are c.come_back.new.task c.come_back.new.cpu bank1 user same c.come_back.ensures order c.in-Some.ensures in
+    let l = line_found script t p order at in
+    let found = c.lines_found.ensures script t l.lines p order c.requires.valid l.known l.at in
+    let bank2 = g.B.Bank.state c.run_local.new.cpu.bank in
+    let error = c.in-Err.error in
+    let refused = c.in-Err.ensures in
+    let here = on_here script t cpu first before start items p c.args.task.now c.args.cpu.now bank are c.come_back.new.task c.come_back.new.cpu bank1 user same c.come_back.ensures in
+    refused_over script t cpu first before start items p c.args.task.now c.come_back.new.task c.args.cpu.now c.come_back.new.cpu bank bank1 are back
+    order.command error c.run_local.new.task c.run_local.new.cpu bank2 (rw same at refused)
+    (c.lines_follow.ensures.refused script t start items p (length items) error order are.run (record { at = at; why = refused.why p here }))
+
+pub returns-in-Err-clause-kept : goal.returns-in-Err-clause-kept
+returns-in-Err-clause-kept g c = keeps_more c.args.cpu.now c.come_back.new.cpu c.run_local.new.cpu (keeps_cpu c.args.cpu.now c.come_back.new.cpu c.come_back.ensures.cpu) (keeps_cpu c.come_back.new.cpu c.run_local.new.cpu c.in-Err.ensures.cpu)
 
 pub returns-clause-after : goal.returns-clause-after
 returns-clause-after g c = λ t cpu first before start p are.
@@ -115,32 +163,31 @@ returns-clause-after g c = λ t cpu first before start p are.
     let items = c.args.entries.now.items in
     let bank = g.B.Bank.state c.args.cpu.now.bank in
     let bank1 = g.B.Bank.state c.come_back.new.cpu.bank in
-    let bank2 = g.B.Bank.state c.run_command-reply.new.cpu.bank in
     let user = c.is_user-user.result in
     let order = c.in-Some.order.now in
-    let reply = c.run_command-reply.result in
     let same : user ≡ is_user script t = c.is_user-user.ensures ∙ ap (is_user script) are.turning.name in
+    let back = back_here script t cpu first before start items p c.args.task.now c.args.cpu.now bank are c.come_back.new.task c.come_back.new.cpu bank1 user same c.come_back.ensures in
     let at = line_here script t cpu first before start items p c.args.task.now c.args.cpu.now bank are c.come_back.new.task c.come_back.new.cpu bank1 user same c.come_back.ensures order c.in-Some.ensures in
     let l = line_found script t p order at in
     let found = c.lines_found.ensures script t l.lines p order c.requires.valid l.known l.at in
-    let built = built_line script c.requires.valid c.requires.built t p order are.turning.outside at in
-    let entry = entry_here script t cpu first before start items p c.args.task.now c.args.cpu.now bank are c.come_back.new.task c.come_back.new.cpu bank1 user same c.come_back.ensures order reply c.run_command-reply.new.task c.run_command-reply.new.cpu bank2 at built (sym c.is_fork.ensures ∙ c.if-is_fork.false) c.run_command-reply.ensures in
+    let bank2 = g.B.Bank.state c.run_local.new.cpu.bank in
+    let reply = c.in-Ok.reply in
+    let ran = c.in-Ok.ensures in
+    let built = built_line script c.requires.valid c.requires.built t p order at in
+    let entry = entry_here script t cpu first before start items p c.args.task.now c.args.cpu.now bank are c.come_back.new.task c.come_back.new.cpu bank1 user same c.come_back.ensures order reply c.run_local.new.task c.run_local.new.cpu bank2 at built (sym c.is_outer.ensures ∙ c.if-is_outer.false) ran in
     let e : Entry = record { line = order.number; reply = reply } in
-    let back = back_here script t cpu first before start items p c.args.task.now c.args.cpu.now bank are c.come_back.new.task c.come_back.new.cpu bank1 user same c.come_back.ensures in
-    let done = rw same at c.run_command-reply.ensures in
+    let done = rw same at ran in
     let close = rw c.len-ran.ensures.value at c.close_after.ensures in
     rw c.push.ensures.items
-    (after_line script t cpu first before start items p c.args.task.now c.come_back.new.task c.args.cpu.now c.come_back.new.cpu bank bank1 are back order found built e refl
+    (after_line script t cpu first before start items p c.args.task.now c.come_back.new.task c.args.cpu.now c.come_back.new.cpu bank bank1 are back order found e refl
+    (line_follows script c.requires.valid c.requires.built t p order at entry.whole)
     (c.lines_follow.ensures.more script t start items p (length items) e order are.run entry)
     (c.lines_follow.ensures.last script t start items p (length items) e order are.run entry)
     (c.lines_follow.ensures.last_task script t start items p (length items) e order are.run entry)
-    c.run_command-reply.new.task c.run_command-reply.new.cpu bank2 done c.close_after.result close)
+    c.run_local.new.task c.run_local.new.cpu bank2 done c.close_after.result close)
 
 pub returns-clause-longer : goal.returns-clause-longer
-returns-clause-longer g c = rw c.push.ensures.items (if_longer c.args.entries.now.items (record { line = c.in-Some.order.now.number; reply = c.run_command-reply.result }) c.close_after.result)
-
-pub returns-in_default-clause-kept : goal.returns-in_default-clause-kept
-returns-in_default-clause-kept g c = keeps_cpu c.args.cpu.now c.come_back.new.cpu c.come_back.ensures.cpu
+returns-clause-longer g c = rw c.push.ensures.items (if_longer c.args.entries.now.items (record { line = c.in-Some.order.now.number; reply = c.in-Ok.reply }) c.close_after.result)
 
 pub returns-clause-kept : goal.returns-clause-kept
-returns-clause-kept g c = keeps_more c.args.cpu.now c.come_back.new.cpu c.run_command-reply.new.cpu (keeps_cpu c.args.cpu.now c.come_back.new.cpu c.come_back.ensures.cpu) (keeps_cpu c.come_back.new.cpu c.run_command-reply.new.cpu c.run_command-reply.ensures.cpu)
+returns-clause-kept g c = keeps_more c.args.cpu.now c.come_back.new.cpu c.run_local.new.cpu (keeps_cpu c.args.cpu.now c.come_back.new.cpu c.come_back.ensures.cpu) (keeps_cpu c.come_back.new.cpu c.run_local.new.cpu c.in-Ok.ensures.cpu)
