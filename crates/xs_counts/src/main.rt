@@ -1,9 +1,9 @@
 //! `xs_counts`: replays a script and prints its history, a line `%%`, and for each processor of the script a line with its
 //! number and what its bank counted: loads, saves, instructions and the trail. An input that is no script is answered as
-//! `xstate replay` answers it.
+//! `xstate replay` answers it, and the status is that of this command.
 #![tactic(auto)]
 
-ghost use Rattle.std.specs.Prelude.{◌≡◌, ◌⊎◌};
+ghost use Rattle.std.specs.Prelude.{◌≡◌, ◌⊎◌, ◌↔◌, true};
 ghost use Rattle.xs_model.specs.declared.script.Script.{Script};
 ghost use Rattle.xs_top.specs.Answers.{IsAccepted};
 
@@ -54,7 +54,7 @@ fn answer_input(rt: &HostRuntime, input: Vec<u8>) -> Status
     if sink.flush().is_err() {
         return Status::WriteFault;
     }
-    if status != Status::Done {
+    if !has_history(status) {
         return status;
     }
     match counts_text(alloc, procs.as_slice(), count) {
@@ -64,6 +64,13 @@ fn answer_input(rt: &HostRuntime, input: Vec<u8>) -> Status
         },
         Err(_) => Status::NoMemory,
     }
+}
+
+/// Whether a call with this status wrote a history.
+fn has_history(status: Status) -> bool
+    ensures { (result ≡ true) ↔ ((status ≡ Status.Done) ⊎ (status ≡ Status.Killed)) }
+{
+    matches!(status, Status::Done | Status::Killed)
 }
 
 /// How many processors the script has, and none where the input is no script or there is no memory to read it.

@@ -6,8 +6,8 @@ use std::test::Fail;
 use xs_io::MemSink;
 use xs_top::top;
 
-/// A script a line, and behind `|` what is printed for it, each with `/` for a line feed. The answers come from a program that shares
-/// nothing with this one. In order:
+/// A script a line, and behind `|` the status and what is printed for it, each with `/` for a line feed. The answers come from a
+/// program that shares nothing with this one. In order:
 ///
 /// - two tasks with one register
 /// - a kernel thread between two turns of a task: the second is a skip
@@ -17,34 +17,61 @@ use xs_top::top;
 /// - a task that runs on two processors, whose kernel section leaves no owner mark
 /// - PKRU is the task's own where the restore is skipped
 /// - a child that is born with its parent's registers, and changes none of them
+/// - the frame of a signal, as the handler finds it
+/// - a frame whose second magic word is wrong: the registers that it has besides x87 and SSE are left out
+/// - a frame with a reserved byte in its header: the return kills the task
+/// - a frame that is told to be a byte longer than the task's registers
+/// - two signals, one of them while a handler runs
+/// - a signal that is sent by a line of a handler
+/// - a return outside of a handler
 const CASES: &str = "\
 xstate 1/machine amx/cpus 1/quantum 1/large 0/task a/set xmm0 11111111111111111111111111111111/get xmm0/end/task b/set xmm0 22222222222222222222222222222222/get xmm0/end/|\
-start a 0 load -/local a 7 -/start b 0 load -/local b 11 -/start a 0 load -/local a 8 =11111111111111111111111111111111/start b 0 load -/local b 12 =22222222222222222222222222222222/start a 0 load -/end a/start b 0 load -/end b/\
+0/start a 0 load -/local a 7 -/start b 0 load -/local b 11 -/start a 0 load -/local a 8 =11111111111111111111111111111111/start b 0 load -/local b 12 =22222222222222222222222222222222/start a 0 load -/end a/start b 0 load -/end b/\
 %%/0 6 6 4 5822093129091926498/
 xstate 1/machine amx/cpus 1/quantum 2/large 0/task a/set k0 0102030405060708/yield/get k0/end/kthread k/yield/end/|\
-start a 0 load -/local a 7 -/local a 8 -/start k 0 kern -/local k 12 -/start a 0 skip -/local a 9 =0102030405060708/end a/start k 0 kern -/end k/\
+0/start a 0 load -/local a 7 -/local a 8 -/start k 0 kern -/local k 12 -/start a 0 skip -/local a 9 =0102030405060708/end a/start k 0 kern -/end k/\
 %%/0 1 2 2 16518842801338878299/
 xstate 1/machine amx/cpus 1/quantum 2/large 0/task a/set k0 0102030405060708/yield/get k0/end/kthread k/ksec aa/end/|\
-start a 0 load -/local a 7 -/local a 8 -/start k 0 kern -/local k 12 -/end k/start a 0 load -/local a 9 =0102030405060708/end a/\
+0/start a 0 load -/local a 7 -/local a 8 -/start k 0 kern -/local k 12 -/end k/start a 0 load -/local a 9 =0102030405060708/end a/\
 %%/0 2 2 3 6580323023799235409/
 xstate 1/machine amx/cpus 2/quantum 1/large 0/sched 0 0 1 1 0 0/task a/set k0 0100000000000000/get k0/get k0/end/|\
-start a 0 load -/local a 8 -/start a 1 load -/local a 9 =0100000000000000/start a 0 load -/local a 10 =0100000000000000/start a 0 skip -/end a/\
+0/start a 0 load -/local a 8 -/start a 1 load -/local a 9 =0100000000000000/start a 0 load -/local a 10 =0100000000000000/start a 0 skip -/end a/\
 %%/0 2 3 2 6891828200342487249/1 1 1 1 7992534180181725982/
 xstate 1/machine amx/cpus 1/quantum 1/large 0/task a/set mxcsr a01f0000/get mxcsr/end/task b/get mxcsr/end/|\
-start a 0 load -/local a 7 -/start b 0 load -/local b 11 =801f0000/start a 0 load -/local a 8 =a01f0000/start b 0 load -/end b/start a 0 load -/end a/\
+0/start a 0 load -/local a 7 -/start b 0 load -/local b 11 =801f0000/start a 0 load -/local a 8 =a01f0000/start b 0 load -/end b/start a 0 load -/end a/\
 %%/0 5 5 3 5531008925084418257/
 xstate 1/machine amx/cpus 2/quantum 1/large 0/sched 0 0 1 1/task a/ksec 01/get xmm0/end/|\
-start a 0 load -/local a 8 -/start a 1 load -/local a 9 =00000000000000000000000000000000/start a 0 load -/end a/\
+0/start a 0 load -/local a 8 -/start a 1 load -/local a 9 =00000000000000000000000000000000/start a 0 load -/end a/\
 %%/0 2 2 1 2725163124116183798/1 1 1 1 10330306826335963165/
 xstate 1/machine amx/cpus 1/quantum 2/large 0/task a/set pkru 0c000000/yield/get pkru/end/kthread k/yield/end/|\
-start a 0 load -/local a 7 -/local a 8 -/start k 0 kern -/local k 12 -/start a 0 skip -/local a 9 =0c000000/end a/start k 0 kern -/end k/\
+0/start a 0 load -/local a 7 -/local a 8 -/start k 0 kern -/local k 12 -/start a 0 skip -/local a 9 =0c000000/end a/start k 0 kern -/end k/\
 %%/0 1 2 0 0/
 xstate 1/machine amx/cpus 1/quantum 8/large 0/task p/set xmm0 33333333333333333333333333333333/fork c/set xmm0 44444444444444444444444444444444/get xmm0/end/child c/get xmm0/get pkru/end/|\
-start p 0 load -/local p 7 -/outer p 8 -/start c 0 load -/local c 13 =33333333333333333333333333333333/local c 14 =54555555/end c/start p 0 load -/local p 9 -/local p 10 =44444444444444444444444444444444/end p/\
+0/start p 0 load -/local p 7 -/outer p 8 -/start c 0 load -/local c 13 =33333333333333333333333333333333/local c 14 =54555555/end c/start p 0 load -/local p 9 -/local p 10 =44444444444444444444444444444444/end p/\
 %%/0 3 3 4 4544602824215299134/
+xstate 1/machine amx/cpus 1/quantum 8/large 0/task a/kill a 10/handler/peek 464 20/peek 512 8/peek 2816 4/get pkru/sigreturn/end/|\
+0/start a 0 load -/outer a 7 +0/start a 0 skip 10/local a 9 =53585046040b0000e702020000000000000b0000/local a 10 =0302000000000000/local a 11 =45585046/local a 12 =54555555/local a 13 full/end a/\
+%%/0 3 3 0 0/
+xstate 1/machine amx/cpus 1/quantum 8/large 0/task a/set ymmh0 77777777777777777777777777777777/kill a 10/get ymmh0/get pkru/handler/poke 2816 00/sigreturn/end/|\
+0/start a 0 load -/local a 7 -/outer a 8 +0/start a 0 skip 10/local a 12 -/local a 13 legacy/local a 9 =00000000000000000000000000000000/local a 10 =00000000/end a/\
+%%/0 3 3 2 17129131923698555817/
+xstate 1/machine amx/cpus 1/quantum 8/large 0/task a/kill a 10/handler/poke 528 01/sigreturn/end/|\
+1/start a 0 load -/outer a 7 +0/start a 0 skip 10/local a 9 -/kill a 11 frame-reserved/\
+%%/0 3 3 0 0/
+xstate 1/machine amx/cpus 1/quantum 8/large 0/task a/kill a 10/handler/poke 480 01/sigreturn/end/|\
+0/start a 0 load -/outer a 7 +0/start a 0 skip 10/local a 9 -/local a 10 legacy/end a/\
+%%/0 3 3 0 0/
+xstate 1/machine amx/cpus 1/quantum 1/large 0/task a/get xmm0/get xmm0/handler/yield/sigreturn/end/task b/kill a 12/kill a 10/end/|\
+0/start a 0 load -/local a 7 =00000000000000000000000000000000/start b 0 load -/outer b 14 +0/start a 0 load 12/local a 10 -/start b 0 load -/outer b 15 +0/start a 0 load -/local a 11 full/start b 0 load -/end b/\
+start a 0 load 10/local a 10 -/start a 0 skip -/local a 11 full/start a 0 skip -/local a 8 =00000000000000000000000000000000/start a 0 skip -/end a/\
+%%/0 11 12 2 8544434683230355998/
+xstate 1/machine amx/cpus 1/quantum 8/large 0/task a/handler/kill a 10/sigreturn/end/|\
+2/refused 8 outer-in-handler/
+xstate 1/machine amx/cpus 1/quantum 8/large 0/task a/sigreturn/end/|\
+2/refused 7 bad-line/
 ";
 
-/// What is printed for a script, with `/` for each line feed.
+/// The status and what is printed for a script, with `/` for each line feed.
 fn answer_of(alloc: Global, script: &str) -> Result<String, AllocError> {
     let text = script.replace(alloc, "/", "\n")?;
     let input = Vec::from_slice(alloc, text.as_bytes())?;
@@ -53,8 +80,10 @@ fn answer_of(alloc: Global, script: &str) -> Result<String, AllocError> {
     let mut source = MemSource::new(input, Vec::new(alloc));
     let mut sink = MemSink::open(alloc, 1000, Vec::new(alloc))?;
     let status = replay_call(alloc, &mut source, &mut sink, &mut procs);
-    let mut answer = String::from_utf8_lossy(alloc, sink.bytes())?;
-    if status == Status::Done {
+    let mut answer = String::new(alloc);
+    writeln!(answer, "{}", status.code())?;
+    answer.push_str(String::from_utf8_lossy(alloc, sink.bytes())?.as_str())?;
+    if has_history(status) {
         answer.push_str(counts_text(alloc, procs.as_slice(), count)?.as_str())?;
     }
     answer.replace(alloc, "\n", "/")
@@ -69,7 +98,22 @@ fn scripts_are_counted(rt: HostRuntime) -> Result<(), Fail> {
         assert_eq!(rt; answer.as_str(), wanted);
         cases = cases.saturating_add(1);
     }
-    assert!(rt; cases == 8);
+    assert!(rt; cases == 15);
+    Ok(())
+}
+
+/// A task that sends itself 600 signals, each for a handler of 1,001 lines: a run might have four events for each line of the body,
+/// two for each line of a handler that a signal begins, and eight for the task.
+#[test]
+fn too_many_events_are_refused(rt: HostRuntime) -> Result<(), Fail> {
+    let alloc = rt.alloc();
+    let kills = "kill a 10/".repeat(alloc, 600)?;
+    let yields = "yield/".repeat(alloc, 1000)?;
+    let script = format!(in alloc;
+        "xstate 1/machine amx/cpus 1/quantum 8/large 0/task a/{kills}handler/{yields}sigreturn/end/"
+    )?;
+    let answer = answer_of(alloc, script.as_str())?;
+    assert_eq!(rt; answer.as_str(), "2/refused 0 too-much 1203608/");
     Ok(())
 }
 

@@ -65,9 +65,15 @@ same_line input taken a b one_refusal h (ByLine m j short refuses) (ByLine n k s
 known_read : (input bytes : List ℕ) (before after : Input) → before.left ≡ Some input → IsRead before after bytes → Known input bytes
 known_read input bytes before after is read = known input bytes after.left (rw is at read.taken) read.whole
 
+-- what was read of an input that is refused is no script
+never_run : (input line : List ℕ) (before after : Input) (taken : List ℕ) (script : Script) → NotBoth → before.left ≡ Some input → IsRead before after taken → IsRefused input line → IsAccepted taken script → ⊥
+never_run input line before after taken script not_both is read refused accepted =
+    refused_accepted input taken line script not_both (known_read input taken before after is read) refused accepted
+
 -- what a command answers for a script
 pub may_run : {B : Type 0} (state : B → Bank) (play : Play) (input : List ℕ) (script : Script) (before after : Outside) (old new : List (Proc B)) (result : Status) → NotBoth → before.input.left ≡ Some input → IsAccepted input script → PlayEnds state play before after old new result → MayRun result
 may_run state play input script before after old new statuses.Done not_both is accepted ends = tt
+may_run state play input script before after old new statuses.Killed not_both is accepted ends = tt
 may_run state play input script before after old new statuses.Refused not_both is accepted ends =
     accepted_refused input ends.input ends.ends.0 script not_both (known_read input ends.input before.input after.input is ends.read) accepted ends.ends.1
 may_run state play input script before after old new statuses.ReadFault not_both is accepted ends = tt
@@ -78,8 +84,9 @@ may_run state play input script before after old new statuses.Usage not_both is 
 -- what it answers for an input that is refused
 pub may_refuse : {B : Type 0} (state : B → Bank) (play : Play) (input line : List ℕ) (before after : Outside) (old new : List (Proc B)) (result : Status) → NotBoth → OneRefusal → before.input.left ≡ Some input → IsRefused input line → PlayEnds state play before after old new result → MayRefuse before.output after.output line result
 may_refuse state play input line before after old new statuses.Done not_both one is refused ends =
-    let ran = ends.ends.1 in
-    refused_accepted input ends.input line ran.script not_both (known_read input ends.input before.input after.input is ends.read) refused ran.accepted
+    never_run input line before.input after.input ends.input ends.ends.1.script not_both is ends.read refused ends.ends.1.accepted
+may_refuse state play input line before after old new statuses.Killed not_both one is refused ends =
+    never_run input line before.input after.input ends.input ends.ends.1.script not_both is ends.read refused ends.ends.1.accepted
 may_refuse state play input line before after old new statuses.Refused not_both one is refused ends =
     let told = ends.ends in
     let same = same_line input ends.input told.0 line one (known_read input ends.input before.input after.input is ends.read) told.1 refused in

@@ -1,7 +1,6 @@
 -- Lemmas of the top call, one file a noun.
 pub mod KnownBytes
 pub mod HistoryFront
-pub mod Unkilled
 pub mod RunLemmas
 pub mod PlayLemmas
 pub mod AnswerLemmas

@@ -31,7 +31,7 @@ played_valid Run script h = record {
 played_valid Replay script h = h
 
 pub played_built : (play : Play) (script : Script) → IsBuilt script → IsBuilt (played play script)
-played_built Run script h = record { kinds = h.kinds; commands = h.commands }
+played_built Run script h = record { bodies = h.bodies; handlers = h.handlers }
 played_built Replay script h = h
 
 -- the line of an event, and the text of a history

@@ -14,6 +14,7 @@ use Rattle.xs_top.specs.declared.play.Play.{Play}
 use Rattle.xs_top.specs.declared.play.Play.TheVariants.{Replay}
 use Rattle.xs_top.specs.declared.status.Status.{Status}
 use Rattle.xs_top.specs.declared.status.Status.TheVariants as statuses
+use Rattle.xs_top.specs.Statuses.{status_of}
 use Rattle.xs_top.specs.Outside.{Output, Outside, IsRead, TakesAtMost, WritesNothing, Writes, FailsIn, limit}
 use Rattle.xs_top.specs.Run.{IsCommandLine, IsRunOf, play_words}
 
@@ -53,18 +54,28 @@ IsOutput state play input text old new = RunsTo state play input text old new �
 abbrev pub TellEnds : Status → List ℕ → Output → Output → Status → Type 0
 TellEnds status text before after result = ((result ≡ status) × Writes before after text) ⊎ ((result ≡ statuses.WriteFault) × FailsIn before after text)
 
+-- The history of a run by the script's schedule was written whole, and the status is that of this history.
+abbrev pub WroteHistory : {B : Type 0} → (B → Bank) → Script → Output → Output → List (Proc B) → List (Proc B) → Status → Type 0
+WroteHistory state script before after old new status = (history : List Event) × IsRunOf state Replay script history old new × (status ≡ status_of history) × Writes before after (history_text script history)
+
 -- the run of a script by its schedule
 abbrev pub WriteEnds : {B : Type 0} → (B → Bank) → Script → Output → Output → List (Proc B) → List (Proc B) → Status → Type 0
-WriteEnds state script before after old new statuses.Done = (history : List Event) × IsRunOf state Replay script history old new × Writes before after (history_text script history)
+WriteEnds state script before after old new statuses.Done = WroteHistory state script before after old new statuses.Done
+WriteEnds state script before after old new statuses.Killed = WroteHistory state script before after old new statuses.Killed
 WriteEnds state script before after old new statuses.Refused = ⊥
 WriteEnds state script before after old new statuses.ReadFault = ⊥
 WriteEnds state script before after old new statuses.WriteFault = (history : List Event) × IsRunOf state Replay script history old new × FailsIn before after (history_text script history)
 WriteEnds state script before after old new statuses.NoMemory = WritesNothing before after
 WriteEnds state script before after old new statuses.Usage = ⊥
 
+-- The text of a run was written whole, and the status is that of its history.
+abbrev pub AnswersRun : {B : Type 0} → (B → Bank) → Play → List ℕ → Output → Output → List (Proc B) → List (Proc B) → Status → Type 0
+AnswersRun state play input before after old new status = (text : List ℕ) × (ran : RunsTo state play input text old new) × (status ≡ status_of ran.history) × Writes before after text
+
 -- the answer to an input, with the processors before and after
 abbrev pub AnswerEnds : {B : Type 0} → (B → Bank) → Play → List ℕ → Output → Output → List (Proc B) → List (Proc B) → Status → Type 0
-AnswerEnds state play input before after old new statuses.Done = (text : List ℕ) × RunsTo state play input text old new × Writes before after text
+AnswerEnds state play input before after old new statuses.Done = AnswersRun state play input before after old new statuses.Done
+AnswerEnds state play input before after old new statuses.Killed = AnswersRun state play input before after old new statuses.Killed
 AnswerEnds state play input before after old new statuses.Refused = (text : List ℕ) × IsRefused input text × Writes before after text
 AnswerEnds state play input before after old new statuses.ReadFault = ⊥
 AnswerEnds state play input before after old new statuses.WriteFault = (text : List ℕ) × IsOutput state play input text old new × FailsIn before after text
@@ -81,6 +92,7 @@ pub record ReadAndEnds (before after : Outside) (Ends : List ℕ → Type 0) : T
 -- a command that plays a script
 abbrev pub PlayEnds : {B : Type 0} → (B → Bank) → Play → Outside → Outside → List (Proc B) → List (Proc B) → Status → Type 0
 PlayEnds state play before after old new statuses.Done = ReadAndEnds before after (λ input. AnswerEnds state play input before.output after.output old new statuses.Done)
+PlayEnds state play before after old new statuses.Killed = ReadAndEnds before after (λ input. AnswerEnds state play input before.output after.output old new statuses.Killed)
 PlayEnds state play before after old new statuses.Refused = ReadAndEnds before after (λ input. AnswerEnds state play input before.output after.output old new statuses.Refused)
 PlayEnds state play before after old new statuses.ReadFault = Rose before.input.faults after.input.faults × TakesAtMost before.input after.input × WritesNothing before.output after.output
 PlayEnds state play before after old new statuses.WriteFault = ReadAndEnds before after (λ input. AnswerEnds state play input before.output after.output old new statuses.WriteFault)
@@ -103,10 +115,11 @@ pub record Unfailed (before after : Outside) (result : Status) : Type 0 where
   pub reads : (result ≡ statuses.ReadFault → ⊥) → after.input.faults ≡ before.input.faults
   pub writes : (result ≡ statuses.WriteFault → ⊥) → after.output.faults ≡ before.output.faults
 
--- No processor changed, where no script was run to its end: at 64, 2, 4 and 6. What 0 and 5 leave is said with the script
+-- No processor changed, where no script was run to its end: at 64, 2, 4 and 6. What 0, 1 and 5 leave is said with the script
 -- that ran.
 abbrev pub KeepsProcessors : {B : Type 0} → List (Proc B) → List (Proc B) → Status → Type 0
 KeepsProcessors before after statuses.Done = ⊤
+KeepsProcessors before after statuses.Killed = ⊤
 KeepsProcessors before after statuses.Refused = after ≡ before
 KeepsProcessors before after statuses.ReadFault = after ≡ before
 KeepsProcessors before after statuses.WriteFault = ⊤

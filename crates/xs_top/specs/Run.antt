@@ -1,12 +1,12 @@
 -- A run: which script a command plays, and what is said of its history and of the processors that it leaves. This project's
 -- own.
-use Rattle.std.specs.Prelude.{◌≡◌, ℕ, ◌<◌, false, List, [], ◌∷◌, codes, drop, slice_get, Some}
+use Rattle.std.specs.Prelude.{◌≡◌, ℕ, ◌<◌, List, [], ◌∷◌, codes, drop, slice_get, Some}
 use Rattle.xs_bank.specs.Bank.{Bank, HasCountedNothing}
 use Rattle.xs_machine.specs.declared.proc.Proc.{Proc}
 use Rattle.xs_machine.specs.Processors.{HaveRun}
 use Rattle.xs_model.specs.declared.script.Script.{Script}
 use Rattle.xs_model.specs.declared.event.Event.{Event}
-use Rattle.xs_model.specs.History.{IsWhole, has_kill}
+use Rattle.xs_model.specs.History.{IsWhole}
 use Rattle.xs_model.specs.Replay.{IsReplay}
 use Rattle.xs_top.specs.declared.play.Play.{Play}
 use Rattle.xs_top.specs.declared.play.Play.TheVariants.{Run, Replay}
@@ -43,13 +43,12 @@ HaveMachineOf {B = B} script procs = (i : ℕ) (proc : Proc B) → i < script.cp
 
 -- ---- a run
 
--- The history is a whole one of the script, namely the replay of the script as the command plays it, and no task is killed in it.
--- Each bank has counted what the history tells of it, and has the file that the history leaves in it, PKRU aside. The script's
--- processors have its machine and the owner marks that the history gives them, and no other processor changed.
+-- The history is a whole one of the script, namely the replay of the script as the command plays it. Each bank has counted what
+-- the history tells of it, and has the file that the history leaves in it, PKRU aside. The script's processors have its machine
+-- and the owner marks that the history gives them, and no other processor changed.
 pub record IsRunOf {B : Type 0} (state : B → Bank) (play : Play) (script : Script) (history : List Event) (old new : List (Proc B)) : Type 0 where
   pub whole : IsWhole script history
   pub replay : IsReplay (played play script) history
-  pub unkilled : has_kill history ≡ false
   pub banks : HaveRun state script history new
   pub machine : HaveMachineOf script new
   pub others : drop script.cpus new ≡ drop script.cpus old

@@ -8,6 +8,7 @@ ghost use Rattle.xs_script.specs.RefusalText.{refusal_text};
 ghost use Rattle.xs_text.specs.Text.{AreTasksKnown, history_text};
 ghost use Rattle.xs_top.specs.declared.play.Play.{Play};
 ghost use Rattle.xs_top.specs.Outside.{outside, input_of, output_of, TakesAtMost, Writes, WritesNothing};
+ghost use Rattle.xs_top.specs.Statuses as told;
 ghost use Rattle.xs_top.specs.Run.{AreNumbered, AreUncounted, IsCommandLine, play_words};
 ghost use Rattle.xs_top.specs.Answers.{IsAccepted, IsRefused, AnswerEnds, TellEnds, PlayEnds, WriteEnds, IsCutShort, IsPlayCutShort, Unfailed, KeepsProcessors, usage_text, too_long_text};
 ghost use Rattle.xs_top.specs.Headline.{Headline, Refusal, MayRun, MayRefuse};
@@ -16,7 +17,7 @@ use crate::history::write_history;
 use crate::play::{Play, as_played, play_of};
 use crate::reading::{LIMIT, ReadError, read_up_to};
 use crate::running::{open_board, run_script};
-use crate::status::Status;
+use crate::status::{Status, status_of};
 use crate::writing::write_all;
 use std::alloc::Global;
 use xs_bank::Bank;
@@ -52,9 +53,10 @@ pub fn top<S: Source, K: Sink, B: Bank>(
         × Writes (output_of K.Sink sink.old) (output_of K.Sink sink.new) usage_text × (input_of S.Source source.new ≡ input_of S.Source source.old) }
     // Other words than a command answer nothing else, but that the usage line was not written.
     ensures no_command { (IsCommandLine (map string_bytes words.now) → ⊥) → (result ≡ Status.Usage) ⊎ (result ≡ Status.WriteFault) }
-    // 0: what was written is the text of the one history of the script's run, and the processors are as this run leaves them.
-    ensures headline { result ≡ Status.Done → (play : Play) × (map string_bytes words.now ≡ play_words play)
-        × Headline B.state play (outside S.Source K.Sink source.old sink.old) (outside S.Source K.Sink source.new sink.new) procs.old procs.new }
+    // 0 and 1: what was written is the text of the one history of the script's run, and the processors are as this run leaves
+    // them. It is 1 exactly where a task is killed in that history.
+    ensures headline { (result ≡ Status.Done) ⊎ (result ≡ Status.Killed) → (play : Play) × (map string_bytes words.now ≡ play_words play)
+        × Headline B.state play (outside S.Source K.Sink source.old sink.old) (outside S.Source K.Sink source.new sink.new) procs.old procs.new result }
     // 2: what was read is no script, and what was written is the line of its first refusal.
     ensures refused { result ≡ Status.Refused → IsCommandLine (map string_bytes words.now)
         × Refusal (outside S.Source K.Sink source.old sink.old) (outside S.Source K.Sink source.new sink.new) }
@@ -99,8 +101,9 @@ pub fn replay_call<S: Source, K: Sink, B: Bank>(
     requires counts { AreUncounted B.state procs.old }
 
     ensures no_usage { result ≡ Status.Usage → ⊥ }
-    // 0: what was written is the text of the one history of the script's run, and the processors are as this run leaves them.
-    ensures headline { result ≡ Status.Done → Headline B.state Play.Replay (outside S.Source K.Sink source.old sink.old) (outside S.Source K.Sink source.new sink.new) procs.old procs.new }
+    // 0 and 1: what was written is the text of the one history of the script's run, and the processors are as this run leaves
+    // them. It is 1 exactly where a task is killed in that history.
+    ensures headline { (result ≡ Status.Done) ⊎ (result ≡ Status.Killed) → Headline B.state Play.Replay (outside S.Source K.Sink source.old sink.old) (outside S.Source K.Sink source.new sink.new) procs.old procs.new result }
     // 2: what was read is no script, and what was written is the line of its first refusal.
     ensures refused { result ≡ Status.Refused → Refusal (outside S.Source K.Sink source.old sink.old) (outside S.Source K.Sink source.new sink.new) }
     // A known input that is a script is never refused, and one that is refused by a line is refused by no other and never run.
@@ -206,13 +209,13 @@ fn write_run<K: Sink, B: Bank>(
     }
 }
 
-/// Writes a history.
+/// Writes a history, and answers its status.
 fn tell_history<K: Sink>(script: &Script, history: &[Event], sink: &mut K) -> Status
     requires { AreTasksKnown script.now history.now }
-    ensures { TellEnds Status.Done (history_text script.now history.now) (output_of K.Sink sink.old) (output_of K.Sink sink.new) result }
+    ensures { TellEnds (told.status_of history.now) (history_text script.now history.now) (output_of K.Sink sink.old) (output_of K.Sink sink.new) result }
 {
     match write_history(script, history, sink) {
-        Ok(()) => Status::Done,
+        Ok(()) => status_of(history),
         Err(_) => Status::WriteFault,
     }
 }

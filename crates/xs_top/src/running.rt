@@ -11,7 +11,7 @@ use std::alloc::{AllocError, Global};
 use xs_bank::Bank;
 use xs_board::Board;
 use xs_machine::{Proc, run_schedule};
-use xs_model::{History, Script, built_is_plain};
+use xs_model::{History, Script};
 use xs_text::a_legal_history_has_a_text;
 
 /// The board of the script, which stays. It takes all memory of the run.
@@ -38,7 +38,6 @@ pub fn run_script<B: Bank>(script: &Script, board: Board, procs: &mut [Proc<B>])
     ensures numbers { AreNumbered procs.new }
 {
     a_legal_history_has_a_text();
-    built_is_plain();
     set_up(script, procs);
     run_schedule(script, board, procs)
 }

@@ -1,13 +1,18 @@
 //! The exit statuses of the program.
 
 ghost use Rattle.std.specs.Prelude.{◌≡◌};
-ghost use Rattle.xs_top.specs.Statuses.{code_of};
+ghost use Rattle.xs_model.specs.History as histories;
+ghost use Rattle.xs_top.specs.Statuses.{code_of, status_of};
+
+use xs_model::Event;
 
 /// How a command ended.
 #[derive(Clone, Copy, PartialEq, Eq, Debug)]
 pub enum Status {
     /// The history was written, and no task in it was killed.
     Done,
+    /// The history was written, and a task in it was killed.
+    Killed,
     /// The input is no script of this version.
     Refused,
     /// Reading the input failed.
@@ -27,6 +32,7 @@ impl Status {
     {
         match self {
             Status::Done => 0,
+            Status::Killed => 1,
             Status::Refused => 2,
             Status::ReadFault => 4,
             Status::WriteFault => 5,
@@ -34,4 +40,24 @@ impl Status {
             Status::Usage => 64,
         }
     }
+}
+
+/// The status of a history that was written.
+pub fn status_of(history: &[Event]) -> Status
+    ensures { result ≡ status_of history.now }
+{
+    if has_kill(history) {
+        Status::Killed
+    } else {
+        Status::Done
+    }
+}
+
+/// Whether a task is killed in the history.
+fn has_kill(history: &[Event]) -> bool
+    ensures { result ≡ histories.has_kill history.now }
+{
+    history
+        .iter()
+        .any(|event| matches!(event, Event::Kill { .. }))
 }

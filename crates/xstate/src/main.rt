@@ -64,7 +64,7 @@ fn hand_on<W: Write + Drop>(sink: &mut StdSink<W>, status: Status) -> Status
     // That status is the call's, or the writer failed here.
     ensures fault { result ≡ Status.WriteFault → (status ≡ Status.WriteFault) ⊎ Rose (sink_faults sink.old) (sink_faults sink.new) }
     // Where the call wrote all that it was to write, the sink holds nothing back.
-    ensures handed { (result ≡ Status.Done) ⊎ (result ≡ Status.Refused) ⊎ (result ≡ Status.Usage) → buffered sink.new ≡ [] }
+    ensures handed { (result ≡ Status.Done) ⊎ (result ≡ Status.Killed) ⊎ (result ≡ Status.Refused) ⊎ (result ≡ Status.Usage) → buffered sink.new ≡ [] }
     // The status of a call that wrote nothing stays.
     ensures kept { (status ≡ Status.ReadFault) ⊎ (status ≡ Status.NoMemory) → result ≡ status }
 {

@@ -1,7 +1,13 @@
 use Rattle.xs_top.specs.declared.play.Play.TheVariants.{Replay}
 use Rattle.xs_top.specs.Outside.{outside}
+use Rattle.xs_top.proofs.AnswerLemmas.{headline_told}
 use Rattle.xs_top.proofs.KnownInputs.{may_run, may_refuse}
 use Rattle.xs_top.proofs.calls.replay_call.Goals as goal
+
+pub returns-clause-headline : goal.returns-clause-headline
+returns-clause-headline g c = λ written.
+    headline_told g.B.Bank.state Replay (outside g.S.Source g.K.Sink c.args.source.now c.args.sink.now) (outside g.S.Source g.K.Sink c.play_call.new.source c.play_call.new.sink)
+    c.args.procs.now c.play_call.new.procs c.play_call.result written c.play_call.ensures.ends
 
 pub returns-clause-runs : goal.returns-clause-runs
 returns-clause-runs g c = λ input script is accepted.

@@ -1,7 +1,6 @@
 -- What a run leaves: that of the schedule, over processors that are set up.
-use Rattle.std.proofs.Common.{◌≡◌, length, reverse, ◌∙◌, arith}
+use Rattle.std.proofs.Common.{◌≡◌, length, ◌∙◌, arith}
 use Rattle.xs_top.proofs.RunLemmas.{known_tasks, machine_kept, numbers_kept}
-use Rattle.xs_top.proofs.Unkilled.{unkilled}
 use Rattle.xs_top.proofs.running.run_script.Goals as goal
 
 pub returns-clause-run : goal.returns-clause-run
@@ -12,7 +11,6 @@ returns-clause-run g c =
     record {
       whole = ran.whole;
       replay = ran.replay;
-      unkilled = unkilled script c.run_schedule.result (c.built_is_plain.ensures.events script (reverse c.run_schedule.result) c.requires.valid c.requires.built ran.whole.legal);
       banks = ran.banks;
       machine = machine_kept g.B.Bank.state script c.set_up.new.procs c.run_schedule.new.procs len ran.kept c.set_up.ensures.set_up;
       others = ran.others ∙ c.set_up.ensures.others;
