@@ -2,6 +2,8 @@
 use Rattle.std.specs.Fmt.{digits}
 use Rattle.std.specs.List.{flat_map}
 use Rattle.std.specs.Prelude.{◌≡◌, ℕ, List, [], ◌∷◌, ◌++◌, codes, decimal, false, if◌then◌else◌}
+use Rattle.xs_base.specs.declared.class.Class.{Class}
+use Rattle.xs_base.specs.declared.class.Class.TheVariants.{Small, Large}
 use Rattle.xs_base.specs.declared.component.Row.{Row}
 use Rattle.xs_base.specs.Compact.{compact_offset, compact_size, is_extended}
 use Rattle.xs_base.specs.Layout.{amx_rows, avx_rows, standard_size}
@@ -10,13 +12,15 @@ use Rattle.xs_bench.specs.declared.command.Machine.TheVariants.{Amx, Avx}
 use Rattle.xs_bench.specs.declared.command.Command.{Command}
 use Rattle.xs_bench.specs.declared.command.Command.TheVariants.{Layout, Places, Repeat}
 use Rattle.xs_bench.specs.declared.command.Call.{Call}
-use Rattle.xs_bench.specs.declared.command.Call.TheVariants.{Layer, Bank}
+use Rattle.xs_bench.specs.declared.command.Call.TheVariants.{Layer, Bank, Signal}
 use Rattle.xs_bench.specs.declared.command.LayerCall.{LayerCall}
-use Rattle.xs_bench.specs.declared.command.LayerCall.TheVariants.{StandardInto, StandardOf, CompactOf, CopyArea, Copy, CopyCompacted, CopyOne, CopyHeader, Nothing, WriteEvent, CopyEvent}
+use Rattle.xs_bench.specs.declared.command.LayerCall.TheVariants.{StandardInto, StandardOf, CompactOf, CopyArea, Copy, CopyCompacted, CopySmall, CopyOne, CopyHeader, Nothing, WriteEvent, CopyEvent}
 use Rattle.xs_bench.specs.declared.command.BankKind.{BankKind}
 use Rattle.xs_bench.specs.declared.command.BankKind.TheVariants.{Plain, Track}
 use Rattle.xs_bench.specs.declared.command.BankCall.{BankCall}
 use Rattle.xs_bench.specs.declared.command.BankCall.TheVariants.{SaveFull, SaveOne, SaveUnmodified, SaveInitial, LoadFull, LoadOne, LoadInitial}
+use Rattle.xs_bench.specs.declared.command.SignalCall.{SignalCall}
+use Rattle.xs_bench.specs.declared.command.SignalCall.TheVariants.{Both, Return}
 
 abbrev pub machine_word : Machine → List ℕ
 machine_word Amx = codes "amx"
@@ -46,16 +50,27 @@ layer_call_word CompactOf = codes "compact-of"
 layer_call_word CopyArea = codes "copy-area"
 layer_call_word Copy = codes "copy"
 layer_call_word CopyCompacted = codes "copy-compacted"
+layer_call_word CopySmall = codes "copy-small"
 layer_call_word CopyOne = codes "copy-one"
 layer_call_word CopyHeader = codes "copy-header"
 layer_call_word Nothing = codes "nothing"
 layer_call_word WriteEvent = codes "write-event"
 layer_call_word CopyEvent = codes "copy-event"
 
--- a call on a bank: the bank, a dash, and the instruction with what it has to move
+abbrev pub signal_call_word : SignalCall → List ℕ
+signal_call_word Both = codes "signal"
+signal_call_word Return = codes "sigreturn"
+
+abbrev pub class_word : Class → List ℕ
+class_word Small = codes "small"
+class_word Large = codes "large"
+
+-- A call on a bank: the bank, a dash, and the instruction with what it has to move. A step of a signal's handler: the step, a
+-- dash, and the class of the task's area.
 abbrev pub call_word : Call → List ℕ
 call_word (Layer call) = layer_call_word call
 call_word (Bank kind call) = kind_word kind ++ (codes "-" ++ bank_call_word call)
+call_word (Signal call class) = signal_call_word call ++ (codes "-" ++ class_word class)
 
 -- the words of a command; the last of places is the mask, and the last of a call its number of turns
 abbrev pub SpellsCommand : List (List ℕ) → Command → Type 0

@@ -1,8 +1,9 @@
 //! The words of the command line.
 
 ghost use Rattle.std.specs.Prelude.{◌≡◌, [], ◌∷◌, decimal, map, string_bytes, IfSome};
-ghost use Rattle.xs_bench.specs.Words.{bank_call_word, call_word, kind_word, layer_call_word, machine_word, rows_of_machine, SpellsCommand};
+ghost use Rattle.xs_bench.specs.Words.{bank_call_word, call_word, class_word, kind_word, layer_call_word, machine_word, rows_of_machine, signal_call_word, SpellsCommand};
 
+use xs_area::Class;
 use xs_base::Features;
 use xs_layout::Layout;
 
@@ -58,6 +59,8 @@ pub enum LayerCall {
     Copy,
     /// A plain copy of as many bytes as the compacted format has without PKRU.
     CopyCompacted,
+    /// A plain copy of as many bytes as the standard format has without TILEDATA.
+    CopySmall,
     /// A plain copy of as many bytes as SSE has with the header.
     CopyOne,
     /// A plain copy of as many bytes as the header has.
@@ -70,6 +73,15 @@ pub enum LayerCall {
     CopyEvent,
 }
 
+/// A step of a signal's handler, on `xs_bank::TrackBank` with every register in use that the task has room for.
+#[derive(Clone, Copy)]
+pub enum SignalCall {
+    /// `xs_frame::deliver` and `xs_frame::sigreturn` after it.
+    Both,
+    /// `xs_frame::sigreturn`.
+    Return,
+}
+
 /// A call that is made many times.
 #[derive(Clone, Copy)]
 pub enum Call {
@@ -77,6 +89,8 @@ pub enum Call {
     Layer(LayerCall),
     /// An instruction of a bank.
     Bank(BankKind, BankCall),
+    /// A step of a signal's handler, for a task with an area of this class.
+    Signal(SignalCall, Class),
 }
 
 /// What the words ask for.
@@ -173,13 +187,18 @@ fn number_of(word: &str) -> Option<u64>
     Some(number)
 }
 
-/// The call of this name.
+/// The call of this name: one without a bank, or a bank, a dash and an instruction of it, or a step of a signal's handler, a dash
+/// and a class of areas.
 fn call_of(word: &str) -> Option<Call>
     ensures { IfSome result (λ call. word.now ≡ call_word call) }
 {
-    match layer_call_of(word) {
-        Some(call) => Some(Call::Layer(call)),
-        None => bank_call_of(word),
+    if let Some(call) = layer_call_of(word) {
+        return Some(Call::Layer(call));
+    }
+    let (front, back) = word.split_once('-')?;
+    match kind_of(front) {
+        Some(kind) => Some(Call::Bank(kind, instruction_of(back)?)),
+        None => Some(Call::Signal(signal_call_of(front)?, class_of(back)?)),
     }
 }
 
@@ -194,6 +213,7 @@ fn layer_call_of(word: &str) -> Option<LayerCall>
         "copy-area" => Some(LayerCall::CopyArea),
         "copy" => Some(LayerCall::Copy),
         "copy-compacted" => Some(LayerCall::CopyCompacted),
+        "copy-small" => Some(LayerCall::CopySmall),
         "copy-one" => Some(LayerCall::CopyOne),
         "copy-header" => Some(LayerCall::CopyHeader),
         "nothing" => Some(LayerCall::Nothing),
@@ -201,14 +221,6 @@ fn layer_call_of(word: &str) -> Option<LayerCall>
         "copy-event" => Some(LayerCall::CopyEvent),
         _ => None,
     }
-}
-
-/// The call on a bank of this name: the bank, a dash, and the instruction.
-fn bank_call_of(word: &str) -> Option<Call>
-    ensures { IfSome result (λ call. word.now ≡ call_word call) }
-{
-    let (bank, instruction) = word.split_once('-')?;
-    Some(Call::Bank(kind_of(bank)?, instruction_of(instruction)?))
 }
 
 /// The bank of this name.
@@ -234,6 +246,28 @@ fn instruction_of(word: &str) -> Option<BankCall>
         "xrstors-full" => Some(BankCall::LoadFull),
         "xrstors-one" => Some(BankCall::LoadOne),
         "xrstors-initial" => Some(BankCall::LoadInitial),
+        _ => None,
+    }
+}
+
+/// The step of a signal's handler of this name.
+fn signal_call_of(word: &str) -> Option<SignalCall>
+    ensures { IfSome result (λ call. word.now ≡ signal_call_word call) }
+{
+    match word {
+        "signal" => Some(SignalCall::Both),
+        "sigreturn" => Some(SignalCall::Return),
+        _ => None,
+    }
+}
+
+/// The class of areas of this name.
+fn class_of(word: &str) -> Option<Class>
+    ensures { IfSome result (λ class. word.now ≡ class_word class) }
+{
+    match word {
+        "small" => Some(Class::Small),
+        "large" => Some(Class::Large),
         _ => None,
     }
 }

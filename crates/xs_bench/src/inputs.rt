@@ -10,10 +10,10 @@ use xs_layout::Layout;
 use xs_regs::{File, place_of};
 
 /// A register of each component.
-const REGISTERS: &str = "fip xmm1 ymmh1 k1 zmmh1 zmm17 pkru tilecfg tmm0.1";
+pub const REGISTERS: &str = "fip xmm1 ymmh1 k1 zmmh1 zmm17 pkru tilecfg tmm0.1";
 
 /// The bytes that are written into each register.
-const ONES: [u8; 64] = [1; 64];
+pub const ONES: [u8; 64] = [1; 64];
 
 /// What the calls read and write.
 #[derive(Drop)]

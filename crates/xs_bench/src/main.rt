@@ -7,6 +7,7 @@ mod command;
 mod inputs;
 mod lines;
 mod repeats;
+mod signals;
 mod text;
 
 use crate::command::{Command, parse};
@@ -24,12 +25,15 @@ usage: xs_bench layout MACHINE
        xs_bench places MACHINE MASK
        xs_bench repeat CALL N
        xs_bench repeat BANK-INSTRUCTION N
+       xs_bench repeat STEP-CLASS N
 MACHINE: amx, avx
 MASK: the number of a set of components, in decimal
 N: how many times the call is made
-CALL: standard-into, standard-of, compact-of, copy-area, copy, copy-compacted, copy-one, copy-header, nothing, write-event, copy-event
+CALL: standard-into, standard-of, compact-of, copy-area, copy, copy-compacted, copy-small, copy-one, copy-header, nothing, write-event, copy-event
 BANK: plain, track
 INSTRUCTION: xsaves-full, xsaves-one, xsaves-unmodified, xsaves-initial, xrstors-full, xrstors-one, xrstors-initial
+STEP: signal, sigreturn
+CLASS: small, large
 ";
 
 /// Does what the command line asks. The status is 0, 64 for words that are no command, 6 where there was no memory, 5

@@ -8,6 +8,7 @@ use crate::banks::repeat_bank_call;
 use crate::command::{BankCall, BankKind, Call, LayerCall};
 use crate::inputs::Inputs;
 use crate::lines::{repeat_line_copies, repeat_writes};
+use crate::signals::repeat_signal_call;
 use std::alloc::{AllocError, Global};
 use xs_area::{Area, Origin, compact_of, copy_area, read_standard, standard_of, stands, xstate_bv};
 use xs_bank::{Bank, PlainBank, TrackBank};
@@ -37,6 +38,7 @@ pub fn repeat(alloc: Global, call: Call, turns: u64) -> Result<Option<u64>, Allo
         Call::Bank(BankKind::Track, call) => {
             repeat_on_bank(alloc, TrackBank::new(alloc), call, turns)
         }
+        Call::Signal(call, class) => repeat_signal_call(alloc, call, class, turns),
     }
 }
 
@@ -70,6 +72,7 @@ fn repeat_layer_call(inputs: &mut Inputs, call: LayerCall, turns: u64) -> Option
         LayerCall::CopyArea => repeat_copy_area(layout, area, other, turns),
         LayerCall::Copy => repeat_copy(image, out, 0, 11008, turns),
         LayerCall::CopyCompacted => repeat_copy(&mut area.bytes, &mut other.bytes, 0, 10688, turns),
+        LayerCall::CopySmall => repeat_copy(image, out, 0, 2816, turns),
         LayerCall::CopyOne => repeat_copy(image, out, 128, 320, turns),
         LayerCall::CopyHeader => repeat_copy(image, out, 128, 64, turns),
         _ => repeat_nothing(image, out, turns),

@@ -1,4 +1,4 @@
-use Rattle.std.proofs.Common.{◌≡◌, ◌≤◌, length}
+use Rattle.std.proofs.Common.{◌≡◌, length}
 use Rattle.xs_bench.proofs.repeats.repeat_copy.Given as goal
 
 abbrev pub invariant-turns : goal.invariant-turns
