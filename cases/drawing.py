@@ -1,6 +1,8 @@
 """Draws scripts of the forms that are built, for cases/random."""
 import random
 
+from framing import Frame, draw_peek, draw_poke
+
 # The registers that are built, by their component: names and bytes.
 REGISTERS = {
     0: [("fcw", 2), ("fsw", 2), ("ftw", 1), ("fop", 2), ("fip", 8), ("fdp", 8)] + [(f"st{i}", 10) for i in range(8)],
@@ -14,7 +16,7 @@ REGISTERS = {
 # The extended components of `amx`: number, size, flags.
 EXTENDED = [(2, 256, 0), (5, 64, 0), (6, 512, 0), (7, 1024, 0), (9, 8, 0), (17, 64, 2), (18, 8192, 6)]
 # The first words of lines that aren't built: a changed line must not begin with one.
-UNBUILT = set("handler sigreturn tilerelease perm peek poke bpeek bpoke kill stop wait getregs setregs cont".split())
+UNBUILT = set("tilerelease perm bpeek bpoke stop wait getregs setregs cont".split())
 UNBUILT_NAMES = ("tilecfg", "tmm")
 # Bytes of initial registers (FCW, MXCSR, PKRU, and zero), which name no block; and two for each of 64 blocks.
 INITIAL = set(bytes.fromhex("007f03801f5455"))
@@ -22,10 +24,13 @@ TAGS = [byte for byte in range(256) if byte not in INITIAL]
 
 
 class Block:
-    """A block of a script that is drawn. With a number it writes only bytes that name it."""
+    """A block of a script that is drawn. With a number it writes only bytes that name it. Where it has a handler, that is a list of lines."""
 
     def __init__(self, kind, name, number=None):
-        self.kind, self.name, self.body, self.number = kind, name, [], number
+        self.kind, self.name, self.body, self.handler, self.number = kind, name, [], None, number
+
+    def tag(self):
+        return None if self.number is None else TAGS[self.number]
 
     def value(self, rng, name, size):
         if self.number is None:
@@ -36,27 +41,28 @@ class Block:
         return f"ksec {rng.randrange(256) if self.number is None else TAGS[64 + self.number]:02x}"
 
     def lines(self):
-        return [f"{self.kind} {self.name}"] + self.body + ["end"]
-
+        handler = [] if self.handler is None else ["handler"] + self.handler + ["sigreturn"]
+        return [f"{self.kind} {self.name}"] + self.body + handler + ["end"]
 
 
 def draw_machine(rng):
-    """Lines of a machine, and the components that it has."""
+    """Lines of a machine, and the places of the components that it has, but TILEDATA's."""
     kind = rng.choice(["amx", "amx", "avx", "rows"])
     if kind == "amx":
-        return ["machine amx"], [0, 1, 2, 5, 6, 7, 9]
+        return ["machine amx"], {0: 0, 1: 160, 2: 576, 5: 1088, 6: 1152, 7: 1664, 9: 2688, 17: 2752}
     if kind == "avx":
-        return ["machine avx"], [0, 1, 2]
-    lines, has, at = ["machine rows", "row 0 160 0 0", "row 1 256 160 0"], [0, 1], 576
+        return ["machine avx"], {0: 0, 1: 160, 2: 576}
+    lines, places, at = ["machine rows", "row 0 160 0 0", "row 1 256 160 0"], {0: 0, 1: 160}, 576
     tiles = rng.random() < 0.5
     for number, size, flags in EXTENDED:
         if (number in (17, 18) and not tiles) or (number not in (17, 18) and rng.random() < 0.4):
             continue
-        at += rng.choice([0, 0, 8, 64])
+        at += rng.choice([0, 0, 1, 8, 64])
         lines.append(f"row {number} {size} {at} {flags}")
-        has.append(number)
+        if number != 18:
+            places[number] = at
         at += size
-    return lines, has
+    return lines, places
 
 
 def draw_bytes(rng, name, size):
@@ -73,10 +79,13 @@ def draw_bytes(rng, name, size):
     return data.hex()
 
 
-def draw_line(rng, block, registers):
+def draw_line(rng, block, registers, frame, inside=False):
+    """A line of a block's body, or inside its handler."""
     kind = rng.random()
     if block.kind == "kthread":
         return "yield" if kind < 0.5 else block.section(rng)
+    if rng.random() < (0.4 if inside else 0.04):
+        return rng.choice([draw_peek, draw_poke, draw_poke])(rng, frame, block.tag())
     if kind < 0.12:
         return block.section(rng)
     if kind < 0.22:
@@ -85,17 +94,36 @@ def draw_line(rng, block, registers):
     return f"get {name}" if kind < 0.6 else f"set {name} {block.value(rng, name, size)}"
 
 
-def draw_blocks(rng, registers, secrets):
+def draw_blocks(rng, registers, frame, secrets):
     many = rng.choice([1, 2, 2, 3, 4, 6, rng.choice([10, 64])])
     kinds = ["task", "task", "kthread"] + rng.choice([[], ["child"], ["child"] * 3])
     blocks = [Block(rng.choice(kinds), rng.choice("abcxyz") + str(number), number if secrets else None) for number in range(many)]
+    signals = rng.random() < 0.75
     if all(block.kind == "child" for block in blocks):
         # (nothing runs, which the cases ask)
         rng.choice(blocks).kind = "task"
     for block in blocks:
         for _ in range(rng.choice([0, 1, 2, 3, 5, 9, 33]) if many < 10 else rng.randrange(4)):
-            block.body.append(draw_line(rng, block, registers))
+            block.body.append(draw_line(rng, block, registers, frame))
+        if signals and block.kind != "kthread" and rng.random() < 0.7:
+            block.handler = [draw_line(rng, block, registers, frame, True) for _ in range(rng.choice([0, 1, 2, 3, 5, 9]))]
     return blocks
+
+
+def put_kills(rng, blocks, secrets):
+    """Lines that send signals to blocks with a handler, anywhere in a body. A script with too many events is rare, and with secrets there's none."""
+    bodies = [block for block in blocks if block.kind != "kthread"]
+    targets = [block for block in bodies if block.handler is not None]
+    many = rng.choice([1, 2, 3, 6, 12, len(bodies)]) if targets else 0
+    if many and not secrets and rng.random() < 0.004:
+        rng.choice(targets).handler.extend(["yield"] * rng.choice([1000, 20000]))
+        many = rng.choice([4, 30, 600])
+    for _ in range(many):
+        sender = rng.choice(bodies)
+        target = sender if sender in targets and rng.random() < 0.5 else rng.choice(targets)
+        line = f"kill {target.name} {rng.choice([10, 12, rng.choice([1, 8, 18, 20, 31])])}"
+        at = rng.choice([0, len(sender.body), rng.randint(0, len(sender.body))])
+        sender.body[at:at] = [line] * rng.choice([1, 1, 1, 2])
 
 
 def put_forks(rng, blocks):
@@ -115,21 +143,22 @@ def put_forks(rng, blocks):
 
 def draw_script(rng, secrets):
     """The lines of a script that isn't refused."""
-    machine, has = draw_machine(rng)
-    all_registers = [it for component in has if component in REGISTERS for it in REGISTERS[component]]
+    machine, places = draw_machine(rng)
+    all_registers = [it for component in places if component in REGISTERS for it in REGISTERS[component]]
     registers = rng.sample(all_registers, min(len(all_registers), rng.choice([1, 2, 3, 5] if secrets else [2, 3, 5, 40])))
     if secrets and rng.random() < 0.5:
         # (what a section writes)
         registers.append(("xmm0", 16))
-    if 9 in has and rng.random() < 0.6:
+    if 9 in places and rng.random() < 0.6:
         registers += REGISTERS[9] * rng.choice([1, 2, len(registers)])
     cpus = rng.choice([1, 1, 2, 2, 3, 4, 16, rng.randint(1, 16)])
     lines = ["xstate 1"] + machine + [f"cpus {cpus}", f"quantum {rng.choice([1, 1, 2, 3, 8, rng.randint(1, 32)])}"]
     lines.append(f"large {rng.choice([0, 0, 1, 64])}")
     for _ in range(rng.choice([0, 0, 1, 1, 2, 3])):
         lines.append("sched " + " ".join(str(rng.randrange(cpus)) for _ in range(rng.choice([1, 2, 3, 7, 20]))))
-    blocks = draw_blocks(rng, registers, secrets)
+    blocks = draw_blocks(rng, registers, Frame(places), secrets)
     put_forks(rng, blocks)
+    put_kills(rng, blocks, secrets)
     return lines + [line for block in blocks for line in block.lines()]
 
 
@@ -161,9 +190,37 @@ def places_of(lines, *words):
     return [i for i, line in enumerate(lines) if line.split(" ")[0] in words]
 
 
+def change_kill(rng, lines):
+    """A `kill` of another block or signal, or one more at any place."""
+    kills, blocks, others = places_of(lines, "kill"), places_of(lines, *BLOCKS), places_of(lines, "set", "get", "sigreturn", "end", "fork")
+    if not blocks or not others:
+        return
+    name = rng.choice([lines[rng.choice(blocks)].split(" ")[-1], lines[rng.choice(blocks)].split(" ")[-1], "zz", "A"])
+    line = f"kill {name} {rng.choice([10, 10, 12, 0, 9, 19, 31, 32, 4294967295])}"
+    if kills and rng.random() < 0.5:
+        lines[rng.choice(kills)] = line
+    else:
+        lines.insert(rng.choice(others), line)
+
+
+def change_handler(rng, lines):
+    """A line `handler` or `sigreturn` more or less, or an outer line in a handler."""
+    places, any_place = places_of(lines, "handler", "sigreturn"), rng.randrange(len(lines))
+    kind = rng.randrange(4)
+    if kind == 0 and places:
+        del lines[rng.choice(places)]
+    elif kind == 1:
+        lines.insert(rng.choice(places + [any_place]), rng.choice(["handler", "sigreturn"]))
+    elif kind == 2 and places:
+        lines.insert(rng.choice(places) + rng.choice([0, 1]), rng.choice(lines))
+    elif places_of(lines, "handler"):
+        outer = [lines[at] for at in places_of(lines, "kill", "fork")] + ["kill zz 10", "fork zz"]
+        lines.insert(rng.choice(places_of(lines, "handler")) + 1, rng.choice(outer))
+
+
 def change_meaning(rng, lines):
     """A line that is spelled well and may still be refused: a number past its limit, a name twice, a register or bytes that don't fit."""
-    kind = rng.choice(["limit", "limit", "sched", "name", "register", "bytes", "row", "fork", "fork", "fork", "pkru"])
+    kind = rng.choice(["limit"] * 2 + ["fork"] * 3 + ["kill"] * 3 + ["handler"] * 2 + ["frame"] * 2 + ["sched", "name", "register", "bytes", "row", "pkru"])
     if kind == "limit":
         at = rng.choice(places_of(lines, "cpus", "quantum", "large") or [0])
         lines[at] = lines[at].split(" ")[0] + " " + rng.choice(["0", "1", "2", "16", "17", "32", "33", "64", "65", "4294967295", "4294967296"])
@@ -185,6 +242,14 @@ def change_meaning(rng, lines):
         commands = places_of(lines, "set", "get", "yield", "ksec")
         if commands:
             lines[rng.choice(commands)] = rng.choice(["get pkru", "set pkru 00", "set pkru 54555555", "set pkru 545555", "set pkru 0000000000", "set pkru ffffffff00000000"])
+    elif kind == "kill":
+        change_kill(rng, lines)
+    elif kind == "handler":
+        change_handler(rng, lines)
+    elif kind == "frame":
+        at = rng.choice(places_of(lines, "peek", "poke", "get", "set", "yield") or [len(lines) - 1])
+        place, size = rng.choice([16324, 16325, 16387, 16388, 4294967295]), rng.choice([0, 1, 63, 64, 65])
+        lines[at] = rng.choice([f"peek {place} {size}", f"poke {place} {'00' * size}", f"peek {rng.choice([0, 480])} {size}", f"poke 0 {'ab' * size}"])
     elif kind in ("register", "bytes"):
         commands = places_of(lines, "set", "get")
         if commands:
@@ -227,7 +292,9 @@ def change_lines(rng, lines):
     elif kind == 5:
         lines.insert(at, rng.choice([
             "get xmm16", "get k8", "get zmm15", "set k0 00", "set mxcsr 801f0100", "get ymmh0", "ksec 0102", "ksec a", "ksec AA", "yield",
-            "sched", "sched 0", "sched 16", "cpus 0", "cpus 2", "quantum 1", "task a0", "kthread a0", "child a0", "fork a0", "fork", "fork A", "child", "get pkru", "end", "row 2 256 576 0", "xstate 1",
+            "sched", "sched 0", "sched 16", "cpus 0", "cpus 2", "quantum 1", "task a0", "kthread a0", "child a0", "fork a0", "fork", "fork A",
+            "child", "get pkru", "end", "row 2 256 576 0", "xstate 1", "handler", "sigreturn", "kill a0 10", "kill a0 9", "kill",
+            "peek 0 64", "peek 0 65", "poke 16387 00", "poke 16388 00",
         ]))
     else:
         lines = change_meaning(rng, lines)

@@ -1,0 +1,132 @@
+"""Tells to which situations a history comes, for cases/random."""
+import collections
+
+from drawing import BLOCKS
+
+
+class Situations:
+    """The situations of a history so far."""
+
+    def __init__(self, story):
+        self.story, self.at = story, set()
+
+    def where(self, holds, situation, otherwise=None):
+        if holds or otherwise:
+            self.at.add(situation if holds else otherwise)
+
+
+class Reach(Situations):
+    """The situations of forks and of PKRU. Of each block: the lines of its turn, how its line before ended, its last processor, whose PKRU
+    it has where one was set, and whether a kernel thread has had that processor since."""
+
+    def __init__(self, story):
+        super().__init__(story)
+        self.turn, self.before, self.last, self.pkru, self.thread = collections.defaultdict(list), {}, {}, {}, {}
+        for event in story.events:
+            {"start": self.start, "fork": self.fork, "local": self.line}.get(story.kind_of(event), lambda event, name: None)(event, event[1])
+        self.at |= {"a child never born" for name, kind in story.kind.items() if kind == "child" and name not in story.parent}
+        if len({self.last[name] for name in story.parent if name in self.last}) > 1:
+            self.at.add("children on several processors")
+
+    def start(self, event, name):
+        cpu, how, parent = event[2], event[3], self.story.parent.get(name)
+        if how == "kern":
+            self.thread.update({other: True for other, its in self.last.items() if its == cpu})
+            return
+        if self.before.get(name) == "fork":
+            self.where(how == "skip", "a parent skipped after its fork", "a parent loaded after its fork")
+        if parent and name not in self.last:
+            self.where(cpu == self.last[parent], "a child on its parent's processor", "a child on another processor")
+        self.where(parent and self.last.get(name, cpu) != cpu, "a child that moves")
+        self.where(parent and how == "skip", "a child skipped")
+        self.where(how == "skip" and self.thread.get(name) and name in self.pkru, "a skip behind a kernel thread, PKRU set")
+        self.turn[name], self.last[name], self.thread[name] = [], cpu, False
+
+    def fork(self, event, name):
+        lines, at, turn = self.story.lines, int(event[2]) - 1, self.turn[name]
+        self.where(lines[at - 1].split(" ")[0] in BLOCKS, "a fork as the first line", "a fork behind a line")
+        self.where(lines[at + 1] == "end", "a fork as the last line", "a fork before a line")
+        self.where(turn, "a fork behind lines of its turn", "a fork alone in its turn")
+        self.where(not turn and self.before.get(name) == "line", "a fork behind a full quantum")
+        self.where(not turn and self.before.get(name) == "fork", "a fork behind a fork")
+        self.where(turn and turn[-1].startswith("ksec"), "a fork behind a section of its turn")
+        self.where(name in self.story.parent, "a fork in a child")
+        self.where(any(line.startswith("set pkru") for line in turn), "a fork in the turn of a set of PKRU")
+        if name in self.pkru:
+            self.at.add("a fork behind a set of PKRU")
+            self.pkru[lines[at].split(" ")[1]] = "a parent's"
+        self.before[name] = "fork"
+
+    def line(self, event, name):
+        line = self.story.line(event)
+        self.turn[name].append(line)
+        if line.startswith("set pkru"):
+            self.where(name in self.story.parent.values(), "a set of PKRU in a parent")
+            self.pkru[name] = "its own"
+        self.where(line == "get pkru" and self.pkru.get(name) == "a parent's", "a get of a parent's PKRU")
+        self.before[name] = "yield" if line == "yield" else "line"
+
+
+class Signals(Situations):
+    """The situations of signals and frames. Of each block: its processor, the lines of its turn, whether a handler runs, on which processor it
+    began, whether it has poked its frame, and what is pending."""
+
+    def __init__(self, story):
+        super().__init__(story)
+        self.cpu, self.turn, self.handler, self.poked, self.signals, self.ended = {}, {}, {}, set(), collections.defaultdict(set), set()
+        steps = {"start": self.start, "kill ": self.send, "fork": self.fork, "local": self.line, "kill": self.refuse, "end": self.end}
+        for event in story.events:
+            steps[story.kind_of(event)](event, event[1])
+
+    def start(self, event, name):
+        signal, handler = event[4], self.handler.get(name)
+        self.where(signal != "-", f"a delivery with {event[3]}")
+        self.where(signal != "-" and name not in self.cpu, "a delivery at the first Start")
+        self.where(signal != "-" and len(self.signals[name]) > 1, "a delivery of the lowest of several")
+        self.where(signal == "-" and self.signals[name], "a Start in a handler with a signal pending")
+        self.where(handler and event[2] != handler, "a Start in a handler on another processor")
+        self.where(handler and event[3] == "skip", "a skip in a handler", handler and "a load in a handler")
+        self.cpu[name], self.turn[name] = event[2], []
+        if signal != "-":
+            self.signals[name].discard(signal)
+            self.handler[name] = event[2]
+            self.poked.discard(name)
+
+    def send(self, event, name):
+        _, target, signal = self.story.line(event).split(" ")
+        if event[3] == "!3":
+            self.where(target in self.ended, "a kill of an ended block", "a kill before the birth")
+            return
+        self.where(target == name, "a kill of itself", "a kill of another")
+        self.where(self.story.parent.get(name) == target, "a kill of its parent")
+        self.where(self.story.parent.get(target) == name, "a kill of its child")
+        self.where(self.handler.get(target), "a kill while a handler runs")
+        self.where(signal in self.signals[target], "a signal that is pending already")
+        self.signals[target].add(signal)
+
+    def fork(self, event, name):
+        self.where(self.signals[name], "a fork with a signal pending")
+
+    def line(self, event, name):
+        words = self.story.line(event).split(" ")
+        self.turn[name].append(words[0])
+        if not self.handler.get(name):
+            return
+        if words[0] in ("ksec", "yield"):
+            self.at.add(f"{words[0]} in a handler")
+        elif words[0] == "poke":
+            self.poked.add(name)
+        elif words[0] == "sigreturn":
+            self.where(name in self.poked, f"{event[3]} after a poke", f"{event[3]} of an untouched frame")
+            self.where(self.turn[name][-2:-1] == ["ksec"], "a return behind a section")
+            self.handler[name] = None
+
+    def refuse(self, event, name):
+        self.where(self.signals[name], "a refused return with a signal pending")
+        self.where(len(self.turn[name]) > 0, "a refused return behind lines of its turn", "a refused return alone in its turn")
+        self.at.add(f"Kill {event[2]} {event[3]}")
+        self.ended.add(name)
+
+    def end(self, event, name):
+        self.where(self.signals[name], "an end with a signal pending")
+        self.ended.add(name)
