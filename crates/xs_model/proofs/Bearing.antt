@@ -10,7 +10,7 @@ use Rattle.xs_model.specs.declared.event.Event.{Event}
 use Rattle.xs_model.specs.declared.event.Event.TheVariants.{Start, Local, Outer, Grow, Kill, End}
 use Rattle.xs_model.specs.declared.stage.Stage.{Stage}
 use Rattle.xs_model.specs.declared.stage.Stage.TheVariants.{Unborn}
-use Rattle.xs_model.specs.Script.{is_fork, block_named, command_at, is_user}
+use Rattle.xs_model.specs.Script.{block_named, command_at, is_user}
 use Rattle.xs_model.specs.Note.{Act, Starts, Section, Grows, Sets, Plain, task_of, act_of, note_of, notes_of, is_count, is_at, is_on, mark_after, last_after, mark, last}
 use Rattle.xs_model.specs.State.{BlockState, Machine, stage_of, stage_at, is_parent, changed}
 use Rattle.xs_model.specs.Outer.{is_held, wake, let_go, woken, continued, freed, born, signalled, registers_set, buffer_of, buffer_filled, reach_of, outer_reach}
@@ -88,6 +88,11 @@ unborn_map (suc v) f (b ∷ blocks) keeps off = unborn_map v f blocks keeps off
 unborn_if : (test : Bool) (v : ℕ) (new old : List BlockState) → stage_at new v ≡ Unborn → stage_at old v ≡ Unborn → stage_at (if test then new else old) v ≡ Unborn
 unborn_if true v new old one two = one
 unborn_if false v new old one two = two
+
+-- the command is a fork
+abbrev is_fork : Command → Bool
+is_fork (commands.Fork name) = true
+is_fork other = false
 
 -- a command that is no fork
 reach_unborn : (script : Script) (t : ℕ) (command : Command) (reply : Reply) (blocks : List BlockState) (v : ℕ) → is_fork command ≡ false → stage_at blocks v ≡ Unborn → stage_at (reach_of script t command reply blocks) v ≡ Unborn

@@ -30,7 +30,7 @@ use Rattle.xs_model.proofs.EventTurns.{changed_same}
 use Rattle.xs_model.proofs.DuePlaces.{due_inverse}
 use Rattle.xs_model.proofs.DueOrders.{outer_at}
 use Rattle.xs_model.proofs.EventBound.{AreHandlersLocal, handlers_local, body_at, in_body}
-use Rattle.xs_model.proofs.NameLaws.{named_block, one_name, line_named, has_fork, one_parent, body_distinct, one_line}
+use Rattle.xs_model.proofs.NameLaws.{block_by_name, one_name, line_named, has_fork, one_parent, body_distinct, one_line}
 use Rattle.xs_model.proofs.Family.{is_born}
 use Rattle.xs_model.proofs.BirthPlaces.{body_place, not_unborn, unborn_is, reach_born, step_onward}
 use Rattle.xs_model.proofs.Bearing.{step_bears}
@@ -169,7 +169,7 @@ user_by_line Kthread body handler i order fits at off =
     absurd (both_ways (is_kernel_command order.command) off inner)
 
 -- a child is a block, and a user task
-child_there : (block : Option Block) → is_child block ≡ true → (b : Block) × (block ≡ Some b) × (is_user_block block ≡ true)
+pub child_there : (block : Option Block) → is_child block ≡ true → (b : Block) × (block ≡ Some b) × (is_user_block block ≡ true)
 child_there None is = absurd (cc)
 child_there (Some b) is = (b, refl, by_kind b.kind is)
   where
@@ -188,7 +188,7 @@ not_born_yet : (script : Script) (past : List Event) (t i : ℕ) (lines child : 
     → slice_get (machine script past).blocks t ≡ Some block → body_place block.task ≡ i → is_born (stage_at (machine script past).blocks (block_named script name)) ≡ true → ⊥
 not_born_yet script past t i lines child order name block valid legal known here is at kind state place born =
     let v = block_named script name in
-    let there : slice_get script.blocks v ≡ Some child = sym (named_block script name) ∙ at in
+    let there : slice_get script.blocks v ≡ Some child = sym (block_by_name script name) ∙ at in
     let p = all_passed script past valid legal v (ap is_child there ∙ kind) born in
     let names : p.name ≡ name = one_name script name p.name child at p.child in
     let second : p.order.command ≡ commands.Fork name = p.is ∙ ap commands.Fork names in
@@ -212,7 +212,7 @@ fork_bears script past t name block order valid legal fork =
     let is_child_there = fork_named script.blocks named.0 order.command name named.1 fork.is in
     let c = child_there (block_of script.blocks name) is_child_there in
     let v = block_named script name in
-    let there : slice_get script.blocks v ≡ Some c.0 = sym (named_block script name) ∙ c.1 in
+    let there : slice_get script.blocks v ≡ Some c.0 = sym (block_by_name script name) ∙ c.1 in
     let s = state_there script.blocks (machine script past).blocks v c.0 (many_blocks script past) there in
     let place : body_place block.task ≡ i = ap (λ (b : Bool). if b then block.task.back else block.task.place) body.0 in
     let kind : is_child (Some c.0) ≡ true = ap is_child (sym c.1) ∙ is_child_there in
@@ -229,6 +229,6 @@ fork_bears script past t name block order valid legal fork =
         unborn = unborn;
         apart = λ (same : t ≡ v). let both : slice_get (machine script past).blocks t ≡ Some s.0 = ap (slice_get (machine script past).blocks) same ∙ s.1 in let one : block ≡ s.0 = cc in let clash : Turn fork.cpu fork.ran ≡ Unborn = sym turning ∙ ap (λ (b : BlockState). b.stage) one ∙ unborn in cc;
         parent_user = ap is_user_block known ∙ user_by_line lines.kind lines.body lines.handler i order (body_at script.layout script.blocks valid.bodies t lines known).kind body.1 (ap is_kernel_command fork.is);
-        child_user = ap is_user_block (sym (named_block script name)) ∙ c.2;
+        child_user = ap is_user_block (sym (block_by_name script name)) ∙ c.2;
       },
     )

@@ -1,4 +1,4 @@
--- Commands of the forms of this version: which are outer, that none traps, and that none makes room for TILEDATA.
+-- Commands of the forms of this version: none traps, and none makes room for TILEDATA.
 use Rattle.std.proofs.Common.{◌≡◌, ℕ, zero, suc, ◌==◌, Bool, true, false, not, ◌&&◌, List, [], ◌∷◌, map, refl, ap, ◌∙◌, subst, ne_eqb}
 use Rattle.std.specs.Prelude.{Some, slice_get, if◌then◌else◌}
 use Rattle.std.specs.List.{list_any, AllByRecursion}
@@ -46,18 +46,11 @@ no_trap true true tiles off = off
 no_trap true false tiles off = refl
 no_trap false small tiles off = refl
 
--- an outer command that is built is a fork or a `kill`, and none of them traps
-pub built_inner : BuiltLines
-built_inner task (commands.Set reg bytes) built = (refl, no_trap (has_row task.file.rows tiledata_number) (not task.large) (is_of_tiles (place_of reg) true) (name_apart reg true built))
-built_inner task (commands.Get reg) built = (refl, no_trap (has_row task.file.rows tiledata_number) (not task.large) (is_of_tiles (place_of reg) false) (name_apart reg false built))
-built_inner task (commands.Ksec byte) built = (refl, refl)
-built_inner task commands.Yield built = (refl, refl)
-built_inner task (commands.Peek from len) built = (refl, refl)
-built_inner task (commands.Poke from bytes) built = (refl, refl)
-built_inner task commands.Sigreturn built = (refl, refl)
-built_inner task (commands.Fork name) built = (refl, refl)
-built_inner task (commands.Kill name signo) built = (refl, refl)
-built_inner task other built = absurd built
+-- no command that is built traps
+pub built_lines : BuiltLines
+built_lines task (commands.Set reg bytes) built = no_trap (has_row task.file.rows tiledata_number) (not task.large) (is_of_tiles (place_of reg) true) (name_apart reg true built)
+built_lines task (commands.Get reg) built = no_trap (has_row task.file.rows tiledata_number) (not task.large) (is_of_tiles (place_of reg) false) (name_apart reg false built)
+built_lines task other built = refl
 
 -- a return leaves the room for TILEDATA
 returned_large : (task : PrivateTask) (taken : Return) → (after_return task taken).large ≡ task.large
@@ -72,16 +65,10 @@ return_large task false = refl
 
 -- so does every built command
 pub keeps_large : (task : PrivateTask) (command : Command) → IsBuiltCommand command → (local_after task command).large ≡ task.large
-keeps_large task (commands.Set reg bytes) built = refl
-keeps_large task (commands.Get reg) built = refl
-keeps_large task (commands.Ksec byte) built = refl
-keeps_large task commands.Yield built = refl
-keeps_large task (commands.Peek from len) built = refl
-keeps_large task (commands.Poke from bytes) built = refl
+keeps_large task commands.Tilerelease built = absurd built
+keeps_large task (commands.Perm feature) built = absurd built
 keeps_large task commands.Sigreturn built = return_large task task.handling
-keeps_large task (commands.Fork name) built = refl
-keeps_large task (commands.Kill name signo) built = refl
-keeps_large task other built = absurd built
+keeps_large task other built = refl
 
 -- a kill leaves it too
 pub killed_large : (why : Why) (task : PrivateTask) → (killed why task).large ≡ task.large

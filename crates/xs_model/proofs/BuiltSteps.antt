@@ -1,13 +1,11 @@
--- The blocks of a script of the forms of this version are plain: nobody stops or waits, and no task grows.
-use Rattle.std.proofs.Common.{◌≡◌, ℕ, ◌==◌, Bool, true, false, List, [], ◌∷◌, ◌++◌, map, refl, sym, ap, ◌∙◌, subst}
+-- The blocks of a script of the forms of this version have no room for TILEDATA: no task grows.
+use Rattle.std.proofs.Common.{◌≡◌, ℕ, ◌==◌, Bool, true, false, List, [], ◌∷◌, ◌++◌, map, refl, sym, ◌∙◌, subst}
 use Rattle.std.proofs.lemmas.Bool.{both_ways}
-use Rattle.std.specs.Prelude.{Option, Some, None, if◌then◌else◌, slice_get}
+use Rattle.std.specs.Prelude.{Option, Some, None, if◌then◌else◌, slice_get, take}
 use Rattle.std.specs.List.{find, AllByRecursion}
 use Rattle.xs_base.specs.declared.component.Row.{Row}
 use Rattle.xs_base.specs.declared.words.Signo.{Signo}
 use Rattle.xs_base.specs.Task.{PrivateTask, root_task, child_of}
-use Rattle.xs_model.specs.declared.script.BlockKind.{BlockKind}
-use Rattle.xs_model.specs.declared.script.BlockKind.TheVariants.{Task, Child, Kthread}
 use Rattle.xs_model.specs.declared.script.Command.{Command}
 use Rattle.xs_model.specs.declared.script.Command.TheVariants as commands
 use Rattle.xs_model.specs.declared.script.Block.{Block}
@@ -18,19 +16,20 @@ use Rattle.xs_model.specs.declared.event.Event.{Event}
 use Rattle.xs_model.specs.declared.event.Event.TheVariants.{Start, Local, Outer, Grow, Kill, End}
 use Rattle.xs_model.specs.declared.stage.Stage.{Stage}
 use Rattle.xs_model.specs.declared.stage.Stage.TheVariants.{Unborn, Ready, Turn, Stopped, Waiting, Ended}
-use Rattle.xs_model.specs.Script.{IsBuiltCommand, AreBuilt, IsBuilt, block_named, command_at, command_in, command_of, lines_of}
-use Rattle.xs_model.specs.Line.{line_at, traps}
-use Rattle.xs_model.specs.Note.{is_count}
-use Rattle.xs_model.specs.State.{BlockState, Machine, opening_block, opening_stage, is_plain, is_parent, changed}
-use Rattle.xs_model.specs.Outer.{freed, bear, born, signalled, reach_of, outer_reach, outer_own}
+use Rattle.xs_model.specs.Script.{IsBuiltCommand, AreBuilt, IsBuilt, command_at, command_in, command_of, lines_of}
+use Rattle.xs_model.specs.Line.{line_at, next_line, local_after, traps}
+use Rattle.xs_model.specs.Note.{task_of}
+use Rattle.xs_model.specs.State.{BlockState, Machine, opening_block}
+use Rattle.xs_model.specs.Outer.{is_blocked, bear, born, buffer_of, task_left, outer_own}
 use Rattle.xs_model.specs.Due.{due}
-use Rattle.xs_model.specs.Machine.{started, goes_on, ran_in, ran_line, own, blocks_after, IsStep, machine}
-use Rattle.xs_model.specs.Laws.{IsPlainBlock, BuiltBlocks, BuiltEnds, BuiltKills}
+use Rattle.xs_model.specs.Machine.{started, goes_on, ran_in, ran_line, own, reach, blocks_after, IsStep, machine}
+use Rattle.xs_model.specs.Laws.{BuiltBlocks}
 use Rattle.xs_model.proofs.LegalTurns.{machine_script}
 use Rattle.xs_model.proofs.DuePlaces.{due_inverse}
 use Rattle.xs_model.proofs.DueOrders.{grow_line}
-use Rattle.xs_model.proofs.RiserLaws.{plain_stays, end_keeps, kill_keeps}
-use Rattle.xs_model.proofs.BuiltBlocks.{built_inner, keeps_large, killed_large, all_at, all_changed, all_map}
+use Rattle.xs_model.proofs.Touched.{Touched, Stays, Wakes, Frees, Continues, Signals, Takes, Fills, Bears, Alike, reach_touches}
+use Rattle.xs_model.proofs.ReachCosts.{set_keeps_place, filled_place}
+use Rattle.xs_model.proofs.BuiltBlocks.{built_lines, keeps_large, killed_large, all_at, all_changed}
 
 -- ---- the lines of a built script
 
@@ -88,138 +87,114 @@ never_grows : (m : Machine) (t : ℕ) → IsBuilt m.script → due m t ≡ Some 
 never_grows m t built is =
     let d = due_inverse m t (Grow t) is in
     let line = grow_line m t d.ran t d.state.task (line_at d.lines d.state.task) d.is in
-    let quiet = (built_inner d.state.task line.0.command (order_is_built m.script t d.lines d.state.task line.0 built d.known line.1)).1 in
+    let quiet = built_lines d.state.task line.0.command (order_is_built m.script t d.lines d.state.task line.0 built d.known line.1) in
     both_ways (traps d.state.task line.0.command) quiet line.2
 
--- ---- the blocks stay plain
+-- ---- the blocks stay small
+
+-- the block has no room for TILEDATA
+abbrev IsSmall : BlockState → Type 0
+IsSmall block = block.task.large ≡ false
 
 -- after a Start
-started_plain : (cpu : ℕ) (signal : Option Signo) (block : BlockState) → IsPlainBlock block → IsPlainBlock (started cpu signal block)
-started_plain cpu None block plain = record { stage = refl; small = plain.small }
-started_plain cpu (Some signo) block plain = record { stage = refl; small = plain.small }
+started_small : (cpu : ℕ) (signal : Option Signo) (block : BlockState) → IsSmall block → IsSmall (started cpu signal block)
+started_small cpu None block small = small
+started_small cpu (Some signo) block small = small
 
 -- one of two
-either_plain : (test : Bool) (one other : BlockState) → IsPlainBlock one → IsPlainBlock other → IsPlainBlock (if test then one else other)
-either_plain true one other a b = a
-either_plain false one other a b = b
+either_small : (test : Bool) (one other : BlockState) → IsSmall one → IsSmall other → IsSmall (if test then one else other)
+either_small true one other a b = a
+either_small false one other a b = b
 
 -- after a built command, by the stage
-ran_plain : (script : Script) (command : Command) (s : Stage) (block : BlockState) → IsBuiltCommand command → IsPlainBlock block → IsPlainBlock (ran_in script command s block)
-ran_plain script command (Turn cpu ran) block built plain =
-    either_plain (goes_on script command ran) _ _ (record { stage = refl; small = keeps_large block.task command built ∙ plain.small }) (record { stage = refl; small = keeps_large block.task command built ∙ plain.small })
-ran_plain script command Unborn block built plain = plain
-ran_plain script command Ready block built plain = plain
-ran_plain script command Stopped block built plain = plain
-ran_plain script command (Waiting child) block built plain = plain
-ran_plain script command Ended block built plain = plain
+ran_small : (script : Script) (command : Command) (s : Stage) (block : BlockState) → IsBuiltCommand command → IsSmall block → IsSmall (ran_in script command s block)
+ran_small script command (Turn cpu ran) block built small =
+    let kept : (local_after block.task command).large ≡ false = keeps_large block.task command built ∙ small in
+    either_small (goes_on script command ran) _ _ kept kept
+ran_small script command Unborn block built small = small
+ran_small script command Ready block built small = small
+ran_small script command Stopped block built small = small
+ran_small script command (Waiting child) block built small = small
+ran_small script command Ended block built small = small
 
--- after a line
-line_plain : (script : Script) (t line : ℕ) (command : Option Command) (block : BlockState) → IsBuilt script → command_at script t line ≡ command → IsPlainBlock block → IsPlainBlock (ran_line script command block)
-line_plain script t line None block built is plain = plain
-line_plain script t line (Some command) block built is plain = ran_plain script command block.stage block (command_is_built script t line command built is) plain
+-- after a local line
+line_small : (script : Script) (t line : ℕ) (command : Option Command) (block : BlockState) → IsBuilt script → command_at script t line ≡ command → IsSmall block → IsSmall (ran_line script command block)
+line_small script t line None block built is small = small
+line_small script t line (Some command) block built is small = ran_small script command block.stage block (command_is_built script t line command built is) small
 
--- after another's end
-freed_plain : (t : ℕ) (block : BlockState) → IsPlainBlock block → IsPlainBlock (freed t block)
-freed_plain t block plain = record { stage = ap is_plain (plain_stays (is_parent block.parent t) t block.stage plain.stage) ∙ plain.stage; small = plain.small }
+-- one of two tasks that have as much room
+either_room : (test : Bool) (one other task : PrivateTask) → one.large ≡ task.large → other.large ≡ task.large → (if test then one else other).large ≡ task.large
+either_room true one other task a b = a
+either_room false one other task a b = b
 
--- a birth by the stage
-bear_plain : (t : ℕ) (parent : PrivateTask) (s : Stage) (block : BlockState) → IsPlainBlock block → IsPlainBlock (bear t parent s block)
+-- an outer command leaves its block's room
+left_room : (command : Command) (reply : Reply) (task : PrivateTask) → (task_left command reply task).large ≡ task.large
+left_room (commands.Wait name) reply task = either_room (is_blocked reply) task (next_line task) task refl refl
+left_room other reply task = refl
+
+-- after an outer line
+outer_small : (script : Script) (command : Option Command) (reply : Reply) (block : BlockState) → IsSmall block → IsSmall (outer_own script command reply block)
+outer_small script None reply block small = small
+outer_small script (Some command) reply block small = left_room command reply block.task ∙ small
+
+-- after an event of its own
+own_small : (m : Machine) (event : Event) (block : BlockState) → IsBuilt m.script → IsStep m event → IsSmall block → IsSmall (own m.script event block)
+own_small m (Start t cpu how signal) block built step small = started_small cpu signal block small
+own_small m (Local t line reply) block built step small = line_small m.script t line (command_at m.script t line) block built refl small
+own_small m (Outer t line reply) block built step small = outer_small m.script (command_at m.script t line) reply block small
+own_small m (Grow t) block built step small = absurd (never_grows m t built step.is_due)
+own_small m (Kill t signo why) block built step small = killed_large why block.task ∙ small
+own_small m (End t) block built step small = small
+
+-- after a birth, by the stage
+bear_small : (t : ℕ) (parent : PrivateTask) (s : Stage) (block : BlockState) → IsSmall block → IsSmall (bear t parent s block)
 unfolding child_of
-bear_plain t parent Unborn block plain = record { stage = refl; small = refl }
-bear_plain t parent Ready block plain = plain
-bear_plain t parent (Turn cpu ran) block plain = plain
-bear_plain t parent Stopped block plain = plain
-bear_plain t parent (Waiting child) block plain = plain
-bear_plain t parent Ended block plain = plain
+bear_small t parent Unborn block small = refl
+bear_small t parent Ready block small = small
+bear_small t parent (Turn cpu ran) block small = small
+bear_small t parent Stopped block small = small
+bear_small t parent (Waiting child) block small = small
+bear_small t parent Ended block small = small
 
 -- a birth of a parent that may not be there
-born_plain : (t : ℕ) (parent : Option BlockState) (block : BlockState) → IsPlainBlock block → IsPlainBlock (born t parent block)
-born_plain t None block plain = plain
-born_plain t (Some parent) block plain = bear_plain t parent.task block.stage block plain
+born_small : (t : ℕ) (parent : Option BlockState) (block : BlockState) → IsSmall block → IsSmall (born t parent block)
+born_small t None block small = small
+born_small t (Some parent) block small = bear_small t parent.task block.stage block small
 
--- after a signal that is sent or not
-sent_plain : (count : Bool) (c : ℕ) (signo : Signo) (blocks : List BlockState) → AllByRecursion IsPlainBlock blocks → AllByRecursion IsPlainBlock (if count then changed c (signalled signo) blocks else blocks)
-sent_plain true c signo blocks plain = all_changed IsPlainBlock (signalled signo) (λ block one. record { stage = one.stage; small = one.small }) c blocks plain
-sent_plain false c signo blocks plain = plain
+-- a block that another block's event touches
+touched_small : (blocks : List BlockState) (old new : BlockState) → Touched blocks old new → IsSmall old → IsSmall new
+touched_small blocks old new (Stays is) small = subst IsSmall (sym is) small
+touched_small blocks old new (Wakes t is) small = subst IsSmall (sym is) small
+touched_small blocks old new (Frees t is) small = subst IsSmall (sym is) small
+touched_small blocks old new (Continues is) small = subst IsSmall (sym is) small
+touched_small blocks old new (Signals signo is) small = subst IsSmall (sym is) small
+touched_small blocks old new (Takes set count t is) small = subst IsSmall (sym is) ((set_keeps_place set (take count (buffer_of (slice_get blocks t))) old.task).large ∙ small)
+touched_small blocks old new (Fills set child is) small = subst IsSmall (sym is) ((filled_place set (slice_get blocks child) old).large ∙ small)
+touched_small blocks old new (Bears t is) small = subst IsSmall (sym is) (born_small t (slice_get blocks t) old small)
 
--- after what a built command does to other blocks
-reach_plain : (script : Script) (t : ℕ) (command : Command) (reply : Reply) (blocks : List BlockState) → IsBuiltCommand command → AllByRecursion IsPlainBlock blocks → AllByRecursion IsPlainBlock (reach_of script t command reply blocks)
-reach_plain script t (commands.Fork name) reply blocks built plain = all_changed IsPlainBlock (born t (slice_get blocks t)) (born_plain t (slice_get blocks t)) (block_named script name) blocks plain
-reach_plain script t (commands.Kill name signo) reply blocks built plain = sent_plain (is_count reply) (block_named script name) signo blocks plain
-reach_plain script t (commands.Set reg bytes) reply blocks built plain = plain
-reach_plain script t (commands.Get reg) reply blocks built plain = plain
-reach_plain script t (commands.Ksec byte) reply blocks built plain = plain
-reach_plain script t commands.Yield reply blocks built plain = plain
-reach_plain script t (commands.Peek from len) reply blocks built plain = plain
-reach_plain script t (commands.Poke from bytes) reply blocks built plain = plain
-reach_plain script t commands.Sigreturn reply blocks built plain = plain
-reach_plain script t other reply blocks built plain = absurd built
-
--- and to its own
-left_plain : (script : Script) (command : Command) (reply : Reply) (block : BlockState) → IsBuiltCommand command → IsPlainBlock block → IsPlainBlock (outer_own script (Some command) reply block)
-left_plain script (commands.Fork name) reply block built plain = record { stage = refl; small = plain.small }
-left_plain script (commands.Kill name signo) reply block built plain = record { stage = refl; small = plain.small }
-left_plain script (commands.Set reg bytes) reply block built plain = record { stage = refl; small = plain.small }
-left_plain script (commands.Get reg) reply block built plain = record { stage = refl; small = plain.small }
-left_plain script (commands.Ksec byte) reply block built plain = record { stage = refl; small = plain.small }
-left_plain script commands.Yield reply block built plain = record { stage = refl; small = plain.small }
-left_plain script (commands.Peek from len) reply block built plain = record { stage = refl; small = plain.small }
-left_plain script (commands.Poke from bytes) reply block built plain = record { stage = refl; small = plain.small }
-left_plain script commands.Sigreturn reply block built plain = record { stage = refl; small = plain.small }
-left_plain script other reply block built plain = absurd built
-
--- after an outer event
-outer_blocks : (script : Script) (t line : ℕ) (reply : Reply) (command : Option Command) (blocks : List BlockState) → IsBuilt script → command_at script t line ≡ command → AllByRecursion IsPlainBlock blocks
-    → AllByRecursion IsPlainBlock (changed t (outer_own script command reply) (outer_reach script t command reply blocks))
-outer_blocks script t line reply None blocks built is plain = all_changed IsPlainBlock (outer_own script None reply) (λ block one. record { stage = refl; small = one.small }) t blocks plain
-outer_blocks script t line reply (Some command) blocks built is plain =
-    let built_one = command_is_built script t line command built is in
-    all_changed IsPlainBlock (outer_own script (Some command) reply) (λ block. left_plain script command reply block built_one) t (reach_of script t command reply blocks) (reach_plain script t command reply blocks built_one plain)
-
--- after what ends a block
-over_plain : (t : ℕ) (f : BlockState → BlockState) → ((block : BlockState) → IsPlainBlock block → IsPlainBlock (f block)) → (blocks : List BlockState) → AllByRecursion IsPlainBlock blocks → AllByRecursion IsPlainBlock (changed t f (map (freed t) blocks))
-over_plain t f each blocks plain = all_changed IsPlainBlock f each t (map (freed t) blocks) (all_map IsPlainBlock (freed t) (freed_plain t) blocks plain)
+-- so are all
+alike_small : (blocks old new : List BlockState) → Alike (Touched blocks) old new → AllByRecursion IsSmall old → AllByRecursion IsSmall new
+alike_small blocks [] [] alike small = tt
+alike_small blocks (x ∷ old) [] alike small = absurd alike
+alike_small blocks [] (y ∷ new) alike small = absurd alike
+alike_small blocks (x ∷ old) (y ∷ new) alike small = (touched_small blocks x y alike.0 small.0, alike_small blocks old new alike.1 small.1)
 
 -- after a step
-step_plain : (m : Machine) (event : Event) → IsBuilt m.script → IsStep m event → AllByRecursion IsPlainBlock m.blocks → AllByRecursion IsPlainBlock (blocks_after m.script event m.blocks)
-step_plain m (Start t cpu how signal) built step plain = all_changed IsPlainBlock (started cpu signal) (started_plain cpu signal) t m.blocks plain
-step_plain m (Local t line reply) built step plain =
-    all_changed IsPlainBlock (own m.script (Local t line reply)) (λ block. line_plain m.script t line (command_at m.script t line) block built refl) t m.blocks plain
-step_plain m (Outer t line reply) built step plain = outer_blocks m.script t line reply (command_at m.script t line) m.blocks built refl plain
-step_plain m (Grow t) built step plain = absurd (never_grows m t built step.is_due)
-step_plain m (Kill t signo why) built step plain =
-    over_plain t (own m.script (Kill t signo why)) (λ block one. record { stage = refl; small = killed_large why block.task ∙ one.small }) m.blocks plain
-step_plain m (End t) built step plain = over_plain t (own m.script (End t)) (λ block one. record { stage = refl; small = one.small }) m.blocks plain
-
--- a stage of the opening
-opening_plain : (kind : BlockKind) → is_plain (opening_stage kind) ≡ true
-opening_plain Task = refl
-opening_plain Child = refl
-opening_plain Kthread = refl
+step_small : (m : Machine) (event : Event) → IsBuilt m.script → IsStep m event → AllByRecursion IsSmall m.blocks → AllByRecursion IsSmall (blocks_after m.script event m.blocks)
+step_small m event built step small =
+    let mid = reach m.script event m.blocks in
+    all_changed IsSmall (own m.script event) (λ block one. own_small m event block built step one) (task_of event) mid (alike_small m.blocks m.blocks mid (reach_touches m.script event m.blocks) small)
 
 -- the blocks of the opening
-all_opening : (rows : List Row) (blocks : List Block) → AllByRecursion IsPlainBlock (map (opening_block rows) blocks)
+all_opening : (rows : List Row) (blocks : List Block) → AllByRecursion IsSmall (map (opening_block rows) blocks)
 unfolding root_task
 all_opening rows [] = tt
-all_opening rows (block ∷ blocks) = (record { stage = opening_plain block.kind; small = refl }, all_opening rows blocks)
+all_opening rows (block ∷ blocks) = (refl, all_opening rows blocks)
 
--- the blocks of a built script are plain
+-- the blocks of a built script are small
 pub built_blocks : BuiltBlocks
 built_blocks script [] built legal = all_opening script.layout script.blocks
 built_blocks script (event ∷ past) built legal =
     let m = machine script past in
     let built_there : IsBuilt m.script = subst IsBuilt (sym (machine_script script past)) built in
-    step_plain m event built_there legal.1 (built_blocks script past built legal.0)
-
--- plain blocks have plain stages
-plain_stages : (blocks : List BlockState) → AllByRecursion IsPlainBlock blocks → AllByRecursion (λ (block : BlockState). is_plain block.stage ≡ true) blocks
-plain_stages [] plain = tt
-plain_stages (block ∷ blocks) plain = (plain.0.stage, plain_stages blocks plain.1)
-
--- an end in a built script makes nobody ready
-pub built_ends : BuiltEnds
-built_ends script past t built legal = end_keeps script past t (plain_stages (machine script past).blocks (built_blocks script past built legal))
-
--- so does a kill
-pub built_kills : BuiltKills
-built_kills script past t signo why built legal = kill_keeps script past t signo why (plain_stages (machine script past).blocks (built_blocks script past built legal))
+    step_small m event built_there legal.1 (built_blocks script past built legal.0)

@@ -145,15 +145,6 @@ above_old : (rank : ℕ → ℕ) (most c v : ℕ) → (v ≡ c → ⊥) → abov
 unfolding above
 above_old rank most c v other = rw (ne_eqb v c other) refl
 
--- an active block was born
-active_born : (s : Stage) → is_active s ≡ true → is_born s ≡ true
-active_born Unborn is = absurd (cc)
-active_born Ready is = refl
-active_born (Turn cpu ran) is = refl
-active_born Stopped is = refl
-active_born (Waiting child) is = refl
-active_born Ended is = refl
-
 -- a test that fails of unborn blocks
 not_born : (s : Stage) (test : Stage → Bool) → test Unborn ≡ false → s ≡ Unborn → test s ≡ true → ⊥
 not_born s test unlike is holds = both_ways (test s) (ap test is ∙ unlike) holds

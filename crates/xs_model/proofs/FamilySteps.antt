@@ -25,7 +25,7 @@ use Rattle.xs_model.specs.Outer.{woken, continued, freed, bear, born, signalled,
 use Rattle.xs_model.specs.Due.{due}
 use Rattle.xs_model.specs.Machine.{started, goes_on, ran_in, ran_line, own, blocks_after, IsStep, machine, IsLegalPast}
 use Rattle.xs_model.proofs.EventTurns.{changed_same, changed_other}
-use Rattle.xs_model.specs.Laws.{NeverStuck, FewEvents}
+use Rattle.xs_model.specs.Laws.{NeverStuck, FewEvents, WaitsForChild}
 use Rattle.xs_model.proofs.LineNumbers.{AreLinesFound, lines_found}
 use Rattle.xs_model.proofs.DueTurns.{due_turning, starting_of, block_outer}
 use Rattle.xs_model.proofs.LegalTurns.{machine_script}
@@ -345,3 +345,7 @@ never_stuck script past valid legal some =
     let m = machine script past in
     let alive = living m.blocks (not-false (list_any (λ (block : BlockState). lives block.stage) m.blocks) some) in
     one_is_active (stage_at m.blocks) (parent_at m.blocks) (legal_family script past (lines_found script valid) legal) alive.0 alive.1
+
+-- who is waited for is a child of the one that waits, after each legal past
+pub waits_for_child : WaitsForChild
+waits_for_child script past u child valid legal is = ((legal_family script past (lines_found script valid) legal).waits u child is).0

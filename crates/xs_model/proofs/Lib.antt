@@ -21,7 +21,7 @@ mod NameLaws
 mod BuiltSteps
 mod UnseenLaws
 mod StepLaws
-mod SentLaws
+mod OuterBlocks
 mod TasksStay
 mod TaskWrites
 mod TaskSets
@@ -48,6 +48,8 @@ mod FitSteps
 mod BirthPlaces
 mod Bearing
 mod Births
+mod RiserSteps
+mod OuterRisers
 mod SignalLaws
 mod PendingLaws
 mod QuietLaws

@@ -1,5 +1,6 @@
 -- What is known of the blocks that commands name.
-use Rattle.std.proofs.Common.{◌≡◌, ℕ, zero, suc, ◌<◌, Bool, true, false, List, [], ◌∷◌, ◌++◌, length, refl, sym, ap, ◌∙◌, subst, ltb-true}
+use Rattle.std.proofs.Common.{◌≡◌, ℕ, zero, suc, ◌<◌, Bool, true, false, List, [], ◌∷◌, ◌++◌, length, refl, sym, ap, ◌∙◌, subst, ltb-true, ⊎_elim}
+use Rattle.std.proofs.lemmas.Bool.{or_cases}
 use Rattle.std.proofs.lemmas.List.Folds.{find_at}
 use Rattle.std.proofs.lemmas.Slice.Eq.{bytes_eq-Decides}
 use Rattle.std.specs.Prelude.{Some, slice_get, bytes_eq, if◌then◌else◌}
@@ -9,7 +10,7 @@ use Rattle.xs_model.specs.declared.script.Command.TheVariants as commands
 use Rattle.xs_model.specs.declared.script.Block.{Block}
 use Rattle.xs_model.specs.declared.script.Order.{Order}
 use Rattle.xs_model.specs.declared.script.Script.{Script}
-use Rattle.xs_model.specs.Names.{block_of, has_handler, NamesBlock, AreNamedAfter, AreNamed, forked_name, forked_names, all_forked_names}
+use Rattle.xs_model.specs.Names.{block_of, is_child, has_handler, is_fork_of, is_forked, NamesBlock, AreNamedAfter, AreNamed, forked_name, forked_names, all_forked_names}
 use Rattle.xs_model.specs.Script.{AreDistinct, IsValid, block_named}
 use Rattle.xs_model.proofs.BuiltBlocks.{all_at}
 use Rattle.xs_model.proofs.LineNumbers.{in_first, in_second}
@@ -17,8 +18,8 @@ use Rattle.xs_model.proofs.LineNumbers.{in_first, in_second}
 -- ---- the block of a name
 
 -- the block of a name is the one at its number
-pub named_block : (script : Script) (name : List ℕ) → block_of script.blocks name ≡ slice_get script.blocks (block_named script name)
-named_block script name = find_at (λ (block : Block). bytes_eq block.name name) script.blocks
+pub block_by_name : (script : Script) (name : List ℕ) → block_of script.blocks name ≡ slice_get script.blocks (block_named script name)
+block_by_name script name = find_at (λ (block : Block). bytes_eq block.name name) script.blocks
 
 -- what is found passes the test
 found_test : {A : Type 0} (test : A → Bool) (xs : List A) (x : A) → find test xs ≡ Some x → test x ≡ true
@@ -32,22 +33,53 @@ found_test {A = A} test (y ∷ xs) x at = by_test (test y) refl at (λ (later : 
 -- two names of one block are the same
 pub one_name : (script : Script) (one other : List ℕ) (block : Block) → block_of script.blocks one ≡ Some block → block_named script other ≡ block_named script one → other ≡ one
 one_name script one other block at same =
-    let there : block_of script.blocks other ≡ Some block = named_block script other ∙ ap (slice_get script.blocks) same ∙ sym (named_block script one) ∙ at in
+    let there : block_of script.blocks other ≡ Some block = block_by_name script other ∙ ap (slice_get script.blocks) same ∙ sym (block_by_name script one) ∙ at in
     let first : block.name ≡ one = (bytes_eq-Decides block.name one).0 (found_test (λ (b : Block). bytes_eq b.name one) script.blocks block at) in
     let second : block.name ≡ other = (bytes_eq-Decides block.name other).0 (found_test (λ (b : Block). bytes_eq b.name other) script.blocks block there) in
     sym second ∙ first
 
 -- ---- the names of a valid script
 
+-- A fork names a child.
+abbrev NamesChild : List Block → Command → Type 0
+NamesChild blocks (commands.Fork name) = is_child (block_of blocks name) ≡ true
+NamesChild blocks other = Unit {0}
+
+-- So do the forks of these lines.
+abbrev pub AreChildren : List Block → List Order → Type 0
+AreChildren blocks orders = AllByRecursion (λ (order : Order). NamesChild blocks order.command) orders
+
+-- a fork's name is one that it may have
+names_child : (blocks : List Block) (earlier : List Order) (command : Command) → NamesBlock blocks earlier command → NamesChild blocks command
+names_child blocks earlier (commands.Fork name) named = named
+names_child blocks earlier other named = tt
+
+-- A command has the name of a block that it may have, after lines whose forks name children.
+abbrev pub NamedAfter : List Block → Command → Type 0
+NamedAfter blocks command = (before : List Order) × NamesBlock blocks before command × AreChildren blocks before
+
 -- a line among those that follow earlier ones
-named_after : (blocks : List Block) (earlier orders : List Order) (i : ℕ) (order : Order) → AreNamedAfter blocks earlier orders → slice_get orders i ≡ Some order → (before : List Order) × NamesBlock blocks before order.command
-named_after blocks earlier [] i order named at = absurd (cc)
-named_after blocks earlier (first ∷ orders) zero order named at = let same : first ≡ order = cc in (earlier, subst (λ (o : Order). NamesBlock blocks earlier o.command) same named.0)
-named_after blocks earlier (first ∷ orders) (suc i) order named at = named_after blocks (first ∷ earlier) orders i order named.1 at
+named_after : (blocks : List Block) (earlier orders : List Order) (i : ℕ) (order : Order) → AreChildren blocks earlier → AreNamedAfter blocks earlier orders → slice_get orders i ≡ Some order → NamedAfter blocks order.command
+named_after blocks earlier [] i order children named at = absurd (cc)
+named_after blocks earlier (first ∷ orders) zero order children named at = let same : first ≡ order = cc in (earlier, subst (λ (o : Order). NamesBlock blocks earlier o.command) same named.0, children)
+named_after blocks earlier (first ∷ orders) (suc i) order children named at = named_after blocks (first ∷ earlier) orders i order (names_child blocks earlier first.command named.0, children) named.1 at
 
 -- a line of a body
-pub line_named : (script : Script) (t i : ℕ) (lines : Block) (order : Order) → IsValid script → slice_get script.blocks t ≡ Some lines → slice_get lines.body i ≡ Some order → (before : List Order) × NamesBlock script.blocks before order.command
-line_named script t i lines order valid known at = named_after script.blocks [] lines.body i order (all_at (λ (block : Block). AreNamed script.blocks block.body) script.blocks t lines valid.named known) at
+pub line_named : (script : Script) (t i : ℕ) (lines : Block) (order : Order) → IsValid script → slice_get script.blocks t ≡ Some lines → slice_get lines.body i ≡ Some order → NamedAfter script.blocks order.command
+line_named script t i lines order valid known at = named_after script.blocks [] lines.body i order tt (all_at (λ (block : Block). AreNamed script.blocks block.body) script.blocks t lines valid.named known) at
+
+-- the name of a fork, where this is one of the child
+fork_child : (blocks : List Block) (name : List ℕ) (command : Command) → NamesChild blocks command → is_fork_of name command ≡ true → is_child (block_of blocks name) ≡ true
+fork_child blocks name (commands.Fork child) named is = subst (λ (n : List ℕ). is_child (block_of blocks n) ≡ true) ((bytes_eq-Decides child name).0 is) named
+fork_child blocks name other named is = absurd (cc)
+
+-- what one of these lines forks is a child
+pub forked_child : (blocks : List Block) (earlier : List Order) (name : List ℕ) → AreChildren blocks earlier → is_forked earlier name ≡ true → is_child (block_of blocks name) ≡ true
+forked_child blocks [] name children is = absurd (cc)
+forked_child blocks (order ∷ earlier) name children is = ⊎_elim
+    (λ (here : is_fork_of name order.command ≡ true). fork_child blocks name order.command children.0 here)
+    (λ (later : is_forked earlier name ≡ true). forked_child blocks earlier name children.1 later)
+    (or_cases (is_fork_of name order.command) (is_forked earlier name) is)
 
 -- A signal that the line sends is for a block with a handler.
 abbrev pub IsHandled : Script → Command → Type 0
@@ -57,7 +89,7 @@ IsHandled script other = Unit {0}
 -- so it is, by its name
 pub named_handled : (script : Script) (before : List Order) (command : Command) → NamesBlock script.blocks before command → IsHandled script command
 named_handled script before (commands.Kill name signo) named = λ other at.
-    let there : block_of script.blocks name ≡ Some other = named_block script name ∙ at in
+    let there : block_of script.blocks name ≡ Some other = block_by_name script name ∙ at in
     ltb-true 0 (length other.handler) (sym (ap has_handler there) ∙ named)
 named_handled script before other named = tt
 

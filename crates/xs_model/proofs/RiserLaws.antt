@@ -1,29 +1,29 @@
--- Whom an event makes ready, where it changes its own block alone.
-use Rattle.std.proofs.Common.{◌≡◌, ℕ, zero, suc, ◌+◌, Bool, true, false, ◌&&◌, List, [], ◌∷◌, ◌++◌, map, refl, ap, ◌∙◌, subst, arith, eq-eqb}
+-- Whom an event makes ready, block by block, and where it changes its own block alone.
+use Rattle.std.proofs.Common.{◌≡◌, ℕ, zero, suc, ◌+◌, Bool, true, false, ◌&&◌, List, [], ◌∷◌, ◌++◌, refl, ap, ◌∙◌, subst, arith, eq-eqb, ⊎_elim}
+use Rattle.std.proofs.lemmas.Bool.{cases_eq}
 use Rattle.std.proofs.lemmas.List.{append-nil}
-use Rattle.std.specs.Prelude.{Option, Some, slice_get}
-use Rattle.std.specs.List.{AllByRecursion}
+use Rattle.std.specs.Prelude.{Option, Some, None, slice_get}
+use Rattle.std.specs.Option.{option_map}
 use Rattle.xs_model.specs.declared.script.Command.{Command}
-use Rattle.xs_model.specs.declared.script.Command.TheVariants as commands
 use Rattle.xs_model.specs.declared.script.Script.{Script}
-use Rattle.xs_model.specs.declared.event.Event.TheVariants.{Local, Outer}
+use Rattle.xs_model.specs.declared.event.Event.TheVariants.{Local}
 use Rattle.xs_model.specs.declared.stage.Stage.{Stage}
 use Rattle.xs_model.specs.declared.stage.Stage.TheVariants.{Unborn, Ready, Turn, Stopped, Waiting, Ended}
-use Rattle.xs_model.specs.Script.{block_named, command_at}
-use Rattle.xs_model.specs.Line.{killed}
-use Rattle.xs_model.specs.State.{BlockState, is_plain, is_ready, is_parent, changed}
-use Rattle.xs_model.specs.Outer.{wake, let_go, freed, born, outer_reach, outer_own}
-use Rattle.xs_model.specs.Machine.{goes_on, ran_line, own, ended_with, blocks_after, machine}
+use Rattle.xs_model.specs.Script.{command_at}
+use Rattle.xs_model.specs.State.{BlockState, is_ready, changed}
+use Rattle.xs_model.specs.Machine.{goes_on, ran_line, own, machine}
 use Rattle.xs_model.specs.Ready.{was_waiting, was_idle, was_in_turn, risen, risers, ready_list}
-use Rattle.xs_model.specs.Laws.{StartTakes, LocalKeeps, LocalRises, ForkRises, EndKeeps, KillKeeps}
+use Rattle.xs_model.specs.Effects.{StartTakes, LocalKeeps, LocalRises}
 use Rattle.xs_model.proofs.LegalTurns.{machine_script}
+use Rattle.xs_model.proofs.Touched.{Alike, alike_same, Both, alike_at}
+use Rattle.xs_model.proofs.EventTurns.{changed_same, changed_other}
 
 -- who is ready is none of these
-abbrev Apart : (Stage → Bool) → Type 0
+abbrev pub Apart : (Stage → Bool) → Type 0
 Apart was = (stage : Stage) → (was stage && is_ready stage) ≡ false
 
 -- who waits
-waiting_apart : Apart was_waiting
+pub waiting_apart : Apart was_waiting
 waiting_apart Unborn = refl
 waiting_apart Ready = refl
 waiting_apart (Turn cpu ran) = refl
@@ -32,7 +32,7 @@ waiting_apart (Waiting child) = refl
 waiting_apart Ended = refl
 
 -- who is stopped or unborn
-idle_apart : Apart was_idle
+pub idle_apart : Apart was_idle
 idle_apart Unborn = refl
 idle_apart Ready = refl
 idle_apart (Turn cpu ran) = refl
@@ -41,7 +41,7 @@ idle_apart (Waiting child) = refl
 idle_apart Ended = refl
 
 -- who is in a turn
-turn_apart : Apart was_in_turn
+pub turn_apart : Apart was_in_turn
 turn_apart Unborn = refl
 turn_apart Ready = refl
 turn_apart (Turn cpu ran) = refl
@@ -49,89 +49,139 @@ turn_apart Stopped = refl
 turn_apart (Waiting child) = refl
 turn_apart Ended = refl
 
--- where nothing changes nobody rises
-risen_same : (was : Stage → Bool) → Apart was → (i : ℕ) (blocks : List BlockState) → risen was i blocks blocks ≡ []
-risen_same was apart i [] = refl
-risen_same was apart i (block ∷ blocks) = rw (apart block.stage) (risen_same was apart (i + 1) blocks)
+-- ---- block by block
 
--- one block changes, and doesn't rise
-risen_off : (was : Stage → Bool) → Apart was → (i t : ℕ) (f : BlockState → BlockState) (blocks : List BlockState) (block : BlockState) → slice_get blocks t ≡ Some block → (was block.stage && is_ready (f block).stage) ≡ false → risen was i blocks (changed t f blocks) ≡ []
-risen_off was apart i t f [] block at off = refl
-risen_off was apart i zero f (first ∷ blocks) block at off =
-    let same : block ≡ first = cc in
-    let here : (was first.stage && is_ready (f first).stage) ≡ false = subst (λ (b : BlockState). (was b.stage && is_ready (f b).stage) ≡ false) same off in
-    rw here (risen_same was apart (i + 1) blocks)
-risen_off was apart i (suc t) f (first ∷ blocks) block at off = rw (apart first.stage) (risen_off was apart (i + 1) t f blocks block at off)
+-- the block was such, and is ready now
+abbrev pub rises : (Stage → Bool) → Option BlockState → Option BlockState → Bool
+rises was None now = false
+rises was (Some b) None = false
+rises was (Some b) (Some a) = was b.stage && is_ready a.stage
 
--- one block changes, and rises
-risen_on : (was : Stage → Bool) → Apart was → (i t n : ℕ) (f : BlockState → BlockState) (blocks : List BlockState) (block : BlockState) → slice_get blocks t ≡ Some block → (was block.stage && is_ready (f block).stage) ≡ true → n ≡ i + t → risen was i blocks (changed t f blocks) ≡ n ∷ []
-risen_on was apart i t n f [] block at on sum = absurd (cc)
-risen_on was apart i zero n f (first ∷ blocks) block at on sum =
-    let same : block ≡ first = cc in
-    let here : (was first.stage && is_ready (f first).stage) ≡ true = subst (λ (b : BlockState). (was b.stage && is_ready (f b).stage) ≡ true) same on in
+-- so is the one at a place
+abbrev pub rises_at : (Stage → Bool) → List BlockState → List BlockState → ℕ → Bool
+rises_at was before now v = rises was (slice_get before v) (slice_get now v)
+
+-- where no block rises nobody is risen
+pub risen_nobody : (was : Stage → Bool) (i : ℕ) (before now : List BlockState) → ((v : ℕ) → rises_at was before now v ≡ false) → risen was i before now ≡ []
+risen_nobody was i [] now none = refl
+risen_nobody was i (b ∷ before) [] none = refl
+risen_nobody was i (b ∷ before) (a ∷ now) none =
+    let here : (was b.stage && is_ready a.stage) ≡ false = none 0 in
+    rw here (risen_nobody was (i + 1) before now (λ v. none (suc v)))
+
+-- who isn't there now doesn't rise
+none_rises : (was : Stage → Bool) (block : Option BlockState) → rises was block None ≡ false
+none_rises was None = refl
+none_rises was (Some b) = refl
+
+-- where one block rises it alone is risen
+pub risen_alone : (was : Stage → Bool) (i c n : ℕ) (before now : List BlockState) → rises_at was before now c ≡ true → ((v : ℕ) → (c ≡ v → ⊥) → rises_at was before now v ≡ false) → n ≡ i + c → risen was i before now ≡ n ∷ []
+risen_alone was i c n [] now one others sum = absurd (cc)
+risen_alone was i c n (b ∷ before) [] one others sum = let none = none_rises was (slice_get (b ∷ before) c) in absurd (cc)
+risen_alone was i zero n (b ∷ before) (a ∷ now) one others sum =
+    let here : (was b.stage && is_ready a.stage) ≡ true = one in
     let number : i ≡ n = omega arith in
-    rw (here, number) (ap (λ (list : List ℕ). n ∷ list) (risen_same was apart (n + 1) blocks))
-risen_on was apart i (suc t) n f (first ∷ blocks) block at on sum = rw (apart first.stage) (risen_on was apart (i + 1) t n f blocks block at on (omega arith))
+    rw (here, number) (ap (λ (list : List ℕ). n ∷ list) (risen_nobody was (n + 1) before now (λ v. others (suc v) (λ (e : zero ≡ suc v). cc))))
+risen_alone was i (suc c) n (b ∷ before) (a ∷ now) one others sum =
+    let here : (was b.stage && is_ready a.stage) ≡ false = others zero (λ (e : suc c ≡ zero). cc) in
+    rw here (risen_alone was (i + 1) c n before now one (λ v other. others (suc v) (λ (e : suc c ≡ suc v). other (cc))) (omega arith))
 
--- the turn goes on: nobody becomes ready
-pub risers_none : (t : ℕ) (f : BlockState → BlockState) (blocks : List BlockState) (block : BlockState) (cpu ran c r : ℕ) → slice_get blocks t ≡ Some block → block.stage ≡ Turn cpu ran → (f block).stage ≡ Turn c r → risers blocks (changed t f blocks) ≡ []
-risers_none t f blocks block cpu ran c r at before now =
-    rw (risen_off was_waiting waiting_apart 0 t f blocks block at (rw before refl), risen_off was_idle idle_apart 0 t f blocks block at (rw before refl), risen_off was_in_turn turn_apart 0 t f blocks block at (rw (now, before) refl)) refl
+-- a test of all blocks, by one and the others
+pub each_place : (t : ℕ) (test wanted : ℕ → Bool) → test t ≡ wanted t → ((v : ℕ) → (t ≡ v → ⊥) → test v ≡ wanted v) → (v : ℕ) → test v ≡ wanted v
+each_place t test wanted own others v = ⊎_elim
+    (λ (same : t ≡ v). subst (λ (x : ℕ). test x ≡ wanted x) same own)
+    (λ (other : t ≡ v → ⊥). others v other)
+    (cases_eq t v)
 
--- the turn is over, and the block is ready again
-pub risers_self : (t : ℕ) (f : BlockState → BlockState) (blocks : List BlockState) (block : BlockState) (cpu ran : ℕ) → slice_get blocks t ≡ Some block → block.stage ≡ Turn cpu ran → (f block).stage ≡ Ready → risers blocks (changed t f blocks) ≡ t ∷ []
-risers_self t f blocks block cpu ran at before now =
-    rw (risen_off was_waiting waiting_apart 0 t f blocks block at (rw before refl), risen_off was_idle idle_apart 0 t f blocks block at (rw before refl), risen_on was_in_turn turn_apart 0 t t f blocks block at (rw (now, before) refl) (omega arith)) refl
+-- the block is in the same stage
+abbrev pub SameStage : BlockState → BlockState → Type 0
+SameStage old new = new.stage ≡ old.stage
 
--- two blocks change: of one that was such, the first that is changed alone rises
-risen_two : (was : Stage → Bool) → Apart was → (i t c n : ℕ) (f g : BlockState → BlockState) (blocks : List BlockState) (block child : BlockState) → (t ≡ c → ⊥) → slice_get blocks t ≡ Some block → slice_get blocks c ≡ Some child
-    → (was block.stage && is_ready (f block).stage) ≡ false → (was child.stage && is_ready (g child).stage) ≡ true → n ≡ i + c → risen was i blocks (changed t f (changed c g blocks)) ≡ n ∷ []
-risen_two was apart i t c n f g [] block child other at there off on sum = absurd (cc)
-risen_two was apart i zero zero n f g (first ∷ blocks) block child other at there off on sum = absurd (other refl)
-risen_two was apart i zero (suc c) n f g (first ∷ blocks) block child other at there off on sum =
-    let same : block ≡ first = cc in
-    let here : (was first.stage && is_ready (f first).stage) ≡ false = subst (λ (b : BlockState). (was b.stage && is_ready (f b).stage) ≡ false) same off in
-    rw here (risen_on was apart (i + 1) c n g blocks child there on (omega arith))
-risen_two was apart i (suc t) zero n f g (first ∷ blocks) block child other at there off on sum =
-    let same : child ≡ first = cc in
-    let here : (was first.stage && is_ready (g first).stage) ≡ true = subst (λ (b : BlockState). (was b.stage && is_ready (g b).stage) ≡ true) same on in
-    let number : i ≡ n = omega arith in
-    rw (here, number) (ap (λ (list : List ℕ). n ∷ list) (risen_off was apart (n + 1) t f blocks block at off))
-risen_two was apart i (suc t) (suc c) n f g (first ∷ blocks) block child other at there off on sum =
-    rw (apart first.stage) (risen_two was apart (i + 1) t c n f g blocks block child (λ (same : t ≡ c). other (ap suc same)) at there off on (omega arith))
+-- who stays in its stage doesn't rise
+pub still : (was : Stage → Bool) → Apart was → (old new : Option BlockState) → Both SameStage old new → rises was old new ≡ false
+still was apart None new both = refl
+still was apart (Some b) None both = refl
+still was apart (Some b) (Some a) both = ap (λ (s : Stage). was b.stage && is_ready s) both ∙ apart b.stage
 
--- two change, and neither rises
-risen_none : (was : Stage → Bool) → Apart was → (i t c : ℕ) (f g : BlockState → BlockState) (blocks : List BlockState) (block child : BlockState) → (t ≡ c → ⊥) → slice_get blocks t ≡ Some block → slice_get blocks c ≡ Some child
-    → (was block.stage && is_ready (f block).stage) ≡ false → (was child.stage && is_ready (g child).stage) ≡ false → risen was i blocks (changed t f (changed c g blocks)) ≡ []
-risen_none was apart i t c f g [] block child other at there off on = absurd (cc)
-risen_none was apart i zero zero f g (first ∷ blocks) block child other at there off on = absurd (other refl)
-risen_none was apart i zero (suc c) f g (first ∷ blocks) block child other at there off on =
-    let same : block ≡ first = cc in
-    let here : (was first.stage && is_ready (f first).stage) ≡ false = subst (λ (b : BlockState). (was b.stage && is_ready (f b).stage) ≡ false) same off in
-    rw here (risen_off was apart (i + 1) c g blocks child there on)
-risen_none was apart i (suc t) zero f g (first ∷ blocks) block child other at there off on =
-    let same : child ≡ first = cc in
-    let here : (was first.stage && is_ready (g first).stage) ≡ false = subst (λ (b : BlockState). (was b.stage && is_ready (g b).stage) ≡ false) same on in
-    rw here (risen_off was apart (i + 1) t f blocks block at off)
-risen_none was apart i (suc t) (suc c) f g (first ∷ blocks) block child other at there off on =
-    rw (apart first.stage) (risen_none was apart (i + 1) t c f g blocks block child (λ (same : t ≡ c). other (ap suc same)) at there off on)
+-- so do the others where one is changed beside
+others_still : (was : Stage → Bool) → Apart was → (t : ℕ) (f : BlockState → BlockState) (blocks mid : List BlockState) → Alike SameStage blocks mid → (v : ℕ) → (t ≡ v → ⊥) → rises_at was blocks (changed t f mid) v ≡ false
+others_still was apart t f blocks mid alike v other =
+    ap (rises was (slice_get blocks v)) (changed_other t v f mid other) ∙ still was apart (slice_get blocks v) (slice_get mid v) (alike_at SameStage blocks mid alike v)
 
--- two change, and the one that is changed last rises
-risen_last : (was : Stage → Bool) → Apart was → (i t c n : ℕ) (f g : BlockState → BlockState) (blocks : List BlockState) (block child : BlockState) → (t ≡ c → ⊥) → slice_get blocks t ≡ Some block → slice_get blocks c ≡ Some child
-    → (was block.stage && is_ready (f block).stage) ≡ true → (was child.stage && is_ready (g child).stage) ≡ false → n ≡ i + t → risen was i blocks (changed t f (changed c g blocks)) ≡ n ∷ []
-risen_last was apart i t c n f g [] block child other at there on off sum = absurd (cc)
-risen_last was apart i zero zero n f g (first ∷ blocks) block child other at there on off sum = absurd (other refl)
-risen_last was apart i zero (suc c) n f g (first ∷ blocks) block child other at there on off sum =
-    let same : block ≡ first = cc in
-    let here : (was first.stage && is_ready (f first).stage) ≡ true = subst (λ (b : BlockState). (was b.stage && is_ready (f b).stage) ≡ true) same on in
-    let number : i ≡ n = omega arith in
-    rw (here, number) (ap (λ (list : List ℕ). n ∷ list) (risen_off was apart (n + 1) c g blocks child there off))
-risen_last was apart i (suc t) zero n f g (first ∷ blocks) block child other at there on off sum =
-    let same : child ≡ first = cc in
-    let here : (was first.stage && is_ready (g first).stage) ≡ false = subst (λ (b : BlockState). (was b.stage && is_ready (g b).stage) ≡ false) same off in
-    rw here (risen_on was apart (i + 1) t n f blocks block at on (omega arith))
-risen_last was apart i (suc t) (suc c) n f g (first ∷ blocks) block child other at there on off sum =
-    rw (apart first.stage) (risen_last was apart (i + 1) t c n f g blocks block child (λ (same : t ≡ c). other (ap suc same)) at there on off (omega arith))
+-- ---- the block itself
+
+-- The block is in a turn.
+pub record InTurn (blocks : List BlockState) (t : ℕ) : Type 0 where
+  pub cpu : ℕ
+  pub ran : ℕ
+  pub block : BlockState
+  pub here : slice_get blocks t ≡ Some block
+  pub stage : block.stage ≡ Turn cpu ran
+
+-- The block was in a turn, and is in this stage now.
+pub record IsOver (blocks now : List BlockState) (t : ℕ) (s : Stage) : Type 0 where
+  pub cpu : ℕ
+  pub ran : ℕ
+  pub block : BlockState
+  pub after : BlockState
+  pub here : slice_get blocks t ≡ Some block
+  pub stage : block.stage ≡ Turn cpu ran
+  pub there : slice_get now t ≡ Some after
+  pub is : after.stage ≡ s
+
+-- what leaves its block in one stage
+abbrev pub Ends : (BlockState → BlockState) → Stage → Type 0
+Ends f s = (b : BlockState) → (f b).stage ≡ s
+
+-- so it is, after a change of the others
+pub over_there : (t : ℕ) (s : Stage) (f : BlockState → BlockState) (blocks mid : List BlockState) → Ends f s → InTurn blocks t → (b : BlockState) → slice_get mid t ≡ Some b → IsOver blocks (changed t f mid) t s
+over_there t s f blocks mid ends turn b at = record {
+  cpu = turn.cpu;
+  ran = turn.ran;
+  block = turn.block;
+  after = f b;
+  here = turn.here;
+  stage = turn.stage;
+  there = changed_same t f mid ∙ ap (option_map f) at;
+  is = ends b;
+}
+
+-- whether it rises
+pub over_rises : (was : Stage → Bool) (blocks now : List BlockState) (t : ℕ) (s : Stage) (over : IsOver blocks now t s) → rises_at was blocks now t ≡ (was (Turn over.cpu over.ran) && is_ready s)
+over_rises was blocks now t s over =
+    ap (λ (old : Option BlockState). rises was old (slice_get now t)) over.here ∙ ap (rises was (Some over.block)) over.there
+    ∙ ap (λ (old : Stage). was old && is_ready over.after.stage) over.stage ∙ ap (λ (new : Stage). was (Turn over.cpu over.ran) && is_ready new) over.is
+
+-- it alone is made ready, where it is ready
+pub over_self : (t : ℕ) (f : BlockState → BlockState) (blocks mid : List BlockState) → Alike SameStage blocks mid → IsOver blocks (changed t f mid) t Ready → risers blocks (changed t f mid) ≡ t ∷ []
+over_self t f blocks mid alike over =
+    let now = changed t f mid in
+    let waits = risen_nobody was_waiting 0 blocks now (each_place t (rises_at was_waiting blocks now) (λ v. false) (over_rises was_waiting blocks now t Ready over) (others_still was_waiting waiting_apart t f blocks mid alike)) in
+    let idles = risen_nobody was_idle 0 blocks now (each_place t (rises_at was_idle blocks now) (λ v. false) (over_rises was_idle blocks now t Ready over) (others_still was_idle idle_apart t f blocks mid alike)) in
+    let turns = risen_alone was_in_turn 0 t t blocks now (over_rises was_in_turn blocks now t Ready over) (others_still was_in_turn turn_apart t f blocks mid alike) (omega arith) in
+    rw (waits, idles, turns) refl
+
+-- and nobody is, where it isn't
+pub over_none : (t : ℕ) (s : Stage) (f : BlockState → BlockState) (blocks mid : List BlockState) → is_ready s ≡ false → Alike SameStage blocks mid → IsOver blocks (changed t f mid) t s → risers blocks (changed t f mid) ≡ []
+over_none t s f blocks mid off alike over =
+    let now = changed t f mid in
+    let waits = risen_nobody was_waiting 0 blocks now (each_place t (rises_at was_waiting blocks now) (λ v. false) (over_rises was_waiting blocks now t s over) (others_still was_waiting waiting_apart t f blocks mid alike)) in
+    let idles = risen_nobody was_idle 0 blocks now (each_place t (rises_at was_idle blocks now) (λ v. false) (over_rises was_idle blocks now t s over) (others_still was_idle idle_apart t f blocks mid alike)) in
+    let turns = risen_nobody was_in_turn 0 blocks now (each_place t (rises_at was_in_turn blocks now) (λ v. false) (over_rises was_in_turn blocks now t s over ∙ off) (others_still was_in_turn turn_apart t f blocks mid alike)) in
+    rw (waits, idles, turns) refl
+
+-- where one block alone is changed
+alone_over : (t : ℕ) (s : Stage) (f : BlockState → BlockState) (blocks : List BlockState) (block : BlockState) (cpu ran : ℕ) → slice_get blocks t ≡ Some block → block.stage ≡ Turn cpu ran → (f block).stage ≡ s → IsOver blocks (changed t f blocks) t s
+alone_over t s f blocks block cpu ran here stage is = record {
+  cpu = cpu;
+  ran = ran;
+  block = block;
+  after = f block;
+  here = here;
+  stage = stage;
+  there = changed_same t f blocks ∙ ap (option_map f) here;
+  is = is;
+}
 
 -- ---- the ready list after an event
 
@@ -151,90 +201,23 @@ line_ends script command block cpu ran stage goes = rw (stage, goes) refl
 pub local_keeps : LocalKeeps
 local_keeps script past t line cpu ran reply block lines command turn at goes =
     let m = machine script past in
+    let f = own m.script (Local t line reply) in
     let same = machine_script script past in
     let found : command_at m.script t line ≡ Some command = ap (λ (s : Script). command_at s t line) same ∙ at in
     let more : goes_on m.script command ran ≡ true = ap (λ (s : Script). goes_on s command ran) same ∙ goes in
     let stays : (ran_line m.script (command_at m.script t line) block).stage ≡ Turn cpu (ran + 1) =
     ap (λ (c : Option Command). (ran_line m.script c block).stage) found ∙ line_stays m.script command block cpu ran turn.stage more in
-    ap (λ (list : List ℕ). ready_list script past ++ list) (risers_none t (own m.script (Local t line reply)) m.blocks block cpu ran cpu (ran + 1) turn.state turn.stage stays)
+    ap (λ (list : List ℕ). ready_list script past ++ list) (over_none t (Turn cpu (ran + 1)) f m.blocks m.blocks refl (alike_same SameStage (λ b. refl) m.blocks) (alone_over t (Turn cpu (ran + 1)) f m.blocks block cpu ran turn.state turn.stage stays))
     ∙ append-nil (ready_list script past)
 
 -- the block itself is made ready where its turn ends
 pub local_rises : LocalRises
 local_rises script past t line cpu ran reply block lines command turn at goes =
     let m = machine script past in
+    let f = own m.script (Local t line reply) in
     let same = machine_script script past in
     let found : command_at m.script t line ≡ Some command = ap (λ (s : Script). command_at s t line) same ∙ at in
     let more : goes_on m.script command ran ≡ false = ap (λ (s : Script). goes_on s command ran) same ∙ goes in
     let ends : (ran_line m.script (command_at m.script t line) block).stage ≡ Ready =
     ap (λ (c : Option Command). (ran_line m.script c block).stage) found ∙ line_ends m.script command block cpu ran turn.stage more in
-    ap (λ (list : List ℕ). ready_list script past ++ list) (risers_self t (own m.script (Local t line reply)) m.blocks block cpu ran turn.state turn.stage ends)
-
--- a fork makes its child ready, and then its own block
-pub fork_rises : ForkRises
-fork_rises script past t line cpu ran reply name block state lines turn at birth =
-    let m = machine script past in
-    let c = block_named script name in
-    let same = machine_script script past in
-    let g = born t (slice_get m.blocks t) in
-    let f = outer_own script (Some (commands.Fork name)) reply in
-    let before = turn.stage in
-    let unborn = birth.unborn in
-    let here = turn.state in
-    let child_ready : (g state).stage ≡ Ready = rw (here, unborn) refl in
-    let waits = risen_none was_waiting waiting_apart 0 t c f g m.blocks block state birth.apart here birth.here (rw before refl) (rw unborn refl) in
-    let idles = risen_two was_idle idle_apart 0 t c c f g m.blocks block state birth.apart here birth.here (rw before refl) (rw (child_ready, unborn) refl) (omega arith) in
-    let turns = risen_last was_in_turn turn_apart 0 t c t f g m.blocks block state birth.apart here birth.here (rw before refl) (rw unborn refl) (omega arith) in
-    let all : risers m.blocks (changed t f (changed c g m.blocks)) ≡ c ∷ t ∷ [] = rw (waits, idles, turns) refl in
-    let by_script : risers m.blocks (blocks_after m.script (Outer t line reply) m.blocks) ≡ risers m.blocks (changed t f (changed c g m.blocks)) =
-    ap (λ (s : Script). risers m.blocks (changed t (outer_own s (command_at s t line) reply) (outer_reach s t (command_at s t line) reply m.blocks))) same
-    ∙ ap (λ (command : Option Command). risers m.blocks (changed t (outer_own script command reply) (outer_reach script t command reply m.blocks))) at in
-    ap (λ (list : List ℕ). ready_list script past ++ list) (by_script ∙ all)
-
--- ---- an end or a kill where nobody waits or is stopped
-
--- a plain stage stays
-pub plain_stays : (may : Bool) (t : ℕ) (s : Stage) → is_plain s ≡ true → let_go may (wake t s) ≡ s
-plain_stays may t Unborn plain = refl
-plain_stays may t Ready plain = refl
-plain_stays may t (Turn cpu ran) plain = refl
-plain_stays may t Stopped plain = absurd (cc)
-plain_stays may t (Waiting child) plain = absurd (cc)
-plain_stays may t Ended plain = refl
-
--- plain blocks stay
-pub plain_freed : (t : ℕ) (blocks : List BlockState) → AllByRecursion (λ (block : BlockState). is_plain block.stage ≡ true) blocks → map (freed t) blocks ≡ blocks
-plain_freed t [] plain = refl
-plain_freed t (b ∷ blocks) plain =
-    let here : freed t b ≡ b = ap (λ (s : Stage). record b { stage = s }) (plain_stays (is_parent b.parent t) t b.stage plain.0) in
-    let rest = plain_freed t blocks plain.1 in
-    ap (λ (x : BlockState). x ∷ map (freed t) blocks) here ∙ ap (λ (xs : List BlockState). b ∷ xs) rest
-
--- nobody rises by what leaves its block not ready
-risen_over : (was : Stage → Bool) → Apart was → (f : BlockState → BlockState) → ((b : BlockState) → is_ready (f b).stage ≡ false) → (i t : ℕ) (blocks : List BlockState) → risen was i blocks (changed t f blocks) ≡ []
-risen_over was apart f over i t [] = refl
-risen_over was apart f over i zero (b ∷ blocks) =
-    let off : (was b.stage && is_ready (f b).stage) ≡ false = ap (λ (ready : Bool). was b.stage && ready) (over b) ∙ never (was b.stage) in
-    rw off (risen_same was apart (i + 1) blocks)
-  where
-    never : (x : Bool) → (x && false) ≡ false
-    never true = refl
-    never false = refl
-risen_over was apart f over i (suc t) (b ∷ blocks) = rw (apart b.stage) (risen_over was apart f over (i + 1) t blocks)
-
--- the ready list after what ends a block
-over_keeps : (f : BlockState → BlockState) → ((b : BlockState) → is_ready (f b).stage ≡ false) → (t : ℕ) (blocks : List BlockState) → AllByRecursion (λ (block : BlockState). is_plain block.stage ≡ true) blocks → (list : List ℕ) → list ++ risers blocks (changed t f (map (freed t) blocks)) ≡ list
-over_keeps f over t blocks plain list =
-    let one = risen_over was_waiting waiting_apart f over 0 t blocks in
-    let two = risen_over was_idle idle_apart f over 0 t blocks in
-    let three = risen_over was_in_turn turn_apart f over 0 t blocks in
-    let none_is : risers blocks (changed t f blocks) ≡ [] = rw (one, two, three) refl in
-    ap (λ (xs : List BlockState). list ++ risers blocks (changed t f xs)) (plain_freed t blocks plain) ∙ ap (λ (rising : List ℕ). list ++ rising) none_is ∙ append-nil list
-
--- an end makes nobody ready
-pub end_keeps : EndKeeps
-end_keeps script past t plain = over_keeps (λ (block : BlockState). ended_with block.task block) (λ b. refl) t (machine script past).blocks plain (ready_list script past)
-
--- so does a kill
-pub kill_keeps : KillKeeps
-kill_keeps script past t signo why plain = over_keeps (λ (block : BlockState). ended_with (killed why block.task) block) (λ b. refl) t (machine script past).blocks plain (ready_list script past)
+    ap (λ (list : List ℕ). ready_list script past ++ list) (over_self t f m.blocks m.blocks (alike_same SameStage (λ b. refl) m.blocks) (alone_over t Ready f m.blocks block cpu ran turn.state turn.stage ends))

@@ -1,5 +1,5 @@
--- Where outer lines and returns stand, and to whom signals are sent: a kernel thread has none, and no handler that runs.
-use Rattle.std.proofs.Common.{◌≡◌, ◌<◌, ◌==◌, Bool, true, false, not, List, [], length, refl, sym, ap, ◌∙◌, subst, arith, ⊎_elim}
+-- Where outer lines and returns stand, and whom lines name. A kernel thread has no signal, and no handler that runs.
+use Rattle.std.proofs.Common.{◌≡◌, ℕ, ◌<◌, ◌==◌, Bool, true, false, not, List, [], length, refl, sym, ap, ◌∙◌, subst, arith, ⊎_elim}
 use Rattle.std.proofs.lemmas.Bool.{cases_Bool, both_ways, and_parts, not-true, ltb-true, eqb-true}
 use Rattle.std.proofs.lemmas.Option.{slice_get_within}
 use Rattle.std.specs.Prelude.{Option, Some, None, slice_get}
@@ -7,18 +7,20 @@ use Rattle.std.specs.List.{list_all}
 use Rattle.xs_model.specs.declared.script.BlockKind.{BlockKind}
 use Rattle.xs_model.specs.declared.script.BlockKind.TheVariants.{Task, Child, Kthread}
 use Rattle.xs_model.specs.declared.script.Command.{Command}
+use Rattle.xs_model.specs.declared.script.Command.TheVariants as commands
 use Rattle.xs_model.specs.declared.script.Block.{Block}
 use Rattle.xs_model.specs.declared.script.Order.{Order}
-use Rattle.xs_model.specs.Names.{block_of, has_handler, NamesBlock}
-use Rattle.xs_model.specs.Script.{is_outer, is_return, is_kernel_command, fits_kind, block_named, is_user_kind, is_user_block}
+use Rattle.xs_model.specs.declared.script.Script.{Script}
+use Rattle.xs_model.specs.Names.{block_of, is_child, has_handler, named_block, is_forked, NamesBlock}
+use Rattle.xs_model.specs.Script.{is_outer, is_return, is_kernel_command, fits_kind, IsValid, block_named, is_user_kind, is_user_block, is_user}
 use Rattle.xs_model.specs.Machine.{machine}
-use Rattle.xs_model.specs.Laws.{OuterOutside, ReturnInside, SentToUser, ThreadsQuiet}
+use Rattle.xs_model.specs.Laws.{OuterOutside, ReturnInside, OuterOfUser, NamedUser, ThreadsQuiet}
 use Rattle.xs_model.proofs.MachineShape.{many_blocks}
 use Rattle.xs_model.proofs.StepCosts.{lines_there}
-use Rattle.xs_model.proofs.NameLaws.{named_block, line_named}
+use Rattle.xs_model.proofs.NameLaws.{block_by_name, AreChildren, line_named, forked_child}
 use Rattle.xs_model.proofs.EventBound.{handlers_local, body_at, in_body}
 use Rattle.xs_model.proofs.FitSteps.{fit_at, all_fit, tidy_of}
-use Rattle.xs_model.proofs.Births.{all_true, user_by_line}
+use Rattle.xs_model.proofs.Births.{all_true, user_by_line, child_there}
 
 -- ---- where lines stand
 
@@ -37,7 +39,30 @@ return_inside script t lines task order valid known here returns = by_handling t
         let inside = all_true (λ (o : Order). not (is_return o.command)) lines.body task.place order (body_at script.layout script.blocks valid.bodies t lines known).inside there in
         absurd (both_ways (is_return order.command) (not-true (is_return order.command) inside) returns)
 
--- ---- to whom signals are sent
+-- a kernel thread has no outer line
+outer_kernel : (command : Command) → is_outer command ≡ true → is_kernel_command command ≡ false
+outer_kernel (commands.Ksec byte) outer = absurd (cc)
+outer_kernel commands.Yield outer = absurd (cc)
+outer_kernel other outer = refl
+
+-- an outer line is of a user task
+pub outer_of_user : OuterOfUser
+outer_of_user script t lines task order valid known here outer =
+    let body = in_body lines task order (λ i at. handlers_local script valid t i lines order known at) here outer task.handling refl in
+    ap is_user_block known ∙ user_by_line lines.kind lines.body lines.handler task.place order (body_at script.layout script.blocks valid.bodies t lines known).kind body.1 (outer_kernel order.command outer)
+
+-- ---- whom lines name
+
+-- The name is that of a user task.
+abbrev IsUserNamed : Script → List ℕ → Type 0
+IsUserNamed script name = (block_named script name < length script.blocks) × (is_user script (block_named script name) ≡ true)
+
+-- a child
+child_named : (script : Script) (name : List ℕ) → is_child (block_of script.blocks name) ≡ true → IsUserNamed script name
+child_named script name is =
+    let c = child_there (block_of script.blocks name) is in
+    let v = block_named script name in
+    (slice_get_within script.blocks v c.0 (sym (block_by_name script name) ∙ c.1), ap is_user_block (sym (block_by_name script name)) ∙ c.2)
 
 -- a kernel thread has no handler
 thread_handler : (kind : BlockKind) (body handler : List Order) → fits_kind kind body handler ≡ true → is_user_kind kind ≡ false → length handler ≡ 0
@@ -57,21 +82,43 @@ handled_there : (block : Option Block) → has_handler block ≡ true → (b : B
 handled_there None is = absurd (cc)
 handled_there (Some b) is = (b, refl, ltb-true 0 (length b.handler) is)
 
--- a `kill` line is of a user task, and names one
-pub sent_to_user : SentToUser
-sent_to_user script t lines task order name signo valid known here is =
-    let body = in_body lines task order (λ i at. handlers_local script valid t i lines order known at) here (ap is_outer is) task.handling refl in
-    let mine = user_by_line lines.kind lines.body lines.handler task.place order (body_at script.layout script.blocks valid.bodies t lines known).kind body.1 (ap is_kernel_command is) in
-    let named = line_named script t task.place lines order valid known body.1 in
-    let handled : has_handler (block_of script.blocks name) ≡ true = subst (λ (c : Command). NamesBlock script.blocks named.0 c) is named.1 in
+-- a block with a handler
+handler_named : (script : Script) (name : List ℕ) → IsValid script → has_handler (block_of script.blocks name) ≡ true → IsUserNamed script name
+handler_named script name valid handled =
     let other = handled_there (block_of script.blocks name) handled in
     let v = block_named script name in
-    let there : slice_get script.blocks v ≡ Some other.0 = sym (named_block script name) ∙ other.1 in
-    let yours = handled_user other.0.kind other.0.body other.0.handler (body_at script.layout script.blocks valid.bodies v other.0 there).kind other.2 in (
-      ap is_user_block known ∙ mine,
-      slice_get_within script.blocks v other.0 there,
-      ap is_user_block there ∙ yours,
-    )
+    let there : slice_get script.blocks v ≡ Some other.0 = sym (block_by_name script name) ∙ other.1 in
+    let user = handled_user other.0.kind other.0.body other.0.handler (body_at script.layout script.blocks valid.bodies v other.0 there).kind other.2 in
+    (slice_get_within script.blocks v other.0 there, ap is_user_block there ∙ user)
+
+-- the block that a command names
+command_named : (script : Script) (before : List Order) (command : Command) (name : List ℕ) → IsValid script → NamesBlock script.blocks before command → AreChildren script.blocks before → named_block command ≡ Some name → IsUserNamed script name
+command_named script before (commands.Fork child) name valid named children is = child_named script name (subst (λ (n : List ℕ). is_child (block_of script.blocks n) ≡ true) (cc) named)
+command_named script before (commands.Kill other signo) name valid named children is = handler_named script name valid (subst (λ (n : List ℕ). has_handler (block_of script.blocks n) ≡ true) (cc) named)
+command_named script before (commands.Wait child) name valid named children is = child_named script name (forked_child script.blocks before name children (subst (λ (n : List ℕ). is_forked before n ≡ true) (cc) named))
+command_named script before (commands.Getregs child set) name valid named children is = child_named script name (forked_child script.blocks before name children (subst (λ (n : List ℕ). is_forked before n ≡ true) (cc) named.0))
+command_named script before (commands.Setregs child set count) name valid named children is = child_named script name (forked_child script.blocks before name children (subst (λ (n : List ℕ). is_forked before n ≡ true) (cc) named.0))
+command_named script before (commands.Cont child) name valid named children is = child_named script name (forked_child script.blocks before name children (subst (λ (n : List ℕ). is_forked before n ≡ true) (cc) named.0))
+command_named script before other name valid named children is = absurd (cc)
+
+-- a command that names a block is outer
+named_outer : (command : Command) (name : List ℕ) → named_block command ≡ Some name → is_outer command ≡ true
+named_outer (commands.Fork child) name is = refl
+named_outer (commands.Kill other signo) name is = refl
+named_outer (commands.Wait child) name is = refl
+named_outer (commands.Getregs child set) name is = refl
+named_outer (commands.Setregs child set count) name is = refl
+named_outer (commands.Cont child) name is = refl
+named_outer other name is = absurd (cc)
+
+-- the block that a line names is a user task
+pub named_user : NamedUser
+named_user script t lines task order name valid known here is =
+    let body = in_body lines task order (λ i at. handlers_local script valid t i lines order known at) here (named_outer order.command name is) task.handling refl in
+    let named = line_named script t task.place lines order valid known body.1 in
+    command_named script named.0 order.command name valid named.1 named.2 is
+
+-- ---- kernel threads
 
 -- a kernel thread has no signal, and no handler runs
 pub threads_quiet : ThreadsQuiet

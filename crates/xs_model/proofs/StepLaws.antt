@@ -1,9 +1,9 @@
 -- Which events are steps, and what they make of the blocks.
-use Rattle.std.proofs.Common.{◌≡◌, ℕ, zero, suc, ◌<◌, true, false, List, [], ◌∷◌, map, refl, sym, ap, ◌∙◌}
+use Rattle.std.proofs.Common.{◌≡◌, ℕ, zero, suc, ◌<◌, true, false, List, [], ◌∷◌, map, refl, ap, ◌∙◌}
 use Rattle.std.proofs.lemmas.Bool.{lt-ltb, ne_eqb}
 use Rattle.std.specs.Prelude.{Option, Some, None, slice_get, nat_lt}
 use Rattle.std.specs.Option.{option_map}
-use Rattle.xs_base.specs.Task.{PrivateTask, child_of}
+use Rattle.xs_base.specs.Task.{PrivateTask}
 use Rattle.xs_model.specs.declared.script.Command.{Command}
 use Rattle.xs_model.specs.declared.script.Command.TheVariants as commands
 use Rattle.xs_model.specs.declared.script.Block.{Block}
@@ -12,20 +12,18 @@ use Rattle.xs_model.specs.declared.event.Reply.{Reply}
 use Rattle.xs_model.specs.declared.event.Why.{Why}
 use Rattle.xs_model.specs.declared.event.Event.{Event}
 use Rattle.xs_model.specs.declared.event.Event.TheVariants.{Start, Local, Outer, Kill, End}
-use Rattle.xs_model.specs.declared.stage.Stage.{Stage}
-use Rattle.xs_model.specs.declared.stage.Stage.TheVariants.{Ready}
-use Rattle.xs_model.specs.Script.{is_outer, block_named, command_at, is_user}
+use Rattle.xs_model.specs.Script.{is_outer, command_at, is_user}
 use Rattle.xs_model.specs.Line.{traps, refusal}
 use Rattle.xs_model.specs.Held.{held}
 use Rattle.xs_model.specs.State.{BlockState, turn_cpu, is_on_cpu, changed}
-use Rattle.xs_model.specs.Outer.{freed, bear, born, outer_reply, reach_of, outer_reach, outer_own}
+use Rattle.xs_model.specs.Outer.{freed, outer_reply, reach_of, outer_reach, outer_own}
 use Rattle.xs_model.specs.Due.{how_of, signal_of, due, start_due}
 use Rattle.xs_model.specs.Machine.{started, ran_line, own, machine}
-use Rattle.xs_model.specs.Laws.{MachineKnown, StartIsStep, LocalIsStep, OuterIsStep, RefusalIsStep, EndIsStep, FreeTells, FreeFound, StartedBlock, RanBlock, ForkedBlock, BornBlock, KilledBlock, EndedBlock, StartOthers, LocalOthers, ForkOthers, EndOthers, KilledOthers}
+use Rattle.xs_model.specs.Laws.{MachineKnown, StartIsStep, LocalIsStep, OuterIsStep, RefusalIsStep, EndIsStep, FreeTells, FreeFound}
+use Rattle.xs_model.specs.Effects.{StartedBlock, RanBlock, EndedBlock, KilledBlock, StartOthers, LocalOthers, EndOthers, KilledOthers}
 use Rattle.xs_model.proofs.LegalTurns.{machine_script, machine_past, none_else}
 use Rattle.xs_model.proofs.MachineShape.{many_blocks}
 use Rattle.xs_model.proofs.EventTurns.{changed_same, changed_other}
-use Rattle.xs_model.proofs.RiserLaws.{plain_freed}
 
 -- the script, the past and the number of blocks
 pub machine_known : MachineKnown
@@ -138,39 +136,8 @@ after_outer script past t line reply command at =
     ap (λ (s : Script). changed t (outer_own s (command_at s t line) reply) (outer_reach s t (command_at s t line) reply blocks)) (machine_script script past)
     ∙ ap (λ (found : Option Command). changed t (outer_own script found reply) (outer_reach script t found reply blocks)) at
 
--- a fork's own block
-pub forked_block : ForkedBlock
-forked_block script past t line reply name block at apart here =
-    let blocks = (machine script past).blocks in
-    let c = block_named script name in
-    let f = outer_own script (Some (commands.Fork name)) reply in
-    let g = born t (slice_get blocks t) in
-    ap (λ (bs : List BlockState). slice_get bs t) (after_outer script past t line reply (commands.Fork name) at) ∙ changed_same t f (changed c g blocks)
-    ∙ ap (option_map f) (changed_other c t g blocks (λ (same : c ≡ t). apart (sym same)) ∙ here)
-
--- a fork's child
-pub born_block : BornBlock
-born_block script past t line reply name block state at here birth =
-    let blocks = (machine script past).blocks in
-    let c = block_named script name in
-    let f = outer_own script (Some (commands.Fork name)) reply in
-    let g = born t (slice_get blocks t) in
-    let is_born : g state ≡ record { stage = Ready; task = child_of block.task; parent = Some t; pending = [] } =
-    ap (λ (parent : Option BlockState). born t parent state) here ∙ ap (λ (s : Stage). bear t block.task s state) birth.unborn in
-    ap (λ (bs : List BlockState). slice_get bs c) (after_outer script past t line reply (commands.Fork name) at) ∙ changed_other t c f (changed c g blocks) birth.apart
-    ∙ changed_same c g blocks ∙ ap (option_map g) birth.here ∙ ap Some is_born
-
--- a fork leaves the others
-pub fork_others : ForkOthers
-fork_others script past t line v reply name at other apart =
-    let blocks = (machine script past).blocks in
-    let c = block_named script name in
-    let f = outer_own script (Some (commands.Fork name)) reply in
-    let g = born t (slice_get blocks t) in
-    ap (λ (bs : List BlockState). slice_get bs v) (after_outer script past t line reply (commands.Fork name) at) ∙ changed_other t v f (changed c g blocks) other ∙ changed_other c v g blocks apart
-
 -- the place of a block in a changed list
-map_at : (f : BlockState → BlockState) (blocks : List BlockState) (t : ℕ) (block : BlockState) → slice_get blocks t ≡ Some block → slice_get (map f blocks) t ≡ Some (f block)
+pub map_at : (f : BlockState → BlockState) (blocks : List BlockState) (t : ℕ) (block : BlockState) → slice_get blocks t ≡ Some block → slice_get (map f blocks) t ≡ Some (f block)
 map_at f [] t block at = absurd (cc)
 map_at f (b ∷ blocks) zero block at = ap (option_map f) at
 map_at f (b ∷ blocks) (suc t) block at = map_at f blocks t block at
@@ -196,14 +163,14 @@ start_others script past t cpu v how signal other = changed_other t v (started c
 pub local_others : LocalOthers
 local_others script past t line v reply other = let m = machine script past in changed_other t v (own m.script (Local t line reply)) m.blocks other
 
--- an end leaves the others where nobody waits or is stopped
+-- an end frees the others
 pub end_others : EndOthers
-end_others script past t v plain other =
+end_others script past t u block other here =
     let m = machine script past in
-    changed_other t v (own m.script (End t)) (map (freed t) m.blocks) other ∙ ap (λ (blocks : List BlockState). slice_get blocks v) (plain_freed t m.blocks plain)
+    changed_other t u (own m.script (End t)) (map (freed t) m.blocks) other ∙ map_at (freed t) m.blocks u block here
 
 -- so does a kill
 pub killed_others : KilledOthers
-killed_others script past t v signo why plain other =
+killed_others script past t u signo why block other here =
     let m = machine script past in
-    changed_other t v (own m.script (Kill t signo why)) (map (freed t) m.blocks) other ∙ ap (λ (blocks : List BlockState). slice_get blocks v) (plain_freed t m.blocks plain)
+    changed_other t u (own m.script (Kill t signo why)) (map (freed t) m.blocks) other ∙ map_at (freed t) m.blocks u block here

@@ -50,7 +50,7 @@ alike_changed R f same each zero (b ∷ blocks) = (each b, alike_same R same blo
 alike_changed R f same each (suc i) (b ∷ blocks) = (same b, alike_changed R f same each i blocks)
 
 -- changed or not
-alike_if : (R : BlockState → BlockState → Type 0) (test : Bool) (old new : List BlockState) → Alike R old new → Alike R old old → Alike R old (if test then new else old)
+pub alike_if : (R : BlockState → BlockState → Type 0) (test : Bool) (old new : List BlockState) → Alike R old new → Alike R old old → Alike R old (if test then new else old)
 alike_if R true old new one two = one
 alike_if R false old new one two = two
 

@@ -1,9 +1,8 @@
 -- The laws of the machine, as statements. Those of whole runs are in Runs.antt.
-use Rattle.std.specs.Prelude.{◌≡◌, ℕ, ◌<◌, ◌≤◌, Bool, true, false, ◌&&◌, ◌||◌, ◌==◌, List, [], ◌∷◌, ◌++◌, length, slice_get, Option, Some, None}
+use Rattle.std.specs.Prelude.{◌≡◌, ℕ, ◌<◌, ◌≤◌, true, false, ◌&&◌, ◌==◌, List, [], ◌∷◌, ◌++◌, length, slice_get, Some, None}
 use Rattle.std.specs.List.{AllByRecursion}
-use Rattle.xs_base.specs.declared.words.How.{How}
 use Rattle.xs_base.specs.declared.words.Signo.{Signo}
-use Rattle.xs_base.specs.Task.{PrivateTask, parked, child_of}
+use Rattle.xs_base.specs.Task.{PrivateTask}
 use Rattle.xs_model.specs.declared.script.Command.{Command}
 use Rattle.xs_model.specs.declared.script.Command.TheVariants as commands
 use Rattle.xs_model.specs.declared.script.Order.{Order}
@@ -13,15 +12,16 @@ use Rattle.xs_model.specs.declared.event.Reply.{Reply}
 use Rattle.xs_model.specs.declared.event.Why.{Why}
 use Rattle.xs_model.specs.declared.event.Event.{Event}
 use Rattle.xs_model.specs.declared.event.Event.TheVariants.{Start, Local, Outer, Kill, End}
-use Rattle.xs_model.specs.Script.{IsValid, IsBuilt, IsBuiltCommand, is_outer, is_fork, is_kill, is_return, block_named, command_at, is_user}
-use Rattle.xs_model.specs.Line.{line_at, next_line, local_reply, traps, refusal, killed}
-use Rattle.xs_model.specs.Note.{Sets, task_of, is_count, act_of, notes_of, is_at, cpu_of, mark, last}
+use Rattle.xs_model.specs.Names.{named_block}
+use Rattle.xs_model.specs.Script.{IsValid, IsBuilt, IsBuiltCommand, is_outer, is_return, block_named, command_at, is_user}
+use Rattle.xs_model.specs.Line.{line_at, local_reply, traps, refusal}
+use Rattle.xs_model.specs.Note.{Sets, task_of, act_of, notes_of, is_at, cpu_of, mark, last}
 use Rattle.xs_model.specs.Held.{sets_block, held}
-use Rattle.xs_model.specs.declared.stage.Stage.TheVariants.{Unborn, Ready, Turn}
-use Rattle.xs_model.specs.State.{BlockState, is_plain, is_ready, lives, is_active, stage_at, turn_of, has_turn, none_lives}
-use Rattle.xs_model.specs.Outer.{insert, outer_reply}
+use Rattle.xs_model.specs.declared.stage.Stage.TheVariants.{Unborn, Ready, Turn, Waiting}
+use Rattle.xs_model.specs.State.{BlockState, is_ready, lives, is_active, stage_at, task_at, turn_of, has_turn, parent_of, none_lives}
+use Rattle.xs_model.specs.Outer.{outer_reply}
 use Rattle.xs_model.specs.Due.{violation, how_of, signal_of}
-use Rattle.xs_model.specs.Machine.{started, goes_on, ran_line, ended_with, may_act, IsStep, machine, IsLegalPast, IsMachineOf}
+use Rattle.xs_model.specs.Machine.{may_act, IsStep, machine, IsLegalPast, IsMachineOf}
 use Rattle.xs_model.specs.Ready.{one_if, occurs, ready_list}
 use Rattle.xs_model.specs.Counts.{is_event_on, counts_of, remains}
 use Rattle.xs_model.specs.Bound.{most_events}
@@ -120,44 +120,6 @@ pub record HadNoTurn (script : Script) (past : List Event) (t : ℕ) : Type 0 wh
 abbrev pub UnbornUnseen : Type 0
 UnbornUnseen = (script : Script) (past : List Event) (t : ℕ) → IsValid script → IsLegalPast script past → stage_at (machine script past).blocks t ≡ Unborn → HadNoTurn script past t
 
--- A Start of the first ready block leaves the rest of the list.
-abbrev pub StartTakes : Type 0
-StartTakes = (script : Script) (past : List Event) (t cpu : ℕ) (how : How) (signal : Option Signo) (list : List ℕ) → ready_list script past ≡ t ∷ list
-    → ready_list script (Start t cpu how signal ∷ past) ≡ list
-
--- While the turn goes on nobody is made ready.
-abbrev pub LocalKeeps : Type 0
-LocalKeeps = (script : Script) (past : List Event) (t line cpu ran : ℕ) (reply : Reply) (block : BlockState) (lines : Block) (command : Command)
-    → IsInTurn script past t cpu ran block lines → command_at script t line ≡ Some command → goes_on script command ran ≡ true
-    → ready_list script (Local t line reply ∷ past) ≡ ready_list script past
-
--- A local line that ends the turn makes its own block ready, and no other.
-abbrev pub LocalRises : Type 0
-LocalRises = (script : Script) (past : List Event) (t line cpu ran : ℕ) (reply : Reply) (block : BlockState) (lines : Block) (command : Command)
-    → IsInTurn script past t cpu ran block lines → command_at script t line ≡ Some command → goes_on script command ran ≡ false
-    → ready_list script (Local t line reply ∷ past) ≡ ready_list script past ++ t ∷ []
-
--- A fork makes its child ready, and then its own block.
-abbrev pub ForkRises : Type 0
-ForkRises = (script : Script) (past : List Event) (t line cpu ran : ℕ) (reply : Reply) (name : List ℕ) (block state : BlockState) (lines : Block)
-    → IsInTurn script past t cpu ran block lines → command_at script t line ≡ Some (commands.Fork name) → IsBirth script past t (block_named script name) state
-    → ready_list script (Outer t line reply ∷ past) ≡ ready_list script past ++ block_named script name ∷ t ∷ []
-
--- A `kill` line makes its own block ready, and no other.
-abbrev pub SentRises : Type 0
-SentRises = (script : Script) (past : List Event) (t line cpu ran : ℕ) (reply : Reply) (name : List ℕ) (signo : Signo) (block : BlockState) (lines : Block)
-    → IsInTurn script past t cpu ran block lines → command_at script t line ≡ Some (commands.Kill name signo)
-    → ready_list script (Outer t line reply ∷ past) ≡ ready_list script past ++ t ∷ []
-
--- Where no block waits or is stopped, an end makes nobody ready, and neither does a kill.
-abbrev pub EndKeeps : Type 0
-EndKeeps = (script : Script) (past : List Event) (t : ℕ) → AllByRecursion (λ (block : BlockState). is_plain block.stage ≡ true) (machine script past).blocks
-    → ready_list script (End t ∷ past) ≡ ready_list script past
-
-abbrev pub KillKeeps : Type 0
-KillKeeps = (script : Script) (past : List Event) (t : ℕ) (signo : Signo) (why : Why) → AllByRecursion (λ (block : BlockState). is_plain block.stage ≡ true) (machine script past).blocks
-    → ready_list script (Kill t signo why ∷ past) ≡ ready_list script past
-
 -- ---- events that a processor or a block doesn't see
 
 -- the newer events are all on other processors than c
@@ -244,75 +206,6 @@ FreeTells = (blocks : List BlockState) (cpu t : ℕ) → has_turn blocks cpu ≡
 abbrev pub FreeFound : Type 0
 FreeFound = (blocks : List BlockState) (cpu : ℕ) → ((t : ℕ) → turn_of blocks t ≡ Some cpu → ⊥) → has_turn blocks cpu ≡ false
 
--- What a Start, a local line, a fork and an end make of their own block.
-abbrev pub StartedBlock : Type 0
-StartedBlock = (script : Script) (past : List Event) (t cpu : ℕ) (how : How) (signal : Option Signo) (block : BlockState)
-    → slice_get (machine script past).blocks t ≡ Some block
-    → slice_get (machine script (Start t cpu how signal ∷ past)).blocks t ≡ Some (started cpu signal block)
-
-abbrev pub RanBlock : Type 0
-RanBlock = (script : Script) (past : List Event) (t line : ℕ) (reply : Reply) (block : BlockState) → slice_get (machine script past).blocks t ≡ Some block
-    → slice_get (machine script (Local t line reply ∷ past)).blocks t ≡ Some (ran_line script (command_at script t line) block)
-
-abbrev pub ForkedBlock : Type 0
-ForkedBlock = (script : Script) (past : List Event) (t line : ℕ) (reply : Reply) (name : List ℕ) (block : BlockState) → command_at script t line ≡ Some (commands.Fork name)
-    → (t ≡ block_named script name → ⊥) → slice_get (machine script past).blocks t ≡ Some block
-    → slice_get (machine script (Outer t line reply ∷ past)).blocks t ≡ Some (record block { stage = Ready; task = parked (next_line block.task) })
-
--- What a fork makes of the child: it is ready, with its parent's registers as they are at the fork.
-abbrev pub BornBlock : Type 0
-BornBlock = (script : Script) (past : List Event) (t line : ℕ) (reply : Reply) (name : List ℕ) (block state : BlockState) → command_at script t line ≡ Some (commands.Fork name)
-    → slice_get (machine script past).blocks t ≡ Some block → IsBirth script past t (block_named script name) state
-    → slice_get (machine script (Outer t line reply ∷ past)).blocks (block_named script name) ≡ Some (record { stage = Ready; task = child_of block.task; parent = Some t; pending = [] })
-
--- the pending signals of a block, which is sent one or not
-abbrev pub pending_after : Bool → Signo → List Signo → List Signo
-pending_after true signo pending = insert signo pending
-pending_after false signo pending = pending
-
--- What a `kill` line makes of its own block, to which it may send the signal itself, and of another one.
-abbrev pub SentOwn : Type 0
-SentOwn = (script : Script) (past : List Event) (t line : ℕ) (reply : Reply) (name : List ℕ) (signo : Signo) (block : BlockState) → command_at script t line ≡ Some (commands.Kill name signo)
-    → slice_get (machine script past).blocks t ≡ Some block
-    → slice_get (machine script (Outer t line reply ∷ past)).blocks t ≡ Some (record block { stage = Ready; task = parked (next_line block.task); pending = pending_after (is_count reply && (block_named script name == t)) signo block.pending })
-
-abbrev pub SentOther : Type 0
-SentOther = (script : Script) (past : List Event) (t line other : ℕ) (reply : Reply) (name : List ℕ) (signo : Signo) (block : BlockState) → command_at script t line ≡ Some (commands.Kill name signo)
-    → (t ≡ other → ⊥) → slice_get (machine script past).blocks other ≡ Some block
-    → slice_get (machine script (Outer t line reply ∷ past)).blocks other ≡ Some (record block { pending = pending_after (is_count reply && (block_named script name == other)) signo block.pending })
-
--- a task that is killed has ended
-abbrev pub KilledBlock : Type 0
-KilledBlock = (script : Script) (past : List Event) (t : ℕ) (signo : Signo) (why : Why) (block : BlockState) → slice_get (machine script past).blocks t ≡ Some block
-    → slice_get (machine script (Kill t signo why ∷ past)).blocks t ≡ Some (ended_with (killed why block.task) block)
-
-abbrev pub EndedBlock : Type 0
-EndedBlock = (script : Script) (past : List Event) (t : ℕ) (block : BlockState) → slice_get (machine script past).blocks t ≡ Some block
-    → slice_get (machine script (End t ∷ past)).blocks t ≡ Some (ended_with block.task block)
-
--- A Start and a local line leave the other blocks, and so do an end and a kill where no block waits or is stopped. A fork
--- leaves those that aren't its child.
-abbrev pub StartOthers : Type 0
-StartOthers = (script : Script) (past : List Event) (t cpu other : ℕ) (how : How) (signal : Option Signo) → (t ≡ other → ⊥)
-    → slice_get (machine script (Start t cpu how signal ∷ past)).blocks other ≡ slice_get (machine script past).blocks other
-
-abbrev pub LocalOthers : Type 0
-LocalOthers = (script : Script) (past : List Event) (t line other : ℕ) (reply : Reply) → (t ≡ other → ⊥)
-    → slice_get (machine script (Local t line reply ∷ past)).blocks other ≡ slice_get (machine script past).blocks other
-
-abbrev pub ForkOthers : Type 0
-ForkOthers = (script : Script) (past : List Event) (t line other : ℕ) (reply : Reply) (name : List ℕ) → command_at script t line ≡ Some (commands.Fork name)
-    → (t ≡ other → ⊥) → (block_named script name ≡ other → ⊥)
-    → slice_get (machine script (Outer t line reply ∷ past)).blocks other ≡ slice_get (machine script past).blocks other
-
-abbrev pub EndOthers : Type 0
-EndOthers = (script : Script) (past : List Event) (t other : ℕ) → AllByRecursion (λ (block : BlockState). is_plain block.stage ≡ true) (machine script past).blocks
-    → (t ≡ other → ⊥) → slice_get (machine script (End t ∷ past)).blocks other ≡ slice_get (machine script past).blocks other
-
-abbrev pub KilledOthers : Type 0
-KilledOthers = (script : Script) (past : List Event) (t other : ℕ) (signo : Signo) (why : Why) → AllByRecursion (λ (block : BlockState). is_plain block.stage ≡ true) (machine script past).blocks
-    → (t ≡ other → ⊥) → slice_get (machine script (Kill t signo why ∷ past)).blocks other ≡ slice_get (machine script past).blocks other
-
 -- The block is still there, with the private task that it had.
 pub record HasTask (blocks : List BlockState) (t : ℕ) (task : PrivateTask) : Type 0 where
   pub block : BlockState
@@ -325,6 +218,22 @@ TaskStays = (script : Script) (past : List Event) (event : Event) (t : ℕ) (blo
     → (task_of event ≡ t → ⊥) → (act_of script event ≡ Sets t → ⊥) → slice_get (machine script past).blocks t ≡ Some block → (block.stage ≡ Unborn → ⊥)
     → HasTask (machine script (event ∷ past)).blocks t block.task
 
+-- What a block keeps from one past to a later one: it stays in its turn, and a last processor that it has it had before, with
+-- the same private task.
+pub record KeepsBlock (script : Script) (before after : List Event) (t : ℕ) : Type 0 where
+  pub turn : (cpu ran : ℕ) → stage_at (machine script before).blocks t ≡ Turn cpu ran → stage_at (machine script after).blocks t ≡ Turn cpu ran
+  pub held : (cpu : ℕ) → last script after t ≡ Some cpu → (last script before t ≡ Some cpu) × (task_at (machine script after).blocks t ≡ task_at (machine script before).blocks t)
+
+-- So does every block but the one whose event it is.
+abbrev pub OthersKeep : Type 0
+OthersKeep = (script : Script) (past : List Event) (event : Event) (t : ℕ) → IsValid script → IsLegalPast script (event ∷ past)
+    → (task_of event ≡ t → ⊥) → KeepsBlock script past (event ∷ past) t
+
+-- A block waits for a child of its own alone.
+abbrev pub WaitsForChild : Type 0
+WaitsForChild = (script : Script) (past : List Event) (u child : ℕ) → IsValid script → IsLegalPast script past
+    → stage_at (machine script past).blocks u ≡ Waiting child → parent_of (slice_get (machine script past).blocks child) ≡ Some u
+
 -- ---- signals and lines
 
 -- An outer line stands in a body: no handler runs at it. A return stands in a handler, which runs.
@@ -336,11 +245,15 @@ abbrev pub ReturnInside : Type 0
 ReturnInside = (script : Script) (t : ℕ) (lines : Block) (task : PrivateTask) (order : Order) → IsValid script → slice_get script.blocks t ≡ Some lines
     → line_at lines task ≡ Some order → is_return order.command ≡ true → task.handling ≡ true
 
--- A `kill` line is one of a user task, and names a block that is a user task.
-abbrev pub SentToUser : Type 0
-SentToUser = (script : Script) (t : ℕ) (lines : Block) (task : PrivateTask) (order : Order) (name : List ℕ) (signo : Signo) → IsValid script → slice_get script.blocks t ≡ Some lines
-    → line_at lines task ≡ Some order → order.command ≡ commands.Kill name signo
-    → (is_user script t ≡ true) × (block_named script name < length script.blocks) × (is_user script (block_named script name) ≡ true)
+-- An outer line is one of a user task, and the block that it names is a user task.
+abbrev pub OuterOfUser : Type 0
+OuterOfUser = (script : Script) (t : ℕ) (lines : Block) (task : PrivateTask) (order : Order) → IsValid script → slice_get script.blocks t ≡ Some lines
+    → line_at lines task ≡ Some order → is_outer order.command ≡ true → is_user script t ≡ true
+
+abbrev pub NamedUser : Type 0
+NamedUser = (script : Script) (t : ℕ) (lines : Block) (task : PrivateTask) (order : Order) (name : List ℕ) → IsValid script → slice_get script.blocks t ≡ Some lines
+    → line_at lines task ≡ Some order → named_block order.command ≡ Some name
+    → (block_named script name < length script.blocks) × (is_user script (block_named script name) ≡ true)
 
 -- A kernel thread has no signal, and no handler runs.
 abbrev pub ThreadsQuiet : Type 0
@@ -362,26 +275,13 @@ QuietUnlessAlive = (script : Script) (past : List Event) (t : ℕ) (block : Bloc
 
 -- ---- scripts of the forms of this version
 
--- A block that isn't stopped and doesn't wait, with no room for TILEDATA.
-pub record IsPlainBlock (block : BlockState) : Type 0 where
-  pub stage : is_plain block.stage ≡ true
-  pub small : block.task.large ≡ false
-
--- The blocks of such a script are plain.
+-- No block of such a script has room for TILEDATA.
 abbrev pub BuiltBlocks : Type 0
-BuiltBlocks = (script : Script) (past : List Event) → IsBuilt script → IsLegalPast script past → AllByRecursion IsPlainBlock (machine script past).blocks
+BuiltBlocks = (script : Script) (past : List Event) → IsBuilt script → IsLegalPast script past → AllByRecursion (λ (block : BlockState). block.task.large ≡ false) (machine script past).blocks
 
--- An end in such a script makes nobody ready, and neither does a kill.
-abbrev pub BuiltEnds : Type 0
-BuiltEnds = (script : Script) (past : List Event) (t : ℕ) → IsBuilt script → IsLegalPast script past → ready_list script (End t ∷ past) ≡ ready_list script past
-
-abbrev pub BuiltKills : Type 0
-BuiltKills = (script : Script) (past : List Event) (t : ℕ) (signo : Signo) (why : Why) → IsBuilt script → IsLegalPast script past → ready_list script (Kill t signo why ∷ past) ≡ ready_list script past
-
--- An outer line of such a script is a fork or a `kill`, and no line of it traps.
+-- No line of it traps.
 abbrev pub BuiltLines : Type 0
-BuiltLines = (task : PrivateTask) (command : Command) → IsBuiltCommand command
-    → (is_outer command ≡ (is_fork command || is_kill command)) × (traps task command ≡ false)
+BuiltLines = (task : PrivateTask) (command : Command) → IsBuiltCommand command → traps task command ≡ false
 
 -- While a block lives, one is ready or in a turn.
 abbrev pub NeverStuck : Type 0

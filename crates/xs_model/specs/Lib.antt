@@ -14,4 +14,5 @@ pub mod Ready
 pub mod Replay
 pub mod Counts
 pub mod Laws
+pub mod Effects
 pub mod Runs

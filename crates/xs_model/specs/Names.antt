@@ -29,6 +29,16 @@ abbrev pub has_handler : Option Block → Bool
 has_handler None = false
 has_handler (Some block) = nat_lt 0 (length block.handler)
 
+-- the name of the block that a command names
+abbrev pub named_block : Command → Option (List ℕ)
+named_block (Fork name) = Some name
+named_block (Kill name signo) = Some name
+named_block (Wait name) = Some name
+named_block (Getregs name set) = Some name
+named_block (Setregs name set count) = Some name
+named_block (Cont name) = Some name
+named_block other = None
+
 -- ---- lines that name a child
 
 abbrev pub is_fork_of : List ℕ → Command → Bool

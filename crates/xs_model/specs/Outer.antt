@@ -143,10 +143,13 @@ set_task (Header error) task = task
 abbrev pub registers_set : Set → ℕ → List ℕ → BlockState → BlockState
 registers_set set count buffer block = record block { task = set_task (set_result block.task set (take count buffer)) block.task }
 
--- the block with the registers of another in the first bytes of its buffer
+-- the task with a register set of another block in the first bytes of its buffer
+abbrev pub with_registers : Set → Option BlockState → PrivateTask → PrivateTask
+with_registers set None task = task
+with_registers set (Some child) task = record task { buffer = splice 0 (set_reply child.task set) task.buffer }
+
 abbrev pub buffer_filled : Set → Option BlockState → BlockState → BlockState
-buffer_filled set None block = block
-buffer_filled set (Some child) block = record block { task = record block.task { buffer = splice 0 (set_reply child.task set) block.task.buffer } }
+buffer_filled set child block = record block { task = with_registers set child block.task }
 
 -- ---- what becomes of the blocks
 

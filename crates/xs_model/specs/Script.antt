@@ -12,7 +12,7 @@ use Rattle.xs_model.specs.declared.script.Named.TheVariants.{Amx, Avx, Rows}
 use Rattle.xs_model.specs.declared.script.BlockKind.{BlockKind}
 use Rattle.xs_model.specs.declared.script.BlockKind.TheVariants.{Task, Child, Kthread}
 use Rattle.xs_model.specs.declared.script.Command.{Command}
-use Rattle.xs_model.specs.declared.script.Command.TheVariants.{Set, Get, Ksec, Yield, Peek, Poke, Bpeek, Bpoke, Sigreturn, Fork, Kill, Stop, Wait, Getregs, Setregs, Cont}
+use Rattle.xs_model.specs.declared.script.Command.TheVariants.{Set, Get, Tilerelease, Perm, Ksec, Yield, Peek, Poke, Bpeek, Bpoke, Sigreturn, Fork, Kill, Stop, Wait, Getregs, Setregs, Cont}
 use Rattle.xs_model.specs.declared.script.Order.{Order}
 use Rattle.xs_model.specs.declared.script.Block.{Block}
 use Rattle.xs_model.specs.declared.script.Script.{Script}
@@ -74,14 +74,6 @@ is_outer (Getregs name set) = true
 is_outer (Setregs name set count) = true
 is_outer (Cont name) = true
 is_outer other = false
-
-abbrev pub is_fork : Command → Bool
-is_fork (Fork name) = true
-is_fork other = false
-
-abbrev pub is_kill : Command → Bool
-is_kill (Kill name signo) = true
-is_kill other = false
 
 abbrev pub is_yield : Command → Bool
 is_yield Yield = true
@@ -229,14 +221,9 @@ IsBuiltName reg = (place : Place) × IsNamed reg place × (is_built place ≡ tr
 abbrev pub IsBuiltCommand : Command → Type 0
 IsBuiltCommand (Set reg bytes) = IsBuiltName reg
 IsBuiltCommand (Get reg) = IsBuiltName reg
-IsBuiltCommand (Ksec byte) = Unit {0}
-IsBuiltCommand Yield = Unit {0}
-IsBuiltCommand (Peek at len) = Unit {0}
-IsBuiltCommand (Poke at bytes) = Unit {0}
-IsBuiltCommand Sigreturn = Unit {0}
-IsBuiltCommand (Fork name) = Unit {0}
-IsBuiltCommand (Kill name signo) = Unit {0}
-IsBuiltCommand other = ⊥
+IsBuiltCommand Tilerelease = ⊥
+IsBuiltCommand (Perm feature) = ⊥
+IsBuiltCommand other = Unit {0}
 
 abbrev pub AreBuilt : List Order → Type 0
 AreBuilt orders = AllByRecursion (λ (order : Order). IsBuiltCommand order.command) orders

@@ -78,15 +78,6 @@ is_active Stopped = false
 is_active (Waiting child) = false
 is_active Ended = false
 
--- neither stopped, nor waiting
-abbrev pub is_plain : Stage → Bool
-is_plain Unborn = true
-is_plain Ready = true
-is_plain (Turn cpu ran) = true
-is_plain Stopped = false
-is_plain (Waiting child) = false
-is_plain Ended = true
-
 -- the processor of the turn
 abbrev pub turn_cpu : Stage → Option ℕ
 turn_cpu Unborn = None
@@ -116,6 +107,14 @@ turn_of blocks t = turn_cpu (stage_at blocks t)
 -- the processor has a turn
 abbrev pub has_turn : List BlockState → ℕ → Bool
 has_turn blocks cpu = list_any (λ (block : BlockState). is_on_cpu cpu (turn_cpu block.stage)) blocks
+
+-- the private task of a block, and one that nobody has where there is no such block
+abbrev pub task_of_state : Option BlockState → PrivateTask
+task_of_state None = root_task []
+task_of_state (Some block) = block.task
+
+abbrev pub task_at : List BlockState → ℕ → PrivateTask
+task_at blocks t = task_of_state (slice_get blocks t)
 
 abbrev pub parent_of : Option BlockState → Option ℕ
 parent_of None = None

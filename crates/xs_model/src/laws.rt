@@ -1,6 +1,7 @@
 //! The laws of the machine, for proofs: a caller has a law by calling its function, which does nothing.
 
-ghost use Rattle.xs_model.specs.Laws.{LinesFound, TurnsKnown, TurnsApart, TurnsMarked, TwoNumbers, ReadyOnce, FirstReady, NobodyReady, StartTakes, LocalKeeps, LocalRises, EndKeeps, KillKeeps, SentRises, BuiltBlocks, BuiltEnds, BuiltKills, BuiltLines, MarkUnseen, CountsUnseen, RemainsUnseen, LastUnseen, HeldUnseen, MachineKnown, TasksValid, StartIsStep, LocalIsStep, EndIsStep, FreeTells, FreeFound, StartedBlock, RanBlock, EndedBlock, SentOwn, SentOther, KilledBlock, KilledOthers, OuterOutside, ReturnInside, SentToUser, ThreadsQuiet, PendingRise, QuietUnlessAlive, StartOthers, LocalOthers, EndOthers, TaskStays, NeverStuck, FewEvents, ForkBears, BornByFork, UnbornUnseen, OuterIsStep, RefusalIsStep, ForkRises, ForkedBlock, BornBlock, ForkOthers};
+ghost use Rattle.xs_model.specs.Laws.{LinesFound, TurnsKnown, TurnsApart, TurnsMarked, TwoNumbers, ReadyOnce, FirstReady, NobodyReady, BuiltBlocks, BuiltLines, MarkUnseen, CountsUnseen, RemainsUnseen, LastUnseen, HeldUnseen, MachineKnown, TasksValid, StartIsStep, LocalIsStep, EndIsStep, FreeTells, FreeFound, OuterOutside, ReturnInside, OuterOfUser, NamedUser, ThreadsQuiet, PendingRise, QuietUnlessAlive, TaskStays, OthersKeep, WaitsForChild, NeverStuck, FewEvents, ForkBears, BornByFork, UnbornUnseen, OuterIsStep, RefusalIsStep};
+ghost use Rattle.xs_model.specs.Effects.{StartedBlock, RanBlock, OuterOwn, OuterOther, EndedBlock, KilledBlock, StartOthers, LocalOthers, EndOthers, KilledOthers, StartTakes, LocalKeeps, LocalRises, OuterRises, EndRises, KillRises};
 ghost use Rattle.xs_model.specs.Runs.{OneReplay, TurnsShort, NeverIdle, MachineUnscheduled, LegalUnscheduled, WholeUnscheduled, MarkUnscheduled, CountsUnscheduled, RemainsUnscheduled};
 
 /// A line of a valid script is found by its number.
@@ -28,32 +29,33 @@ pub fn ready_once()
     ensures nobody { NobodyReady }
 {}
 
-/// Whom an event makes ready: a Start nobody, a local line its own block where it ends the turn, a fork its child and
-/// then its own block, a `kill` line its own block, and an end or a kill nobody where no block waits or is stopped.
+/// Whom an event makes ready: a Start nobody, a local line its own block where it ends the turn, an outer line whom it lets go on
+/// and then its own block where that goes on, and an end or a kill the parent that waits and then the stopped children.
 pub fn risers_known()
     ensures start { StartTakes }
     ensures goes_on { LocalKeeps }
     ensures ends { LocalRises }
-    ensures fork { ForkRises }
-    ensures sent { SentRises }
-    ensures end { EndKeeps }
-    ensures kill { KillKeeps }
+    ensures outer { OuterRises }
+    ensures end { EndRises }
+    ensures kill { KillRises }
 {}
 
-/// A script of the forms of this version has plain blocks and lines, and an end or a kill in it makes nobody ready.
+/// A script of the forms of this version has small blocks, and lines that don't trap.
 pub fn built_is_plain()
     ensures blocks { BuiltBlocks }
-    ensures end { BuiltEnds }
-    ensures kill { BuiltKills }
     ensures lines { BuiltLines }
 {}
 
-/// Where lines stand that reach another block or return from a handler, and to whom signals are sent; which signals are
-/// pending of a block.
-pub fn signals_known()
+/// Where lines stand that reach another block or return from a handler, and whom they name.
+pub fn named_known()
     ensures outer { OuterOutside }
     ensures inside { ReturnInside }
-    ensures users { SentToUser }
+    ensures user { OuterOfUser }
+    ensures named { NamedUser }
+{}
+
+/// Which signals are pending of a block.
+pub fn signals_known()
     ensures threads { ThreadsQuiet }
     ensures rise { PendingRise }
     ensures quiet { QuietUnlessAlive }
@@ -109,27 +111,30 @@ pub fn free_processors_known()
     ensures found { FreeFound }
 {}
 
-/// What a Start, a local line, a fork, a `kill` line, an end and a kill make of their own block, a fork of its child and
-/// a `kill` line of the block to which it sends its signal; and that they leave the others.
+/// What an event makes of its own block, and of each other one.
 pub fn blocks_known()
     ensures started { StartedBlock }
     ensures ran { RanBlock }
-    ensures forked { ForkedBlock }
-    ensures born { BornBlock }
-    ensures sent { SentOwn }
-    ensures sent_other { SentOther }
+    ensures outer { OuterOwn }
     ensures ended { EndedBlock }
     ensures killed { KilledBlock }
     ensures start_others { StartOthers }
     ensures local_others { LocalOthers }
-    ensures fork_others { ForkOthers }
+    ensures outer_others { OuterOther }
     ensures end_others { EndOthers }
     ensures kill_others { KilledOthers }
 {}
 
-/// Another block's event leaves the private task of a block that was born, unless it sets its registers.
+/// Another block's event leaves the private task of a block that was born, unless it sets its registers; and it leaves a turn, and
+/// the private task of each block that still has its last processor.
 pub fn task_stays()
-    ensures { TaskStays }
+    ensures stays { TaskStays }
+    ensures keeps { OthersKeep }
+{}
+
+/// For whom a block waits.
+pub fn waits_known()
+    ensures { WaitsForChild }
 {}
 
 /// A script has one replay at most.

@@ -1,16 +1,7 @@
-use Rattle.xs_model.proofs.SignalLaws.{outer_outside, return_inside, sent_to_user, threads_quiet}
+use Rattle.xs_model.proofs.SignalLaws.{threads_quiet}
 use Rattle.xs_model.proofs.PendingLaws.{pending_rise}
 use Rattle.xs_model.proofs.QuietLaws.{quiet_unless_alive}
 use Rattle.xs_model.proofs.laws.signals_known.Goals as goal
-
-pub returns-clause-outer : goal.returns-clause-outer
-returns-clause-outer c = outer_outside
-
-pub returns-clause-inside : goal.returns-clause-inside
-returns-clause-inside c = return_inside
-
-pub returns-clause-users : goal.returns-clause-users
-returns-clause-users c = sent_to_user
 
 pub returns-clause-threads : goal.returns-clause-threads
 returns-clause-threads c = threads_quiet
