@@ -17,9 +17,9 @@ use Rattle.xs_script.specs.declared.block_part.BlockPart.{BlockPart}
 use Rattle.xs_script.specs.declared.block_part.BlockPart.TheVariants as places
 use Rattle.xs_script.specs.declared.line.Line.{Line}
 use Rattle.xs_script.specs.declared.line.Line.TheVariants as lines
-use Rattle.xs_script.specs.declared.body.Tail.{Tail}
-use Rattle.xs_script.specs.declared.body.Tail.TheVariants as tails
-use Rattle.xs_script.specs.declared.body.Begun.{Begun}
+use Rattle.xs_script.specs.declared.begun.Tail.{Tail}
+use Rattle.xs_script.specs.declared.begun.Tail.TheVariants as tails
+use Rattle.xs_script.specs.declared.begun.Begun.{Begun}
 use Rattle.xs_script.specs.declared.body.Body.{Body}
 use Rattle.xs_script.specs.declared.refusal.Kind.TheVariants.{BadLine, Repeated}
 use Rattle.xs_script.specs.Grammar.{order_lines, handler_lines, block_lines}
@@ -169,6 +169,7 @@ order_taken number body after b c order was is same at fits pushed =
       came =
           ap (λ (ls : List Line). front ++ lines.Begin b.kind b.name ∷ ls) (pushed_lines b.body b.tail b.kind order fits)
           ∙ begun_came front (lines.Begin b.kind b.name) (order_lines b.body ++ tail_lines b.tail) (lines.Order order.command);
+      own = pushed.own;
       numbered = λ first here h. record {
         whole = h.whole;
         begun = pushed_numbers (first + length front) b.body b.tail b.kind order fits (omega (arith, at, here, lined)) h.begun.0 h.begun.1;
@@ -176,8 +177,8 @@ order_taken number body after b c order was is same at fits pushed =
     }
 
 -- the first line of a block, where none has begun
-pub begin_taken : (number : ℕ) (body after : Body) (b : Begun) → body.begun ≡ None → after.begun ≡ Some b → after.blocks ≡ body.blocks → b.body ≡ [] → b.tail ≡ tails.Body → length body.blocks < 64 → list_any (λ (block : Block). bytes_eq block.name b.name) body.blocks ≡ false → TakesLine number body (lines.Begin b.kind b.name) after
-begin_taken number body after b was is same none tail few new =
+pub begin_taken : (number : ℕ) (body after : Body) (b : Begun) → body.begun ≡ None → after.begun ≡ Some b → after.blocks ≡ body.blocks → b.body ≡ [] → b.tail ≡ tails.Body → b.own ≡ [] → length body.blocks < 64 → list_any (λ (block : Block). bytes_eq block.name b.name) body.blocks ≡ false → TakesLine number body (lines.Begin b.kind b.name) after
+begin_taken number body after b was is same none tail bare few new =
     let blocks = body.blocks in
     let count : length (names_of blocks) ≡ length blocks = length-map blocks (λ (block : Block). block.name) in
     let fewer : nat_le 64 (length (names_of blocks)) ≡ false = lt-leb _ _ (omega (arith, count)) in
@@ -185,6 +186,7 @@ begin_taken number body after b was is same none tail few new =
     rw (was, is, same, none, tail) record {
       leads = rw (fewer, other) refl;
       came = ap (λ (ls : List Line). ls ++ lines.Begin b.kind b.name ∷ []) (sym (append-nil (flat_map block_lines blocks)));
+      own = bare;
       numbered = λ first here h. record { whole = h.whole; begun = (tt, tt) };
     }
 
@@ -195,8 +197,8 @@ handles_body (tails.Handler orders) kind h = absurd (cc h)
 handles_body (tails.Returned orders) kind h = absurd (cc h)
 
 -- the first line of a handler
-pub handler_taken : (number : ℕ) (body after : Body) (b c : Begun) → body.begun ≡ Some b → after.begun ≡ Some c → after.blocks ≡ body.blocks → may_handle (tail_part b.tail) b.kind ≡ true → c.kind ≡ b.kind → c.name ≡ b.name → c.body ≡ b.body → c.tail ≡ tails.Handler [] → TakesLine number body lines.Handler after
-handler_taken number body after b c was is same may kind name orders tail =
+pub handler_taken : (number : ℕ) (body after : Body) (b c : Begun) → body.begun ≡ Some b → after.begun ≡ Some c → after.blocks ≡ body.blocks → may_handle (tail_part b.tail) b.kind ≡ true → c.kind ≡ b.kind → c.name ≡ b.name → c.body ≡ b.body → c.tail ≡ tails.Handler [] → c.own ≡ b.own → TakesLine number body lines.Handler after
+handler_taken number body after b c was is same may kind name orders tail own =
     let front = flat_map block_lines body.blocks in
     let at = handles_body b.tail b.kind may in
     let here : may_handle places.Body b.kind ≡ true = rw at at may in
@@ -205,6 +207,7 @@ handler_taken number body after b c was is same may kind name orders tail =
       came =
           ap (λ (ls : List Line). front ++ lines.Begin b.kind b.name ∷ (ls ++ lines.Handler ∷ [])) (sym (append-nil (order_lines b.body)))
           ∙ begun_came front (lines.Begin b.kind b.name) (order_lines b.body ++ []) lines.Handler;
+      own = own;
       numbered = λ first here h. record { whole = h.whole; begun = (h.begun.0, tt) };
     }
 
@@ -230,6 +233,7 @@ close_taken number body after b block was is pushed may whole =
       came =
           append-nil (flat_map block_lines (blocks ++ last ∷ [])) ∙ all ∙ ap (λ (ls : List Line). front ++ ls) own
           ∙ begun_came front (lines.Begin b.kind b.name) opened lines.End;
+      own = refl;
       numbered = λ first here h. record { whole = numbered_block first blocks last h.whole h.begun.0 h.begun.1; begun = tt };
     }
 

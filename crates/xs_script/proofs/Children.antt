@@ -15,14 +15,15 @@ use Rattle.xs_model.specs.declared.script.Command.TheVariants as commands
 use Rattle.xs_model.specs.declared.script.Order.{Order}
 use Rattle.xs_model.specs.declared.script.Block.{Block}
 use Rattle.xs_model.specs.declared.script.Script.{Script}
-use Rattle.xs_model.specs.Names.{block_of, is_child_kind, is_child, has_handler, NamesBlock, AreNamedAfter, AreNamed, forked_name, forked_names, all_forked_names}
-use Rattle.xs_model.specs.Script.{is_name, is_outer, is_return, is_handler, is_handler_from, AreDistinct, IsBuiltCommand}
+use Rattle.xs_model.specs.Names.{block_of, is_child_kind, is_child, has_handler, NamesBlock, forked_name, forked_names, all_forked_names}
+use Rattle.xs_model.specs.Script.{is_name, is_outer, is_return, is_handler, is_handler_from, AreDistinct}
 use Rattle.xs_script.specs.declared.commands.Scope.{Scope}
 use Rattle.xs_script.specs.declared.line.Line.{Line}
 use Rattle.xs_script.specs.declared.line.Line.TheVariants as lines
 use Rattle.xs_script.specs.ScriptLine.{kept_line}
 use Rattle.xs_script.specs.Grammar.{order_lines, handler_lines, block_lines, row_lines, head_lines, sched_lines}
-use Rattle.xs_script.specs.Refusal.{child_name, child_of_line, children_of, last_name, last_name_of, handled_name, handled_after, in_handler, in_handler_after, fork_of_line, forks_of, AreOutside, NamesOne}
+use Rattle.xs_script.specs.Before.{in_handler, in_handler_after, fork_of_line, forks_of}
+use Rattle.xs_script.specs.Refusal.{child_name, child_of_line, children_of, last_name, last_name_of, handled_name, handled_after, is_among, AreOutside, NamesOne}
 use Rattle.xs_script.specs.Body.{names_of}
 use Rattle.xs_script.proofs.BlockParts.{all_join, block_row}
 use Rattle.xs_script.proofs.NamedBlocks.{name_where, names_where, passes, where_passes, passes_where, passes_name}
@@ -301,18 +302,12 @@ handled_passes : (block : Option Block) → has_handler block ≡ passes is_hand
 handled_passes None = refl
 handled_passes (Some b) = refl
 
--- a command that names a block that it may name does so wherever it stands
-pub names_block : (rows : List Row) (blocks : List Block) (earlier : List Order) (command : Command) → AreDistinct (names_of blocks) → IsBuiltCommand command → NamesOne (block_scope rows blocks) command → NamesBlock blocks earlier command
-names_block rows blocks earlier (commands.Set reg bytes) d built named = tt
-names_block rows blocks earlier (commands.Get reg) d built named = tt
-names_block rows blocks earlier (commands.Ksec byte) d built named = tt
-names_block rows blocks earlier commands.Yield d built named = tt
-names_block rows blocks earlier (commands.Peek at len) d built named = tt
-names_block rows blocks earlier (commands.Poke at bytes) d built named = tt
-names_block rows blocks earlier commands.Sigreturn d built named = tt
-names_block rows blocks earlier (commands.Fork name) d built named = child_passes (block_of blocks name) ∙ where_passes is_child_block blocks name d named
-names_block rows blocks earlier (commands.Kill name signo) d built named = handled_passes (block_of blocks name) ∙ where_passes is_handled_block blocks name d named
-names_block rows blocks earlier other d built named = absurd built
+-- a fork and a signal that name a block that they may name do so wherever they stand
+pub fork_named : (blocks : List Block) (name : List ℕ) → AreDistinct (names_of blocks) → is_among name (child_names blocks) ≡ true → is_child (block_of blocks name) ≡ true
+fork_named blocks name d named = child_passes (block_of blocks name) ∙ where_passes is_child_block blocks name d named
+
+pub kill_named : (blocks : List Block) (name : List ℕ) → AreDistinct (names_of blocks) → is_among name (handled_names blocks) ≡ true → has_handler (block_of blocks name) ≡ true
+kill_named blocks name d named = handled_passes (block_of blocks name) ∙ where_passes is_handled_block blocks name d named
 
 -- and the other way round
 pub names_one : (rows : List Row) (blocks : List Block) (earlier : List Order) (command : Command) → NamesBlock blocks earlier command → NamesOne (block_scope rows blocks) command
@@ -336,13 +331,3 @@ child_is_name blocks name names h = passes_name is_child_block blocks name names
 
 pub handled_is_name : (blocks : List Block) (name : List ℕ) → AllByRecursion (λ (block : Block). is_name block.name ≡ true) blocks → has_handler (block_of blocks name) ≡ true → is_name name ≡ true
 handled_is_name blocks name names h = passes_name is_handled_block blocks name names (sym (handled_passes (block_of blocks name)) ∙ h)
-
--- the same of the orders of a body
-pub orders_named : (rows : List Row) (blocks : List Block) (earlier orders : List Order) → AreDistinct (names_of blocks) → AllByRecursion (λ (order : Order). IsBuiltCommand order.command) orders → AllByRecursion (λ (order : Order). NamesOne (block_scope rows blocks) order.command) orders → AreNamedAfter blocks earlier orders
-orders_named rows blocks earlier [] d built named = tt
-orders_named rows blocks earlier (o ∷ orders) d built named = (names_block rows blocks earlier o.command d built.0 named.0, orders_named rows blocks (o ∷ earlier) orders d built.1 named.1)
-
--- and of blocks among them
-pub blocks_named : (rows : List Row) (all blocks : List Block) → AreDistinct (names_of all) → AllByRecursion (λ (block : Block). AllByRecursion (λ (order : Order). IsBuiltCommand order.command) block.body) blocks → AllByRecursion (λ (block : Block). AllByRecursion (λ (order : Order). NamesOne (block_scope rows all) order.command) block.body) blocks → AllByRecursion (λ (block : Block). AreNamed all block.body) blocks
-blocks_named rows all [] d built named = tt
-blocks_named rows all (b ∷ blocks) d built named = (orders_named rows all [] b.body d built.0 named.0, blocks_named rows all blocks d built.1 named.1)

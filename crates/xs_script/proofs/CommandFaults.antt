@@ -1,5 +1,5 @@
 -- What is wrong with a command, and with what is kept of it.
-use Rattle.std.proofs.Common.{◌≡◌, ℕ, Bool, true, false, not, ◌||◌, ◌==◌, List, length, Option, Some, None, MatchOption, drop, refl, sym, ap, subst, arith, inl, inr}
+use Rattle.std.proofs.Common.{◌≡◌, ℕ, true, false, not, ◌||◌, ◌==◌, List, length, Option, Some, None, MatchOption, drop, refl, sym, ap, subst, arith, inl, inr}
 use Rattle.std.specs.List.{list_all}
 use Rattle.std.proofs.lemmas.Bool.{and_parts, eqb-true, ne_eqb, cases_lt}
 use Rattle.xs_base.specs.declared.component.Row.{Row}
@@ -12,21 +12,22 @@ use Rattle.xs_model.specs.declared.script.Command.TheVariants as commands
 use Rattle.xs_model.specs.Script.{fits_register}
 use Rattle.xs_script.specs.declared.commands.Scope.{Scope}
 use Rattle.xs_script.specs.declared.refusal.Kind.{Kind}
+use Rattle.xs_script.specs.Before.{Before}
 use Rattle.xs_script.specs.Refusal.{register_of, name_fault, CommandFails, Unknown, Unbuilt, Misnamed}
 use Rattle.xs_script.specs.ScriptLine.{kept_bytes}
 use Rattle.xs_script.specs.Commands.{RegisterFails, NoRegister, Unready, PassesCommand}
 use Rattle.xs_script.proofs.Kept.{kept_same_bytes, kept_long}
 
 -- A command fails by its register.
-pub register_fails : (scope : Scope) (inside : Bool) (forked : List (List ℕ)) (command : Command) (reg : List ℕ) (kind : Kind) → register_of command ≡ Some reg → RegisterFails scope.layout reg kind → CommandFails scope inside forked command kind
-register_fails scope inside forked command reg _ named (NoRegister none) = Unknown command reg named none
-register_fails scope inside forked command reg _ named (Unready place here unready) = Unbuilt command reg place named here unready
+pub register_fails : (scope : Scope) (before : Before) (command : Command) (reg : List ℕ) (kind : Kind) → register_of command ≡ Some reg → RegisterFails scope.layout reg kind → CommandFails scope before command kind
+register_fails scope before command reg _ named (NoRegister none) = Unknown command reg named none
+register_fails scope before command reg _ named (Unready place here unready) = Unbuilt command reg place named here unready
 
 -- nothing is wrong with a command without a register where nothing is with the block that it names
-passes_named : (scope : Scope) (inside : Bool) (forked : List (List ℕ)) (command : Command) → register_of command ≡ None → name_fault scope inside forked command ≡ None → PassesCommand scope inside forked command
-passes_named scope inside forked (commands.Set reg bytes) none h = absurd (cc none)
-passes_named scope inside forked (commands.Get reg) none h = absurd (cc none)
-passes_named scope inside forked other none h = h
+passes_named : (scope : Scope) (before : Before) (command : Command) → register_of command ≡ None → name_fault scope before command ≡ None → PassesCommand scope before command
+passes_named scope before (commands.Set reg bytes) none h = absurd (cc none)
+passes_named scope before (commands.Get reg) none h = absurd (cc none)
+passes_named scope before other none h = h
 
 -- a command that neither sets nor gets one has no register
 pub no_register : (command : Command) → ((reg bytes : List ℕ) → command ≡ commands.Set reg bytes → ⊥) → ((reg : List ℕ) → command ≡ commands.Get reg → ⊥) → register_of command ≡ None
@@ -35,9 +36,9 @@ no_register (commands.Get reg) set get = absurd (get reg refl)
 no_register other set get = refl
 
 -- Or it fails by that block.
-pub named_or_fails : (scope : Scope) (inside : Bool) (forked : List (List ℕ)) (command : Command) (r : Option Kind) → register_of command ≡ None → r ≡ name_fault scope inside forked command → MatchOption r (PassesCommand scope inside forked command) (CommandFails scope inside forked command)
-named_or_fails scope inside forked command None none is = passes_named scope inside forked command none (sym is)
-named_or_fails scope inside forked command (Some kind) none is = Misnamed command kind (sym is)
+pub named_or_fails : (scope : Scope) (before : Before) (command : Command) (r : Option Kind) → register_of command ≡ None → r ≡ name_fault scope before command → MatchOption r (PassesCommand scope before command) (CommandFails scope before command)
+named_or_fails scope before command None none is = passes_named scope before command none (sym is)
+named_or_fails scope before command (Some kind) none is = Misnamed command kind (sym is)
 
 -- bytes that fit a register are as many as it has
 pub fits_length : (place : Place) (bytes : List ℕ) → fits_register place bytes ≡ true → length bytes ≡ place.len

@@ -1,5 +1,5 @@
 -- Texts cut at a byte that is nowhere before the cut.
-use Rattle.std.proofs.Common.{◌≡◌, ℕ, ◌<◌, ◌^◌, ◌&&◌, ◌/◌, ◌%◌, nat_le, Bool, true, false, List, [], ◌∷◌, ◌++◌, refl, sym, ◌∙◌, arith, decimal, length, slice_index, Some, None, eq-eqb}
+use Rattle.std.proofs.Common.{◌≡◌, ℕ, ◌<◌, ◌^◌, ◌&&◌, ◌/◌, ◌%◌, nat_le, Bool, true, false, List, [], ◌∷◌, ◌++◌, refl, sym, ◌∙◌, arith, codes, decimal, length, slice_index, Some, None, eq-eqb}
 use Rattle.std.specs.Prelude.{nat_lt}
 use Rattle.std.specs.List.{list_all, AllByRecursion}
 use Rattle.std.specs.Str.Parse.{AllDigits}
@@ -8,8 +8,10 @@ use Rattle.std.proofs.lemmas.Fmt.{decimal_is_IsNumeral}
 use Rattle.std.proofs.lemmas.Str.Parse.{digit_from_value}
 use Rattle.hex.specs.Hex.{hex_digit_value, encode_with, encode_lower, lower_digits}
 use Rattle.hex.proofs.HexLemmas.{IsDigits-lower_digits}
+use Rattle.xs_base.specs.declared.words.Set.{Set}
+use Rattle.xs_base.specs.declared.words.Set.TheVariants as sets
 use Rattle.xs_model.specs.Script.{is_name, is_letter, is_letter_or_digit}
-use Rattle.xs_script.specs.ScriptLine.{is_register_byte, is_register_word}
+use Rattle.xs_script.specs.ScriptLine.{set_word, is_register_byte, is_register_word}
 use Rattle.xs_script.specs.Reads.{Lacks}
 use Rattle.xs_script.specs.Refusal.{before}
 
@@ -74,6 +76,11 @@ Lacks-name byte (b ∷ bs) letter other h =
     let outer = and_parts (is_letter b && list_all is_letter_or_digit bs) (nat_le (length bs) 15) h in
     let parts = and_parts (is_letter b) (list_all is_letter_or_digit bs) outer.0 in
     (λ e. let t = rw e at parts.0 in cc (sym t ∙ letter), Lacks-passing byte is_letter_or_digit bs other parts.1)
+
+-- so do the words of register sets
+pub Lacks-set : (byte : ℕ) (set : Set) → is_letter byte ≡ false → is_letter_or_digit byte ≡ false → Lacks byte (set_word set)
+Lacks-set byte sets.Xstate letter other = Lacks-name byte (codes "xstate") letter other refl
+Lacks-set byte sets.Fx letter other = Lacks-name byte (codes "fx") letter other refl
 
 -- so do the words of registers, of each byte that is no point either
 pub Lacks-register : (byte : ℕ) (word : List ℕ) → is_register_byte byte ≡ false → is_register_word word ≡ true → Lacks byte word

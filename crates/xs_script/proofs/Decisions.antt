@@ -7,6 +7,8 @@ use Rattle.std.proofs.lemmas.List.{append_cancel_left, append-nil}
 use Rattle.std.proofs.lemmas.Slice.Eq.{bytes_eq-Decides}
 use Rattle.hex.specs.Hex.{encode_lower}
 use Rattle.xs_base.specs.declared.component.Row.{Row}
+use Rattle.xs_base.specs.declared.words.Set.{Set}
+use Rattle.xs_base.specs.declared.words.Set.TheVariants as sets
 use Rattle.xs_base.specs.Layout.{row}
 use Rattle.xs_model.specs.declared.script.Named.{Named}
 use Rattle.xs_model.specs.declared.script.Named.TheVariants as machines
@@ -15,13 +17,13 @@ use Rattle.xs_model.specs.declared.script.Command.TheVariants as commands
 use Rattle.xs_model.specs.Script.{is_name}
 use Rattle.xs_script.specs.declared.line.Line.{Line}
 use Rattle.xs_script.specs.declared.line.Line.TheVariants as lines
-use Rattle.xs_script.specs.ScriptLine.{IsNumber, IsLine, machine_name, row_text, kill_text, entries_text, line_text, is_register_word}
+use Rattle.xs_script.specs.ScriptLine.{IsNumber, IsLine, machine_name, row_text, kill_text, set_word, entries_text, line_text, is_register_word}
 use Rattle.xs_script.specs.Reads.{Lacks}
 use Rattle.xs_script.specs.Parts.{IsValue, is_hex_text}
 use Rattle.xs_script.specs.Refusal.{NoLine}
-use Rattle.xs_script.proofs.Cuts.{one_cut, no_cut, Lacks-name, Lacks-register}
+use Rattle.xs_script.proofs.Cuts.{one_cut, no_cut, Lacks-name, Lacks-set, Lacks-register}
 use Rattle.xs_script.proofs.Entries.{lacks_space}
-use Rattle.xs_script.proofs.Spellings.{signal_number}
+use Rattle.xs_script.proofs.CommandSpellings.{signal_number}
 use Rattle.xs_script.proofs.HexText.{hex_text, hex_text_bytes}
 use Rattle.xs_script.proofs.Readings.{length_hex, no_bytes, no_line, other_line}
 
@@ -154,6 +156,21 @@ machine_or_none bytes = elim (same_bytes bytes (codes "amx")) [
   ]
 ]
 
+-- a text that is none of the two words is no register set's
+no_set : (bytes : List ℕ) → (bytes ≡ codes "xstate" → ⊥) → (bytes ≡ codes "fx" → ⊥) → (set : Set) → bytes ≡ set_word set → ⊥
+no_set bytes xstate fx sets.Xstate e = xstate e
+no_set bytes xstate fx sets.Fx e = fx e
+
+-- the word of a register set, or of none
+set_or_none : (bytes : List ℕ) → IsDecided (IsTextOf Set (λ set. Unit {0}) set_word bytes)
+set_or_none bytes = elim (same_bytes bytes (codes "xstate")) [
+  | inl e ↦ inl (sets.Xstate, tt, e)
+  | inr xstate ↦ elim (same_bytes bytes (codes "fx")) [
+    | inl e ↦ inl (sets.Fx, tt, e)
+    | inr fx ↦ inr (λ h. no_set bytes xstate fx h.0 h.2)
+  ]
+]
+
 -- the four numbers of a row, or of none
 row_or_none : (bytes : List ℕ) → IsDecided (IsTextOf Row (λ r. IsLine (lines.Row r)) row_text bytes)
 row_or_none bytes =
@@ -259,6 +276,13 @@ record IsOther (bytes : List ℕ) : Type 0 where
   peek : IsTextOf (ℕ × ℕ) (λ p. IsNumber p.0 × IsNumber p.1) (λ p. codes "peek " ++ (decimal p.0 ++ 32 ∷ decimal p.1)) bytes → ⊥
   poke : IsTextOf (ℕ × List ℕ) (λ p. IsNumber p.0 × IsValue p.1) (λ p. codes "poke " ++ (decimal p.0 ++ 32 ∷ encode_lower p.1)) bytes → ⊥
   kill : IsTextOf (List ℕ × ℕ) (λ p. (is_name p.0 ≡ true) × IsNumber p.1) (λ p. codes "kill " ++ (p.0 ++ 32 ∷ decimal p.1)) bytes → ⊥
+  bpeek : IsTextOf (ℕ × ℕ) (λ p. IsNumber p.0 × IsNumber p.1) (λ p. codes "bpeek " ++ (decimal p.0 ++ 32 ∷ decimal p.1)) bytes → ⊥
+  bpoke : IsTextOf (ℕ × List ℕ) (λ p. IsNumber p.0 × IsValue p.1) (λ p. codes "bpoke " ++ (decimal p.0 ++ 32 ∷ encode_lower p.1)) bytes → ⊥
+  wait : IsTextOf (List ℕ) (λ x. is_name x ≡ true) (λ x. codes "wait " ++ x) bytes → ⊥
+  getregs : IsTextOf (List ℕ × Set) (λ p. (is_name p.0 ≡ true) × Unit {0}) (λ p. codes "getregs " ++ (p.0 ++ 32 ∷ set_word p.1)) bytes → ⊥
+  setregs : IsTextOf (List ℕ × (Set × ℕ)) (λ p. (is_name p.0 ≡ true) × (Unit {0} × IsNumber p.1.1)) (λ p. codes "setregs " ++ (p.0 ++ 32 ∷ (set_word p.1.0 ++ 32 ∷ decimal p.1.1))) bytes → ⊥
+  cont : IsTextOf (List ℕ) (λ x. is_name x ≡ true) (λ x. codes "cont " ++ x) bytes → ⊥
+  stops : bytes ≡ codes "stop" → ⊥
   returns : bytes ≡ codes "sigreturn" → ⊥
   handler : bytes ≡ codes "handler" → ⊥
   yields : bytes ≡ codes "yield" → ⊥
@@ -283,6 +307,13 @@ no_line_of bytes o (lines.Order commands.Yield) fits e = o.yields e
 no_line_of bytes o (lines.Order (commands.Fork name)) fits e = o.fork (name, fits, e)
 no_line_of bytes o (lines.Order (commands.Peek at len)) fits e = o.peek ((at, len), (fits.0, fits.1), e)
 no_line_of bytes o (lines.Order (commands.Poke at value)) fits e = o.poke ((at, value), (fits.0, (fits.1, fits.2)), e)
+no_line_of bytes o (lines.Order (commands.Bpeek at len)) fits e = o.bpeek ((at, len), (fits.0, fits.1), e)
+no_line_of bytes o (lines.Order (commands.Bpoke at value)) fits e = o.bpoke ((at, value), (fits.0, (fits.1, fits.2)), e)
+no_line_of bytes o (lines.Order commands.Stop) fits e = o.stops e
+no_line_of bytes o (lines.Order (commands.Wait name)) fits e = o.wait (name, fits, e)
+no_line_of bytes o (lines.Order (commands.Getregs name set)) fits e = o.getregs ((name, set), (fits, tt), e)
+no_line_of bytes o (lines.Order (commands.Setregs name set count)) fits e = o.setregs ((name, (set, count)), (fits.0, (tt, fits.1)), e)
+no_line_of bytes o (lines.Order (commands.Cont name)) fits e = o.cont (name, fits, e)
 no_line_of bytes o (lines.Order commands.Sigreturn) fits e = o.returns e
 no_line_of bytes o (lines.Order (commands.Kill name signo)) fits e = o.kill ((name, signo.number), (fits, signal_number signo), e)
 no_line_of bytes o (lines.Order other) fits e = absurd fits
@@ -303,27 +334,42 @@ line_or_none bytes =
     or_else _ _ (word_and (codes "task ") (List ℕ) (λ x. is_name x ≡ true) (λ x. x) (passing_or_not is_name) bytes) (λ h. (lines.Begin blocks.Task h.0, h.1, h.2)) (λ task.
     or_else _ _ (word_and (codes "child ") (List ℕ) (λ x. is_name x ≡ true) (λ x. x) (passing_or_not is_name) bytes) (λ h. (lines.Begin blocks.Child h.0, h.1, h.2)) (λ child.
     or_else _ _ (word_and (codes "kthread ") (List ℕ) (λ x. is_name x ≡ true) (λ x. x) (passing_or_not is_name) bytes) (λ h. (lines.Begin blocks.Kthread h.0, h.1, h.2)) (λ kthread.
-    or_else _ _ (word_and (codes "set ") (List ℕ × List ℕ) (λ p. (is_register_word p.0 ≡ true) × IsValue p.1) (λ p. p.0 ++ 32 ∷ encode_lower p.1) set_or_none bytes) (λ h. (lines.Order (commands.Set h.0.0 h.0.1), (h.1.0, h.1.1.0, h.1.1.1), h.2)) (λ set.
+    or_else _ _ (word_and (codes "set ") (List ℕ × List ℕ) (λ p. (is_register_word p.0 ≡ true) × IsValue p.1) (λ p. p.0 ++ 32 ∷ encode_lower p.1) register_or_none bytes) (λ h. (lines.Order (commands.Set h.0.0 h.0.1), (h.1.0, h.1.1.0, h.1.1.1), h.2)) (λ set.
     or_else _ _ (word_and (codes "get ") (List ℕ) (λ x. is_register_word x ≡ true) (λ x. x) (passing_or_not is_register_word) bytes) (λ h. (lines.Order (commands.Get h.0), h.1, h.2)) (λ get.
     or_else _ _ (word_and (codes "ksec ") ℕ (λ n. n < 256) (λ n. encode_lower (n ∷ [])) byte_or_none bytes) (λ h. (lines.Order (commands.Ksec h.0), h.1, h.2)) (λ ksec.
     or_else _ _ (word_and (codes "fork ") (List ℕ) (λ x. is_name x ≡ true) (λ x. x) (passing_or_not is_name) bytes) (λ h. (lines.Order (commands.Fork h.0), h.1, h.2)) (λ fork.
     or_else _ _ (word_and (codes "peek ") (ℕ × ℕ) (λ p. IsNumber p.0 × IsNumber p.1) (λ p. decimal p.0 ++ 32 ∷ decimal p.1) peek_or_none bytes) (λ h. (lines.Order (commands.Peek h.0.0 h.0.1), (h.1.0, h.1.1), h.2)) (λ peek.
     or_else _ _ (word_and (codes "poke ") (ℕ × List ℕ) (λ p. IsNumber p.0 × IsValue p.1) (λ p. decimal p.0 ++ 32 ∷ encode_lower p.1) poke_or_none bytes) (λ h. (lines.Order (commands.Poke h.0.0 h.0.1), (h.1.0, h.1.1.0, h.1.1.1), h.2)) (λ poke.
     or_else _ _ (word_and (codes "kill ") (List ℕ × ℕ) (λ p. (is_name p.0 ≡ true) × IsNumber p.1) (λ p. p.0 ++ 32 ∷ decimal p.1) kill_or_none bytes) (λ h. kill_line h.0.0 h.0.1 h.1.0 h.1.1 h.2) (λ kill.
+    or_else _ _ (word_and (codes "bpeek ") (ℕ × ℕ) (λ p. IsNumber p.0 × IsNumber p.1) (λ p. decimal p.0 ++ 32 ∷ decimal p.1) peek_or_none bytes) (λ h. (lines.Order (commands.Bpeek h.0.0 h.0.1), (h.1.0, h.1.1), h.2)) (λ bpeek.
+    or_else _ _ (word_and (codes "bpoke ") (ℕ × List ℕ) (λ p. IsNumber p.0 × IsValue p.1) (λ p. decimal p.0 ++ 32 ∷ encode_lower p.1) poke_or_none bytes) (λ h. (lines.Order (commands.Bpoke h.0.0 h.0.1), (h.1.0, h.1.1.0, h.1.1.1), h.2)) (λ bpoke.
+    or_else _ _ (word_and (codes "wait ") (List ℕ) (λ x. is_name x ≡ true) (λ x. x) (passing_or_not is_name) bytes) (λ h. (lines.Order (commands.Wait h.0), h.1, h.2)) (λ wait.
+    or_else _ _ (word_and (codes "getregs ") (List ℕ × Set) (λ p. (is_name p.0 ≡ true) × Unit {0}) (λ p. p.0 ++ 32 ∷ set_word p.1) getregs_or_none bytes) (λ h. (lines.Order (commands.Getregs h.0.0 h.0.1), h.1.0, h.2)) (λ getregs.
+    or_else _ _ (word_and (codes "setregs ") (List ℕ × (Set × ℕ)) (λ p. (is_name p.0 ≡ true) × (Unit {0} × IsNumber p.1.1)) (λ p. p.0 ++ 32 ∷ (set_word p.1.0 ++ 32 ∷ decimal p.1.1)) setregs_or_none bytes) (λ h. (lines.Order (commands.Setregs h.0.0 h.0.1.0 h.0.1.1), (h.1.0, h.1.1.1), h.2)) (λ setregs.
+    or_else _ _ (word_and (codes "cont ") (List ℕ) (λ x. is_name x ≡ true) (λ x. x) (passing_or_not is_name) bytes) (λ h. (lines.Order (commands.Cont h.0), h.1, h.2)) (λ cont.
+    or_else _ _ (same_bytes bytes (codes "stop")) (λ e. (lines.Order commands.Stop, tt, e)) (λ stops.
     or_else _ _ (same_bytes bytes (codes "sigreturn")) (λ e. (lines.Order commands.Sigreturn, tt, e)) (λ returns.
     or_else _ _ (same_bytes bytes (codes "handler")) (λ e. (lines.Handler, tt, e)) (λ handler.
     or_else _ _ (same_bytes bytes (codes "yield")) (λ e. (lines.Order commands.Yield, tt, e)) (λ yields.
     or_else _ _ (same_bytes bytes (codes "end")) (λ e. (lines.End, tt, e)) (λ last.
-    inr (λ h. no_line_of bytes (record { version = version; machine = machine; row = row; cpus = cpus; quantum = quantum; large = large; sched = sched; task = task; child = child; kthread = kthread; set = set; get = get; ksec = ksec; fork = fork; peek = peek; poke = poke; kill = kill; returns = returns; handler = handler; yields = yields; last = last }) h.0 h.1 h.2))))))))))))))))))))))
+    inr (λ h. no_line_of bytes (record { version = version; machine = machine; row = row; cpus = cpus; quantum = quantum; large = large; sched = sched; task = task; child = child; kthread = kthread; set = set; get = get; ksec = ksec; fork = fork; peek = peek; poke = poke; kill = kill; bpeek = bpeek; bpoke = bpoke; wait = wait; getregs = getregs; setregs = setregs; cont = cont; stops = stops; returns = returns; handler = handler; yields = yields; last = last }) h.0 h.1 h.2)))))))))))))))))))))))))))))
   where
-    set_or_none : (rest : List ℕ) → IsDecided (IsTextOf (List ℕ × List ℕ) (λ p. (is_register_word p.0 ≡ true) × IsValue p.1) (λ p. p.0 ++ 32 ∷ encode_lower p.1) rest)
-    set_or_none = two_and (List ℕ) (List ℕ) (λ x. is_register_word x ≡ true) IsValue (λ x. x) encode_lower (λ x fits. Lacks-register 32 x refl fits) (passing_or_not is_register_word) value_or_none
+    register_or_none : (rest : List ℕ) → IsDecided (IsTextOf (List ℕ × List ℕ) (λ p. (is_register_word p.0 ≡ true) × IsValue p.1) (λ p. p.0 ++ 32 ∷ encode_lower p.1) rest)
+    register_or_none = two_and (List ℕ) (List ℕ) (λ x. is_register_word x ≡ true) IsValue (λ x. x) encode_lower (λ x fits. Lacks-register 32 x refl fits) (passing_or_not is_register_word) value_or_none
 
     peek_or_none : (rest : List ℕ) → IsDecided (IsTextOf (ℕ × ℕ) (λ p. IsNumber p.0 × IsNumber p.1) (λ p. decimal p.0 ++ 32 ∷ decimal p.1) rest)
     peek_or_none = two_and ℕ ℕ IsNumber IsNumber decimal decimal lacks_space number_or_none number_or_none
 
     poke_or_none : (rest : List ℕ) → IsDecided (IsTextOf (ℕ × List ℕ) (λ p. IsNumber p.0 × IsValue p.1) (λ p. decimal p.0 ++ 32 ∷ encode_lower p.1) rest)
     poke_or_none = two_and ℕ (List ℕ) IsNumber IsValue decimal encode_lower lacks_space number_or_none value_or_none
+
+    getregs_or_none : (rest : List ℕ) → IsDecided (IsTextOf (List ℕ × Set) (λ p. (is_name p.0 ≡ true) × Unit {0}) (λ p. p.0 ++ 32 ∷ set_word p.1) rest)
+    getregs_or_none = two_and (List ℕ) Set (λ x. is_name x ≡ true) (λ set. Unit {0}) (λ x. x) set_word (λ x fits. Lacks-name 32 x refl refl fits) (passing_or_not is_name) set_or_none
+
+    setregs_or_none : (rest : List ℕ) → IsDecided (IsTextOf (List ℕ × (Set × ℕ)) (λ p. (is_name p.0 ≡ true) × (Unit {0} × IsNumber p.1.1)) (λ p. p.0 ++ 32 ∷ (set_word p.1.0 ++ 32 ∷ decimal p.1.1)) rest)
+    setregs_or_none =
+        let counted = two_and Set ℕ (λ set. Unit {0}) IsNumber set_word decimal (λ set fits. Lacks-set 32 set refl refl) set_or_none number_or_none in
+        two_and (List ℕ) (Set × ℕ) (λ x. is_name x ≡ true) _ (λ x. x) _ (λ x fits. Lacks-name 32 x refl refl fits) (passing_or_not is_name) counted
 
     kill_or_none : (rest : List ℕ) → IsDecided (IsTextOf (List ℕ × ℕ) (λ p. (is_name p.0 ≡ true) × IsNumber p.1) (λ p. p.0 ++ 32 ∷ decimal p.1) rest)
     kill_or_none = two_and (List ℕ) ℕ (λ x. is_name x ≡ true) IsNumber (λ x. x) decimal (λ x fits. Lacks-name 32 x refl refl fits) (passing_or_not is_name) number_or_none

@@ -1,5 +1,5 @@
 -- Every text passes or is refused by a line, and lines that pass have known registers or a first command that fails.
-use Rattle.std.proofs.Common.{◌≡◌, ◌⊎◌, ℕ, zero, suc, ◌+◌, ◌<◌, ◌≤◌, ◌^◌, Bool, true, false, ◌&&◌, List, [], ◌∷◌, ◌++◌, length, Option, Some, None, Result, Ok, Err, inl, inr, refl, sym, ◌∙◌, ap, subst, arith, length-append}
+use Rattle.std.proofs.Common.{◌≡◌, ◌⊎◌, ℕ, zero, suc, ◌+◌, ◌<◌, ◌≤◌, ◌^◌, Bool, true, false, nat_le, List, [], ◌∷◌, ◌++◌, length, Option, Some, None, Result, Ok, Err, inl, inr, refl, sym, ◌∙◌, ap, subst, arith, length-append}
 use Rattle.std.proofs.lemmas.Bool.{cases_lt}
 use Rattle.std.proofs.lemmas.List.{append_assoc, append-nil, length-map}
 use Rattle.std.specs.List.{AllByRecursion, flat_map}
@@ -8,39 +8,42 @@ use Rattle.xs_base.specs.declared.component.Place.{Place}
 use Rattle.xs_base.specs.declared.words.Signo.{Signo}
 use Rattle.xs_base.specs.declared.layout_error.LayoutError.{LayoutError}
 use Rattle.xs_base.specs.Register.{IsRegister}
-use Rattle.xs_base.specs.Task.{frame_length}
+use Rattle.xs_base.specs.Task.{frame_length, buffer_length}
 use Rattle.xs_model.specs.declared.script.Command.{Command}
 use Rattle.xs_model.specs.declared.script.Command.TheVariants as commands
 use Rattle.xs_model.specs.declared.script.Named.{Named}
 use Rattle.xs_model.specs.declared.script.Block.{Block}
 use Rattle.xs_model.specs.declared.script.Script.{Script}
-use Rattle.xs_model.specs.Names.{forked_name, all_forked_names}
+use Rattle.xs_model.specs.Names.{all_forked_names}
 use Rattle.xs_model.specs.Bound.{most_events}
-use Rattle.xs_model.specs.Script.{AreDistinct, AreBlocksNumbered, is_outer, is_caught, fits_memory, fits_register, is_built}
+use Rattle.xs_model.specs.Script.{AreDistinct, AreBlocksNumbered, is_caught, fits_memory, fits_register, is_built}
 use Rattle.xs_script.specs.declared.commands.Scope.{Scope}
 use Rattle.xs_script.specs.declared.line.Line.{Line}
 use Rattle.xs_script.specs.declared.line.Line.TheVariants as lines
 use Rattle.xs_script.specs.declared.refusal.Kind.{Kind}
-use Rattle.xs_script.specs.declared.refusal.Kind.TheVariants.{NotBuilt, BadLine, Layout, Repeated, UnknownName, OuterInHandler, TooMuch}
+use Rattle.xs_script.specs.declared.refusal.Kind.TheVariants.{NotBuilt, BadLine, Layout, Repeated, UnknownName, OuterInHandler, NotAwaited, TooMuch}
+use Rattle.xs_script.specs.declared.refusal.LimitName.TheVariants as limits
 use Rattle.xs_script.specs.ScriptLine.{IsLine, IsCommandLine, line_text}
 use Rattle.xs_script.specs.Grammar.{lines_text, block_lines, row_lines, head_lines, sched_lines, script_lines, AreGroups, Spells}
 use Rattle.xs_script.specs.LineOrder.{Stand, AtVersion, AtBlock, command_limit, may_end, next}
 use Rattle.xs_script.specs.Body.{names_of}
 use Rattle.xs_script.specs.Refusal as refusals
-use Rattle.xs_script.specs.Refusal.{AreLines, Early, Misspelled, Misplaced, Fails, Table, Here, table_fault, is_unbuilt, RefusesLine, Passes, in_handler_after, fork_of_line, forks_of, scope_of, is_among, is_outer_line, AreOutside, IsKnown, IsKnownCommand, AreKnown, CommandFails, IsScriptOf, Refuses, ByLine, ByCommand, ByEvents}
+use Rattle.xs_script.specs.Before.{forks_of, Before, before_of}
+use Rattle.xs_script.specs.Refusal.{AreLines, Early, Misspelled, Misplaced, Fails, Table, Here, table_fault, is_unbuilt, RefusesLine, Passes, scope_of, is_among, reach_fault, name_fault, AreOutside, AreReaching, IsKnown, IsKnownCommand, AreKnown, CommandFails, IsScriptOf, Refuses, ByLine, ByCommand, ByEvents}
 use Rattle.xs_script.specs.Front.{IsFront}
 use Rattle.xs_script.proofs.Fronts.{front_push, front_none}
 use Rattle.xs_script.proofs.Decisions.{first_or_none}
 use Rattle.xs_script.proofs.Places.{place_or_none}
 use Rattle.xs_script.proofs.BlockParts.{all_parts}
-use Rattle.xs_script.proofs.BodyLines.{all_push, distinct_push}
-use Rattle.xs_script.proofs.Children.{block_scope, forks_push, outside_front, no_forks, front_no_names, blocks_forks, blocks_named}
+use Rattle.xs_script.proofs.Children.{block_scope, outside_front, no_forks, front_no_names, blocks_forks}
+use Rattle.xs_script.proofs.Reaching.{reaching_front, blocks_named}
+use Rattle.xs_script.proofs.RightLines.{IsRightLine, local_right, outer_right, fork_right, known_push}
 use Rattle.xs_script.proofs.EventBound.{lines_short}
 use Rattle.xs_script.proofs.Numbering.{blocks_rise}
-use Rattle.xs_script.proofs.KnownLines.{and_false, frame_fits, signal_fits, names_fit, ordered_forks, blocks_known}
-use Rattle.xs_script.proofs.EntryTests.{joined}
+use Rattle.xs_script.proofs.KnownLines.{within_limit, names_fit, ordered_forks, blocks_known}
+use Rattle.xs_script.proofs.EntryTests.{joined, at_most}
 use Rattle.xs_script.proofs.WholeScripts.{parted_lines, script_scope}
-use Rattle.xs_script.proofs.Stands.{HasNoLimit, leads_within, outside_push}
+use Rattle.xs_script.proofs.Stands.{HasNoLimit, leads_within}
 use Rattle.xs_script.proofs.ReadBlocks.{AreLater, blocks_read}
 use Rattle.xs_script.proofs.ReadScripts.{IsMachine, script_read}
 
@@ -100,94 +103,121 @@ passes_or_not text = walk _ text (suc (length text)) text [] AtVersion (omega ar
 
 -- ---- the second pass
 
--- what forks no child leaves those that were forked
-same_names : (forked : List (List ℕ)) → AreDistinct forked → AreDistinct (forked ++ [])
-same_names forked d = subst AreDistinct (sym (append-nil forked)) d
-
 -- what follows from each case
 module _ (A : Type 0) where
   -- a value fits its register or fails
-  step_value : (scope : Scope) (inside : Bool) (forked : List (List ℕ)) (reg bytes : List ℕ) (place : Place) (b : Bool) → fits_register place bytes ≡ b → IsRegister scope.layout reg place → is_built place ≡ true → AllByRecursion (λ byte. byte < 256) bytes → (IsKnownCommand scope (commands.Set reg bytes) → A) → ((kind : Kind) → CommandFails scope inside forked (commands.Set reg bytes) kind → A) → A
-  step_value scope inside forked reg bytes place true is here built small known fails = known ((place, here, is, small), (place, here.0, built), tt)
-  step_value scope inside forked reg bytes place false is here built small known fails = fails BadLine (refusals.Misfit reg bytes place here built is)
+  step_value : (scope : Scope) (before : Before) (reg bytes : List ℕ) (place : Place) (b : Bool) → fits_register place bytes ≡ b → IsRegister scope.layout reg place → is_built place ≡ true → AllByRecursion (λ byte. byte < 256) bytes → (IsKnownCommand scope (commands.Set reg bytes) → A) → ((kind : Kind) → CommandFails scope before (commands.Set reg bytes) kind → A) → A
+  step_value scope before reg bytes place true is here built small known fails = known ((place, here, is, small), (place, here.0, built), tt)
+  step_value scope before reg bytes place false is here built small known fails = fails BadLine (refusals.Misfit reg bytes place here built is)
 
   -- a place is one that is built, or the command fails
-  step_place : (scope : Scope) (inside : Bool) (forked : List (List ℕ)) (command : Command) (place : Place) (b : Bool) → is_built place ≡ b → ((kind : Kind) → CommandFails scope inside forked command kind → A) → ((is_built place ≡ false) → CommandFails scope inside forked command NotBuilt) → (is_built place ≡ true → A) → A
-  step_place scope inside forked command place true is fails unbuilt go = go is
-  step_place scope inside forked command place false is fails unbuilt go = fails NotBuilt (unbuilt is)
+  step_place : (scope : Scope) (before : Before) (command : Command) (place : Place) (b : Bool) → is_built place ≡ b → ((kind : Kind) → CommandFails scope before command kind → A) → ((is_built place ≡ false) → CommandFails scope before command NotBuilt) → (is_built place ≡ true → A) → A
+  step_place scope before command place true is fails unbuilt go = go is
+  step_place scope before command place false is fails unbuilt go = fails NotBuilt (unbuilt is)
 
   -- a fork names a child that none before it forks, outside of handlers, or fails
-  step_fork : (scope : Scope) (inside : Bool) (forked : List (List ℕ)) (name : List ℕ) (b c d : Bool) → is_among name scope.children ≡ b → is_among name forked ≡ c → inside ≡ d → (is_among name scope.children ≡ true → is_among name forked ≡ false → inside ≡ false → A) → ((kind : Kind) → CommandFails scope inside forked (commands.Fork name) kind → A) → A
-  step_fork scope inside forked name false c d child again in_one known fails = fails UnknownName (refusals.Misnamed (commands.Fork name) UnknownName (rw child refl))
-  step_fork scope inside forked name true true d child again in_one known fails = fails Repeated (refusals.Misnamed (commands.Fork name) Repeated (rw (child, again) refl))
-  step_fork scope inside forked name true false true child again in_one known fails = fails OuterInHandler (refusals.Misnamed (commands.Fork name) OuterInHandler (rw (child, again, in_one) refl))
-  step_fork scope inside forked name true false false child again in_one known fails = known child again in_one
+  step_fork : (scope : Scope) (before : Before) (name : List ℕ) (b c d : Bool) → is_among name scope.children ≡ b → is_among name before.forked ≡ c → before.inside ≡ d → (is_among name scope.children ≡ true → is_among name before.forked ≡ false → before.inside ≡ false → A) → ((kind : Kind) → CommandFails scope before (commands.Fork name) kind → A) → A
+  step_fork scope before name false c d child again in_one known fails = fails UnknownName (refusals.Misnamed (commands.Fork name) UnknownName (rw child refl))
+  step_fork scope before name true true d child again in_one known fails = fails Repeated (refusals.Misnamed (commands.Fork name) Repeated (rw (child, again) refl))
+  step_fork scope before name true false true child again in_one known fails = fails OuterInHandler (refusals.Misnamed (commands.Fork name) OuterInHandler (rw (child, again, in_one) refl))
+  step_fork scope before name true false false child again in_one known fails = known child again in_one
 
   -- a signal goes to a block with a handler, from outside of handlers, or the line fails
-  step_kill : (scope : Scope) (inside : Bool) (forked : List (List ℕ)) (name : List ℕ) (signo : Signo) (b d : Bool) → is_among name scope.handled ≡ b → inside ≡ d → (is_among name scope.handled ≡ true → inside ≡ false → A) → ((kind : Kind) → CommandFails scope inside forked (commands.Kill name signo) kind → A) → A
-  step_kill scope inside forked name signo false d handled in_one known fails = fails UnknownName (refusals.Misnamed (commands.Kill name signo) UnknownName (rw handled refl))
-  step_kill scope inside forked name signo true true handled in_one known fails = fails OuterInHandler (refusals.Misnamed (commands.Kill name signo) OuterInHandler (rw (handled, in_one) refl))
-  step_kill scope inside forked name signo true false handled in_one known fails = known handled in_one
+  step_kill : (scope : Scope) (before : Before) (name : List ℕ) (signo : Signo) (b d : Bool) → is_among name scope.handled ≡ b → before.inside ≡ d → (is_among name scope.handled ≡ true → before.inside ≡ false → A) → ((kind : Kind) → CommandFails scope before (commands.Kill name signo) kind → A) → A
+  step_kill scope before name signo false d handled in_one known fails = fails UnknownName (refusals.Misnamed (commands.Kill name signo) UnknownName (rw handled refl))
+  step_kill scope before name signo true true handled in_one known fails = fails OuterInHandler (refusals.Misnamed (commands.Kill name signo) OuterInHandler (rw (handled, in_one) refl))
+  step_kill scope before name signo true false handled in_one known fails = known handled in_one
 
-  -- A command is known, forks no child again and is no outer one in a handler, or it fails.
-  known_or_fails : (scope : Scope) (inside : Bool) (forked : List (List ℕ)) (command : Command) → IsCommandLine command → command_limit command ≡ None → (IsKnownCommand scope command → (AreDistinct forked → AreDistinct (forked ++ forked_name command)) → (inside && is_outer command) ≡ false → A) → ((kind : Kind) → CommandFails scope inside forked command kind → A) → A
-  known_or_fails scope inside forked (commands.Set reg bytes) fits within known fails = elim (place_or_none scope.layout reg) [
+  -- a stop stands outside of handlers, or fails
+  step_stop : (scope : Scope) (before : Before) (d : Bool) → before.inside ≡ d → (before.inside ≡ false → A) → ((kind : Kind) → CommandFails scope before commands.Stop kind → A) → A
+  step_stop scope before true in_one known fails = fails OuterInHandler (refusals.Misnamed commands.Stop OuterInHandler (rw in_one refl))
+  step_stop scope before false in_one known fails = known in_one
+
+  -- a wait is for a child of its own body, outside of handlers, or fails
+  step_wait : (scope : Scope) (before : Before) (name : List ℕ) (d b : Bool) → before.inside ≡ d → before.own name ≡ b → (before.inside ≡ false → before.own name ≡ true → A) → ((kind : Kind) → CommandFails scope before (commands.Wait name) kind → A) → A
+  step_wait scope before name true b in_one own known fails = fails OuterInHandler (refusals.Misnamed (commands.Wait name) OuterInHandler (rw in_one refl))
+  step_wait scope before name false false in_one own known fails = fails UnknownName (refusals.Misnamed (commands.Wait name) UnknownName (rw (in_one, own) refl))
+  step_wait scope before name false true in_one own known fails = known in_one own
+
+  -- what reaches a child reaches one that is awaited, or fails
+  step_reach : (scope : Scope) (before : Before) (command : Command) (name : List ℕ) (d b c : Bool) → before.inside ≡ d → before.own name ≡ b → before.awaited name ≡ c → name_fault scope before command ≡ reach_fault before.inside (before.own name) (before.awaited name) → (before.inside ≡ false → before.own name ≡ true → before.awaited name ≡ true → A) → ((kind : Kind) → CommandFails scope before command kind → A) → A
+  step_reach scope before command name true b c in_one own awaited is known fails = fails OuterInHandler (refusals.Misnamed command OuterInHandler (is ∙ rw in_one refl))
+  step_reach scope before command name false false c in_one own awaited is known fails = fails UnknownName (refusals.Misnamed command UnknownName (is ∙ rw (in_one, own) refl))
+  step_reach scope before command name false true false in_one own awaited is known fails = fails NotAwaited (refusals.Misnamed command NotAwaited (is ∙ rw (in_one, own, awaited) refl))
+  step_reach scope before command name false true true in_one own awaited is known fails = known in_one own awaited
+
+  -- Nothing is wrong with a command, or it fails.
+  right_or_fails : (scope : Scope) (before : Before) (command : Command) → IsCommandLine command → command_limit command ≡ None → (IsRightLine scope before (lines.Order command) → A) → ((kind : Kind) → CommandFails scope before command kind → A) → A
+  right_or_fails scope before (commands.Set reg bytes) fits within right fails = elim (place_or_none scope.layout reg) [
     | inr none ↦ fails UnknownName (refusals.Unknown (commands.Set reg bytes) reg refl none)
     | inl p ↦
-        step_place scope inside forked (commands.Set reg bytes) p.0 (is_built p.0) refl fails (refusals.Unbuilt (commands.Set reg bytes) reg p.0 refl p.1) (λ built.
-        step_value scope inside forked reg bytes p.0 (fits_register p.0 bytes) refl p.1 built fits.2 (λ k. known k (same_names forked) (and_false inside)) fails)
+        step_place scope before (commands.Set reg bytes) p.0 (is_built p.0) refl fails (refusals.Unbuilt (commands.Set reg bytes) reg p.0 refl p.1) (λ built.
+        step_value scope before reg bytes p.0 (fits_register p.0 bytes) refl p.1 built fits.2 (λ k. right (local_right scope before (lines.Order (commands.Set reg bytes)) k refl refl tt)) fails)
   ]
-  known_or_fails scope inside forked (commands.Get reg) fits within known fails = elim (place_or_none scope.layout reg) [
+  right_or_fails scope before (commands.Get reg) fits within right fails = elim (place_or_none scope.layout reg) [
     | inr none ↦ fails UnknownName (refusals.Unknown (commands.Get reg) reg refl none)
     | inl p ↦
-        step_place scope inside forked (commands.Get reg) p.0 (is_built p.0) refl fails (refusals.Unbuilt (commands.Get reg) reg p.0 refl p.1) (λ built.
-        known ((p.0, p.1), (p.0, p.1.0, built), tt) (same_names forked) (and_false inside))
+        step_place scope before (commands.Get reg) p.0 (is_built p.0) refl fails (refusals.Unbuilt (commands.Get reg) reg p.0 refl p.1) (λ built.
+        right (local_right scope before (lines.Order (commands.Get reg)) ((p.0, p.1), (p.0, p.1.0, built), tt) refl refl tt))
   ]
-  known_or_fails scope inside forked (commands.Ksec byte) fits within known fails = known (fits, tt, tt) (same_names forked) (and_false inside)
-  known_or_fails scope inside forked commands.Yield fits within known fails = known (tt, tt, tt) (same_names forked) (and_false inside)
-  known_or_fails scope inside forked (commands.Peek at len) fits within known fails = known (frame_fits (fits_memory frame_length at len) within, tt, tt) (same_names forked) (and_false inside)
-  known_or_fails scope inside forked (commands.Poke at bytes) fits within known fails =
-      known ((frame_fits (fits_memory frame_length at (length bytes)) within, fits.2), tt, tt) (same_names forked) (and_false inside)
-  known_or_fails scope inside forked commands.Sigreturn fits within known fails = known (tt, tt, tt) (same_names forked) (and_false inside)
-  known_or_fails scope inside forked (commands.Fork name) fits within known fails =
-      step_fork scope inside forked name (is_among name scope.children) (is_among name forked) inside refl refl refl
-      (λ child new out. known (tt, tt, child) (λ d. distinct_push forked name d new) (ap (λ (t : Bool). t && true) out)) fails
-  known_or_fails scope inside forked (commands.Kill name signo) fits within known fails =
-      step_kill scope inside forked name signo (is_among name scope.handled) inside refl refl
-      (λ handled out. known (signal_fits (is_caught signo.number) within, tt, handled) (same_names forked) (ap (λ (t : Bool). t && true) out)) fails
-  known_or_fails scope inside forked other fits within known fails = absurd fits
+  right_or_fails scope before (commands.Ksec byte) fits within right fails = right (local_right scope before (lines.Order (commands.Ksec byte)) (fits, tt, tt) refl refl tt)
+  right_or_fails scope before commands.Yield fits within right fails = right (local_right scope before (lines.Order commands.Yield) (tt, tt, tt) refl refl tt)
+  right_or_fails scope before (commands.Peek at len) fits within right fails =
+      right (local_right scope before (lines.Order (commands.Peek at len)) (within_limit limits.Frame (fits_memory frame_length at len) within, tt, tt) refl refl tt)
+  right_or_fails scope before (commands.Poke at bytes) fits within right fails =
+      right (local_right scope before (lines.Order (commands.Poke at bytes)) ((within_limit limits.Frame (fits_memory frame_length at (length bytes)) within, fits.2), tt, tt) refl refl tt)
+  right_or_fails scope before (commands.Bpeek at len) fits within right fails =
+      right (local_right scope before (lines.Order (commands.Bpeek at len)) (within_limit limits.Buffer (fits_memory buffer_length at len) within, tt, tt) refl refl tt)
+  right_or_fails scope before (commands.Bpoke at bytes) fits within right fails =
+      right (local_right scope before (lines.Order (commands.Bpoke at bytes)) ((within_limit limits.Buffer (fits_memory buffer_length at (length bytes)) within, fits.2), tt, tt) refl refl tt)
+  right_or_fails scope before commands.Sigreturn fits within right fails = right (local_right scope before (lines.Order commands.Sigreturn) (tt, tt, tt) refl refl tt)
+  right_or_fails scope before (commands.Fork name) fits within right fails =
+      step_fork scope before name (is_among name scope.children) (is_among name before.forked) before.inside refl refl refl
+      (λ child new out. right (fork_right scope before name child new out)) fails
+  right_or_fails scope before (commands.Kill name signo) fits within right fails =
+      step_kill scope before name signo (is_among name scope.handled) before.inside refl refl
+      (λ handled out. right (outer_right scope before (commands.Kill name signo) (within_limit limits.Signal (is_caught signo.number) within, tt, handled) refl out tt)) fails
+  right_or_fails scope before commands.Stop fits within right fails = step_stop scope before before.inside refl (λ out. right (outer_right scope before commands.Stop (tt, tt, tt) refl out tt)) fails
+  right_or_fails scope before (commands.Wait name) fits within right fails =
+      step_wait scope before name before.inside (before.own name) refl refl (λ out own. right (outer_right scope before (commands.Wait name) (tt, tt, tt) refl out own)) fails
+  right_or_fails scope before (commands.Getregs name set) fits within right fails =
+      step_reach scope before (commands.Getregs name set) name before.inside (before.own name) (before.awaited name) refl refl refl refl
+      (λ out own awaited. right (outer_right scope before (commands.Getregs name set) (tt, tt, tt) refl out (own, awaited))) fails
+  right_or_fails scope before (commands.Setregs name set count) fits within right fails =
+      let few = at_most count buffer_length (within_limit limits.Count (nat_le count buffer_length) within) in
+      step_reach scope before (commands.Setregs name set count) name before.inside (before.own name) (before.awaited name) refl refl refl refl
+      (λ out own awaited. right (outer_right scope before (commands.Setregs name set count) (few, tt, tt) refl out (own, awaited))) fails
+  right_or_fails scope before (commands.Cont name) fits within right fails =
+      step_reach scope before (commands.Cont name) name before.inside (before.own name) (before.awaited name) refl refl refl refl
+      (λ out own awaited. right (outer_right scope before (commands.Cont name) (tt, tt, tt) refl out (own, awaited))) fails
+  right_or_fails scope before other fits within right fails = absurd fits
 
-  -- so a line is known, or is a command that fails
-  line_known_or_fails : (scope : Scope) (inside : Bool) (forked : List (List ℕ)) (l : Line) → IsLine l → HasNoLimit l → (IsKnown scope l → (AreDistinct forked → AreDistinct (forked ++ fork_of_line l)) → (inside && is_outer_line l) ≡ false → A) → ((command : Command) (kind : Kind) → l ≡ lines.Order command → CommandFails scope inside forked command kind → A) → A
-  line_known_or_fails scope inside forked lines.Version fits within known fails = known tt (same_names forked) (and_false inside)
-  line_known_or_fails scope inside forked (lines.Machine named) fits within known fails = known tt (same_names forked) (and_false inside)
-  line_known_or_fails scope inside forked (lines.Row r) fits within known fails = known tt (same_names forked) (and_false inside)
-  line_known_or_fails scope inside forked (lines.Cpus n) fits within known fails = known tt (same_names forked) (and_false inside)
-  line_known_or_fails scope inside forked (lines.Quantum n) fits within known fails = known tt (same_names forked) (and_false inside)
-  line_known_or_fails scope inside forked (lines.Large n) fits within known fails = known tt (same_names forked) (and_false inside)
-  line_known_or_fails scope inside forked (lines.Sched entries) fits within known fails = known tt (same_names forked) (and_false inside)
-  line_known_or_fails scope inside forked (lines.Begin kind name) fits within known fails = known tt (same_names forked) (and_false inside)
-  line_known_or_fails scope inside forked (lines.Order command) fits within known fails = known_or_fails scope inside forked command fits within known (λ kind f. fails command kind refl f)
-  line_known_or_fails scope inside forked (lines.NoSignal name number) fits within known fails = known tt (same_names forked) (and_false inside)
-  line_known_or_fails scope inside forked lines.Handler fits within known fails = known tt (same_names forked) (and_false inside)
-  line_known_or_fails scope inside forked lines.End fits within known fails = known tt (same_names forked) (and_false inside)
+  -- So nothing is wrong with a line, or it is a command that fails.
+  line_right_or_fails : (scope : Scope) (before : Before) (l : Line) → IsLine l → HasNoLimit l → (IsRightLine scope before l → A) → ((command : Command) (kind : Kind) → l ≡ lines.Order command → CommandFails scope before command kind → A) → A
+  line_right_or_fails scope before (lines.Order command) fits within right fails = right_or_fails scope before command fits within right (λ kind f. fails command kind refl f)
+  line_right_or_fails scope before lines.Version fits within right fails = right (local_right scope before lines.Version tt refl refl tt)
+  line_right_or_fails scope before (lines.Machine named) fits within right fails = right (local_right scope before (lines.Machine named) tt refl refl tt)
+  line_right_or_fails scope before (lines.Row r) fits within right fails = right (local_right scope before (lines.Row r) tt refl refl tt)
+  line_right_or_fails scope before (lines.Cpus n) fits within right fails = right (local_right scope before (lines.Cpus n) tt refl refl tt)
+  line_right_or_fails scope before (lines.Quantum n) fits within right fails = right (local_right scope before (lines.Quantum n) tt refl refl tt)
+  line_right_or_fails scope before (lines.Large n) fits within right fails = right (local_right scope before (lines.Large n) tt refl refl tt)
+  line_right_or_fails scope before (lines.Sched entries) fits within right fails = right (local_right scope before (lines.Sched entries) tt refl refl tt)
+  line_right_or_fails scope before (lines.Begin kind name) fits within right fails = right (local_right scope before (lines.Begin kind name) tt refl refl tt)
+  line_right_or_fails scope before (lines.NoSignal name number) fits within right fails = right (local_right scope before (lines.NoSignal name number) tt refl refl tt)
+  line_right_or_fails scope before lines.Handler fits within right fails = right (local_right scope before lines.Handler tt refl refl tt)
+  line_right_or_fails scope before lines.End fits within right fails = right (local_right scope before lines.End tt refl refl tt)
 
-  -- Lines are known, or one of them is the first command that fails.
-  pub lines_known_or_fail : (scope : Scope) (done ls : List Line) → AreKnown scope done → AreLines ls → AllByRecursion HasNoLimit ls → (AreKnown scope (done ++ ls) → A) → ((d : List Line) (command : Command) (later : List Line) (kind : Kind) → done ++ ls ≡ d ++ lines.Order command ∷ later → AreKnown scope d → CommandFails scope (in_handler_after false d) (forks_of d) command kind → A) → A
-  lines_known_or_fail scope done [] before fits within known fails = known (subst (λ (xs : List Line). AreKnown scope xs) (sym (append-nil done)) before)
-  lines_known_or_fail scope done (l ∷ ls) before fits within known fails =
-      line_known_or_fails scope (in_handler_after false done) (forks_of done) l fits.0 within.0
-      (λ here once out.
+  -- Nothing is wrong with lines, or one of them is the first command that fails.
+  pub lines_known_or_fail : (scope : Scope) (done ls : List Line) → AreKnown scope done → AreLines ls → AllByRecursion HasNoLimit ls → (AreKnown scope (done ++ ls) → A) → ((d : List Line) (command : Command) (later : List Line) (kind : Kind) → done ++ ls ≡ d ++ lines.Order command ∷ later → AreKnown scope d → CommandFails scope (before_of d) command kind → A) → A
+  lines_known_or_fail scope done [] front fits within known fails = known (subst (λ (xs : List Line). AreKnown scope xs) (sym (append-nil done)) front)
+  lines_known_or_fail scope done (l ∷ ls) front fits within known fails =
+      line_right_or_fails scope (before_of done) l fits.0 within.0
+      (λ right.
       let same : (done ++ l ∷ []) ++ ls ≡ done ++ l ∷ ls = append_assoc done (l ∷ []) ls in
-      let so_far : AreKnown scope (done ++ l ∷ []) = record {
-        each = all_push (IsKnown scope) done l before.each here;
-        once = subst AreDistinct (sym (forks_push done l)) (once before.once);
-        outside = outside_push false done l before.outside out;
-      } in
-      lines_known_or_fail scope (done ++ l ∷ []) ls so_far fits.1 within.1
+      lines_known_or_fail scope (done ++ l ∷ []) ls (known_push scope done l front right) fits.1 within.1
       (λ all. known (subst (λ (xs : List Line). AreKnown scope xs) same all))
       (λ d command later kind e front f. fails d command later kind (sym same ∙ e) front f))
-      (λ command kind is f. fails done command ls kind (ap (λ (x : Line). done ++ x ∷ ls) is) before f)
+      (λ command kind is f. fails done command ls kind (ap (λ (x : Line). done ++ x ∷ ls) is) front f)
 
 -- ---- the passes together
 
@@ -247,6 +277,7 @@ blocks_spell text ls p m blocks is numbered h known =
     let fit = all_parts IsLine (sched_lines groups) bodies later_fits in
     let grouped : AreGroups groups (joined groups) = record { some = groups_some groups fit.0; joined = refl } in
     let distinct = h.distinct tt in
+    let reaching = reaching_front [] before bodies bare (subst (AreReaching []) parted known.reaching) in
     record {
       read = record {
         groups = groups;
@@ -271,7 +302,7 @@ blocks_spell text ls p m blocks is numbered h known =
           distinct = distinct;
           rising = blocks_rise 0 (length front + length groups + 1) blocks (omega arith) numbered;
           bodies = commands.bodies;
-          named = blocks_named m.layout blocks blocks distinct commands.built commands.named;
+          named = blocks_named m.layout blocks blocks distinct commands.named reaching;
           forked = subst AreDistinct forks known.once;
           events = events;
         };
@@ -314,7 +345,7 @@ bounded text script h = elim (cases_lt 1048576 (most_events script)) [
 pub every_text : (text : List ℕ) → length text ≤ 1048576 → ((script : Script) × Spells text script) ⊎ ((number : ℕ) × (kind : Kind) × Refuses text number kind)
 every_text text short = elim (passes_or_not text) [
   | inl r ↦ inr (r.0, r.1, ByLine r.2)
-  | inr p ↦ lines_known_or_fail _ (scope_of p.0) [] p.0 (record { each = tt; once = tt; outside = tt }) p.1.lines_fit (leads_within AtVersion p.1.stand p.0 p.1.leads)
+  | inr p ↦ lines_known_or_fail _ (scope_of p.0) [] p.0 (record { each = tt; once = tt; outside = tt; reaching = tt }) p.1.lines_fit (leads_within AtVersion p.1.stand p.0 p.1.leads)
       (λ known. let r = known_read text p.0 short p.1 known in bounded text r.0 r.1)
       (λ d command later kind e front f.
       let scope : scope_of p.0 ≡ scope_of (d ++ lines.Order command ∷ later) = ap scope_of e in
@@ -327,7 +358,7 @@ every_text text short = elim (passes_or_not text) [
           later = later;
           passes = subst (λ (xs : List Line). Passes text xs) e p.1;
           known = subst (λ (x : Scope). AreKnown x d) scope front;
-          fails = subst (λ (x : Scope). CommandFails x (in_handler_after false d) (forks_of d) command kind) scope f;
+          fails = subst (λ (x : Scope). CommandFails x (before_of d) command kind) scope f;
           number_is = refl;
         }),
       ))

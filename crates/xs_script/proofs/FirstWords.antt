@@ -3,15 +3,17 @@ use Rattle.std.proofs.Common.{◌≡◌, ℕ, ◌<◌, true, List, [], ◌∷◌
 use Rattle.std.proofs.lemmas.List.{append_cancel_left}
 use Rattle.hex.specs.Hex.{encode_lower}
 use Rattle.xs_base.specs.declared.component.Row.{Row}
+use Rattle.xs_base.specs.declared.words.Set.{Set}
 use Rattle.xs_model.specs.declared.script.BlockKind.{BlockKind}
 use Rattle.xs_model.specs.declared.script.BlockKind.TheVariants as blocks
 use Rattle.xs_model.specs.declared.script.Command.TheVariants as commands
 use Rattle.xs_model.specs.Script.{is_name}
 use Rattle.xs_script.specs.declared.line.Line.{Line}
 use Rattle.xs_script.specs.declared.line.Line.TheVariants as lines
-use Rattle.xs_script.specs.ScriptLine.{line_text, IsLine, IsNumber, row_text, entries_text, block_word, is_register_word}
-use Rattle.xs_script.specs.Parts.{IsValue, IsBlockLine, IsSignalLine, IsHeadLine}
-use Rattle.xs_script.proofs.Spellings.{kind_of, kind_is, signal_number}
+use Rattle.xs_script.specs.ScriptLine.{line_text, IsLine, IsNumber, row_text, set_word, entries_text, block_word, is_register_word}
+use Rattle.xs_script.specs.Parts.{IsValue, IsBlockLine, IsSignalLine, IsTraceLine, IsHeadLine}
+use Rattle.xs_script.proofs.CommandSpellings.{signal_number}
+use Rattle.xs_script.proofs.Spellings.{kind_of, kind_is}
 
 -- The words after a first word, where they are those of no line of its kind. Then the whole is no line.
 pub no_get : (words : List ℕ) → ((reg : List ℕ) → is_register_word reg ≡ true → words ≡ reg → ⊥) → (l : Line) → IsBlockLine l → codes "get " ++ words ≡ line_text l → ⊥
@@ -42,6 +44,30 @@ pub no_kill : (words : List ℕ) → ((name : List ℕ) (number : ℕ) → is_na
 no_kill words none (lines.Order (commands.Kill name signo)) fits e = none name signo.number fits (signal_number signo) (append_cancel_left (codes "kill ") words (name ++ 32 ∷ decimal signo.number) e)
 no_kill words none (lines.NoSignal name number) fits e = none name number fits.0 fits.1 (append_cancel_left (codes "kill ") words (name ++ 32 ∷ decimal number) e)
 no_kill words none l fits e = let k = ap kind_of e ∙ kind_is l in omega arith
+
+pub no_bpeek : (words : List ℕ) → ((at len : ℕ) → IsNumber at → IsNumber len → words ≡ decimal at ++ 32 ∷ decimal len → ⊥) → (l : Line) → IsTraceLine l → codes "bpeek " ++ words ≡ line_text l → ⊥
+no_bpeek words none (lines.Order (commands.Bpeek at len)) fits e = none at len fits.0 fits.1 (append_cancel_left (codes "bpeek ") words (decimal at ++ 32 ∷ decimal len) e)
+no_bpeek words none l fits e = let k = ap kind_of e ∙ kind_is l in omega arith
+
+pub no_bpoke : (words : List ℕ) → ((at : ℕ) (bytes : List ℕ) → IsNumber at → IsValue bytes → words ≡ decimal at ++ 32 ∷ encode_lower bytes → ⊥) → (l : Line) → IsTraceLine l → codes "bpoke " ++ words ≡ line_text l → ⊥
+no_bpoke words none (lines.Order (commands.Bpoke at bytes)) fits e = none at bytes fits.0 (fits.1, fits.2) (append_cancel_left (codes "bpoke ") words (decimal at ++ 32 ∷ encode_lower bytes) e)
+no_bpoke words none l fits e = let k = ap kind_of e ∙ kind_is l in omega arith
+
+pub no_wait : (words : List ℕ) → ((name : List ℕ) → is_name name ≡ true → words ≡ name → ⊥) → (l : Line) → IsTraceLine l → codes "wait " ++ words ≡ line_text l → ⊥
+no_wait words none (lines.Order (commands.Wait name)) fits e = none name fits (append_cancel_left (codes "wait ") words name e)
+no_wait words none l fits e = let k = ap kind_of e ∙ kind_is l in omega arith
+
+pub no_cont : (words : List ℕ) → ((name : List ℕ) → is_name name ≡ true → words ≡ name → ⊥) → (l : Line) → IsTraceLine l → codes "cont " ++ words ≡ line_text l → ⊥
+no_cont words none (lines.Order (commands.Cont name)) fits e = none name fits (append_cancel_left (codes "cont ") words name e)
+no_cont words none l fits e = let k = ap kind_of e ∙ kind_is l in omega arith
+
+pub no_getregs : (words : List ℕ) → ((name : List ℕ) (set : Set) → is_name name ≡ true → words ≡ name ++ 32 ∷ set_word set → ⊥) → (l : Line) → IsTraceLine l → codes "getregs " ++ words ≡ line_text l → ⊥
+no_getregs words none (lines.Order (commands.Getregs name set)) fits e = none name set fits (append_cancel_left (codes "getregs ") words (name ++ 32 ∷ set_word set) e)
+no_getregs words none l fits e = let k = ap kind_of e ∙ kind_is l in omega arith
+
+pub no_setregs : (words : List ℕ) → ((name : List ℕ) (set : Set) (count : ℕ) → is_name name ≡ true → IsNumber count → words ≡ name ++ 32 ∷ (set_word set ++ 32 ∷ decimal count) → ⊥) → (l : Line) → IsTraceLine l → codes "setregs " ++ words ≡ line_text l → ⊥
+no_setregs words none (lines.Order (commands.Setregs name set count)) fits e = none name set count fits.0 fits.1 (append_cancel_left (codes "setregs ") words (name ++ 32 ∷ (set_word set ++ 32 ∷ decimal count)) e)
+no_setregs words none l fits e = let k = ap kind_of e ∙ kind_is l in omega arith
 
 no_task : (words : List ℕ) → ((name : List ℕ) → is_name name ≡ true → words ≡ name → ⊥) → (l : Line) → IsBlockLine l → codes "task " ++ words ≡ line_text l → ⊥
 no_task words none (lines.Begin blocks.Task name) fits e = none name fits (append_cancel_left (codes "task ") words name e)

@@ -6,7 +6,6 @@ use Rattle.xs_base.specs.declared.component.Row.{Row}
 use Rattle.xs_base.specs.declared.layout_error.LayoutError.TheVariants as errors
 use Rattle.xs_base.specs.Layout.{row_error, is_known}
 use Rattle.xs_base.proofs.LayoutLemmas.{passes, passes_sound}
-use Rattle.xs_base.specs.Task.{frame_length}
 use Rattle.xs_model.specs.Script.{fits_memory}
 use Rattle.xs_script.specs.ScriptLine.{kept_row, kept_bytes}
 use Rattle.xs_script.proofs.Spellings.{same_row}
@@ -24,12 +23,12 @@ pub kept_long : (bytes : List ℕ) → 64 < length bytes → kept_bytes bytes �
 kept_long bytes h = grind (arith, nat_tests)
 
 -- bytes for a memory lie within it where what is kept of them does
-pub kept_fits : (at : ℕ) (bytes : List ℕ) → fits_memory frame_length at (length (kept_bytes bytes)) ≡ fits_memory frame_length at (length bytes)
-kept_fits at bytes = elim (cases_lt 64 (length bytes)) [
+pub kept_fits : (size at : ℕ) (bytes : List ℕ) → fits_memory size at (length (kept_bytes bytes)) ≡ fits_memory size at (length bytes)
+kept_fits size at bytes = elim (cases_lt 64 (length bytes)) [
   | inl long ↦
       let many : nat_le (length bytes) 64 ≡ false = lt-leb (length bytes) 64 long in
-      ap (λ (bs : List ℕ). fits_memory frame_length at (length bs)) (kept_long bytes long) ∙ sym (too_many (nat_le 1 (length bytes)) (nat_le (length bytes) 64) (nat_le (at + length bytes) frame_length) many)
-  | inr short ↦ ap (λ (bs : List ℕ). fits_memory frame_length at (length bs)) (kept_same_bytes bytes short)
+      ap (λ (bs : List ℕ). fits_memory size at (length bs)) (kept_long bytes long) ∙ sym (too_many (nat_le 1 (length bytes)) (nat_le (length bytes) 64) (nat_le (at + length bytes) size) many)
+  | inr short ↦ ap (λ (bs : List ℕ). fits_memory size at (length bs)) (kept_same_bytes bytes short)
 ]
   where
     too_many : (a b c : Bool) → b ≡ false → ((a && b) && c) ≡ false
@@ -37,9 +36,9 @@ kept_fits at bytes = elim (cases_lt 64 (length bytes)) [
     too_many false b c h = refl
 
 -- and they are kept whole
-pub kept_whole_bytes : (at : ℕ) (bytes : List ℕ) → fits_memory frame_length at (length (kept_bytes bytes)) ≡ true → kept_bytes bytes ≡ bytes
-kept_whole_bytes at bytes h = elim (cases_lt 64 (length bytes)) [
-  | inl long ↦ let none : fits_memory frame_length at 0 ≡ true = rw (kept_long bytes long) at h in absurd (cc none)
+pub kept_whole_bytes : (size at : ℕ) (bytes : List ℕ) → fits_memory size at (length (kept_bytes bytes)) ≡ true → kept_bytes bytes ≡ bytes
+kept_whole_bytes size at bytes h = elim (cases_lt 64 (length bytes)) [
+  | inl long ↦ let none : fits_memory size at 0 ≡ true = rw (kept_long bytes long) at h in absurd (cc none)
   | inr short ↦ kept_same_bytes bytes short
 ]
 

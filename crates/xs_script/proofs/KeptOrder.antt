@@ -4,6 +4,7 @@ use Rattle.std.specs.Prelude.{if◌then◌else◌}
 use Rattle.xs_base.specs.declared.component.Row.{Row}
 use Rattle.xs_base.specs.declared.layout_error.LayoutError.{LayoutError}
 use Rattle.xs_base.specs.Layout.{row_error}
+use Rattle.xs_base.specs.Task.{frame_length, buffer_length}
 use Rattle.xs_model.specs.declared.script.BlockKind.{BlockKind}
 use Rattle.xs_model.specs.declared.script.BlockKind.TheVariants as blocks
 use Rattle.xs_model.specs.declared.script.Command.{Command}
@@ -12,13 +13,14 @@ use Rattle.xs_model.specs.Script.{is_return, is_kernel_command}
 use Rattle.xs_script.specs.declared.block_part.BlockPart.{BlockPart}
 use Rattle.xs_script.specs.declared.block_part.BlockPart.TheVariants as parts
 use Rattle.xs_script.specs.declared.refusal.LimitName.{LimitName}
+use Rattle.xs_script.specs.declared.refusal.LimitName.TheVariants as limits
 use Rattle.xs_script.specs.declared.line.Line.{Line}
 use Rattle.xs_script.specs.declared.line.Line.TheVariants as lines
 use Rattle.xs_script.specs.declared.refusal.Kind.TheVariants.{BadLine}
 use Rattle.xs_script.specs.declared.head.Stage.{Stage}
 use Rattle.xs_script.specs.declared.head.Stage.TheVariants as stages
 use Rattle.xs_script.specs.ScriptLine.{kept_line, kept_row, kept_command}
-use Rattle.xs_script.specs.LineOrder.{Stand, AtVersion, AtMachine, AtRow, AtCpus, AtQuantum, AtLarge, AtSched, AtBlock, InBlock, may_have, frame_limit, command_limit, limit_fault, order_fault, part_after, after_order, next, after_row}
+use Rattle.xs_script.specs.LineOrder.{Stand, AtVersion, AtMachine, AtRow, AtCpus, AtQuantum, AtLarge, AtSched, AtBlock, InBlock, may_have, limit_unless, command_limit, limit_fault, order_fault, part_after, after_order, next, after_row}
 use Rattle.xs_script.specs.Head.{stage_stand}
 use Rattle.xs_script.proofs.Kept.{kept_row_error, kept_row_is, kept_fits}
 
@@ -36,11 +38,13 @@ kept_next_row rows r =
 kept_return : (command : Command) → is_return (kept_command command) ≡ is_return command
 kept_return (commands.Set reg bytes) = refl
 kept_return (commands.Poke at bytes) = refl
+kept_return (commands.Bpoke at bytes) = refl
 kept_return other = refl
 
 kept_kernel : (command : Command) → is_kernel_command (kept_command command) ≡ is_kernel_command command
 kept_kernel (commands.Set reg bytes) = refl
 kept_kernel (commands.Poke at bytes) = refl
+kept_kernel (commands.Bpoke at bytes) = refl
 kept_kernel other = refl
 
 kept_may_have : (part : BlockPart) (kind : BlockKind) (command : Command) → may_have part kind (kept_command command) ≡ may_have part kind command
@@ -52,7 +56,8 @@ kept_may_have parts.Returned kind command = refl
 
 pub kept_limit : (command : Command) → command_limit (kept_command command) ≡ command_limit command
 kept_limit (commands.Set reg bytes) = refl
-kept_limit (commands.Poke at bytes) = ap frame_limit (kept_fits at bytes)
+kept_limit (commands.Poke at bytes) = ap (limit_unless limits.Frame) (kept_fits frame_length at bytes)
+kept_limit (commands.Bpoke at bytes) = ap (limit_unless limits.Buffer) (kept_fits buffer_length at bytes)
 kept_limit other = refl
 
 kept_part : (part : BlockPart) (command : Command) → part_after part (kept_command command) ≡ part_after part command

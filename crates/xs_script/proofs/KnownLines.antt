@@ -1,95 +1,125 @@
 -- The lines of blocks, of which the second pass has what was kept.
-use Rattle.std.proofs.Common.{◌≡◌, ℕ, Bool, true, false, not, ◌&&◌, List, [], ◌∷◌, length, Some, None, refl, ◌∙◌, ap, subst}
+use Rattle.std.proofs.Common.{◌≡◌, ℕ, Bool, true, false, not, nat_le, List, [], ◌∷◌, length, Some, None, refl, ◌∙◌, ap, subst}
 use Rattle.std.specs.Prelude.{if◌then◌else◌}
 use Rattle.std.specs.List.{AllByRecursion, flat_map, list_all}
-use Rattle.xs_base.specs.Task.{frame_length}
+use Rattle.xs_base.specs.Task.{frame_length, buffer_length}
 use Rattle.xs_model.specs.declared.script.Command.{Command}
 use Rattle.xs_model.specs.declared.script.Command.TheVariants as commands
 use Rattle.xs_model.specs.declared.script.Order.{Order}
 use Rattle.xs_model.specs.declared.script.Block.{Block}
 use Rattle.xs_model.specs.Names.{forked_names}
-use Rattle.xs_model.specs.Script.{is_name, fits_register, fits_memory, is_caught, IsCommand, is_outer, is_return, is_handler, fits_kind, IsBody, IsBuiltCommand}
+use Rattle.xs_model.specs.Script.{is_name, fits_register, fits_memory, is_caught, IsCommand, is_return, is_handler, fits_kind, IsBody, IsBuiltCommand}
 use Rattle.xs_script.specs.declared.commands.Scope.{Scope}
 use Rattle.xs_script.specs.declared.refusal.Kind.{Kind}
 use Rattle.xs_script.specs.declared.refusal.Kind.TheVariants.{Repeated, UnknownName}
 use Rattle.xs_script.specs.ScriptLine.{IsLine, IsCommandLine, kept_command}
 use Rattle.xs_script.specs.Grammar.{order_lines, block_lines}
-use Rattle.xs_script.specs.LineOrder.{frame_limit, signal_limit, command_limit}
-use Rattle.xs_script.specs.Refusal.{AreLines, is_among, outer_fault, NamesOne, IsKnown, IsKnownCommand, CommandFails, Unknown, Unbuilt, Misfit, Misnamed}
+use Rattle.xs_script.specs.declared.line.Line.TheVariants as lines
+use Rattle.xs_script.specs.declared.refusal.LimitName.{LimitName}
+use Rattle.xs_script.specs.declared.refusal.LimitName.TheVariants as limits
+use Rattle.xs_script.specs.LineOrder.{limit_unless, command_limit}
+use Rattle.xs_script.specs.Before.{Before}
+use Rattle.xs_script.specs.Refusal.{AreLines, is_among, outer_fault, wait_fault, reach_fault, NamesOne, IsKnown, IsKnownCommand, CommandFails, Unknown, Unbuilt, Misfit, Misnamed}
 use Rattle.xs_script.specs.Commands.{PassesCommand}
 use Rattle.xs_script.proofs.Kept.{kept_fits, kept_whole_bytes}
 use Rattle.xs_script.proofs.CommandFaults.{kept_whole, kept_misfit}
+use Rattle.xs_script.proofs.EntryTests.{at_most}
+use Rattle.xs_script.proofs.RightLines.{IsRightLine, local_right, outer_right, fork_right}
 use Rattle.xs_script.proofs.BlockParts.{block_parts, handler_orders}
 use Rattle.xs_script.proofs.Children.{handler_local, handler_no_forks}
-
-pub and_false : (b : Bool) → (b && false) ≡ false
-and_false true = refl
-and_false false = refl
 
 -- ---- one line
 
 -- what a limit that isn't exceeded tells
-pub frame_fits : (b : Bool) → frame_limit b ≡ None → b ≡ true
-frame_fits true h = refl
-frame_fits false h = absurd (cc h)
+pub within_limit : (name : LimitName) (b : Bool) → limit_unless name b ≡ None → b ≡ true
+within_limit name true h = refl
+within_limit name false h = absurd (cc h)
 
-pub signal_fits : (b : Bool) → signal_limit b ≡ None → b ≡ true
-signal_fits true h = refl
-signal_fits false h = absurd (cc h)
-
--- what is known of a fork and of a signal with which nothing is wrong
+-- what is known of a fork, of a signal and of a stop with which nothing is wrong
 pub fork_parts : (child again inside : Bool) → (if child then (if again then Some Repeated else outer_fault inside) else Some UnknownName) ≡ None → (child ≡ true) × (again ≡ false) × (inside ≡ false)
 fork_parts true false false h = (refl, refl, refl)
 fork_parts true false true h = absurd (cc h)
 fork_parts true true inside h = absurd (cc h)
 fork_parts false again inside h = absurd (cc h)
 
-pub kill_parts : (handled inside : Bool) → (if handled then outer_fault inside else Some UnknownName) ≡ None → (handled ≡ true) × (inside ≡ false)
+kill_parts : (handled inside : Bool) → (if handled then outer_fault inside else Some UnknownName) ≡ None → (handled ≡ true) × (inside ≡ false)
 kill_parts true false h = (refl, refl)
 kill_parts true true h = absurd (cc h)
 kill_parts false inside h = absurd (cc h)
 
--- what is kept of a command with nothing wrong is the command
-pub known_command : (scope : Scope) (inside : Bool) (forked : List (List ℕ)) (command : Command) → IsCommandLine command → command_limit command ≡ None → PassesCommand scope inside forked (kept_command command) → (kept_command command ≡ command) × IsKnownCommand scope command
-known_command scope inside forked (commands.Set reg bytes) spelled limit (place, found, fits) =
-    let whole = kept_whole scope.layout reg bytes place found.here fits in
-    (ap (λ (bs : List ℕ). commands.Set reg bs) whole, ((place, found.here, subst (λ (bs : List ℕ). fits_register place bs ≡ true) whole fits, spelled.2), (place, found.here.0, found.built), tt))
-known_command scope inside forked (commands.Get reg) spelled limit (place, found) = (refl, ((place, found.here), (place, found.here.0, found.built), tt))
-known_command scope inside forked (commands.Ksec byte) spelled limit found = (refl, (spelled, tt, tt))
-known_command scope inside forked commands.Yield spelled limit found = (refl, (tt, tt, tt))
-known_command scope inside forked (commands.Peek at len) spelled limit found = (refl, (frame_fits (fits_memory frame_length at len) limit, tt, tt))
-known_command scope inside forked (commands.Poke at bytes) spelled limit found =
-    let fits = frame_fits (fits_memory frame_length at (length bytes)) limit in
-    (ap (λ (bs : List ℕ). commands.Poke at bs) (kept_whole_bytes at bytes (kept_fits at bytes ∙ fits)), ((fits, spelled.2), tt, tt))
-known_command scope inside forked commands.Sigreturn spelled limit found = (refl, (tt, tt, tt))
-known_command scope inside forked (commands.Fork name) spelled limit found = (refl, (tt, tt, (fork_parts (is_among name scope.children) (is_among name forked) inside found).0))
-known_command scope inside forked (commands.Kill name signo) spelled limit found =
-    (refl, (signal_fits (is_caught signo.number) limit, tt, (kill_parts (is_among name scope.handled) inside found).0))
-known_command scope inside forked other spelled limit found = absurd spelled
+stop_parts : (inside : Bool) → outer_fault inside ≡ None → inside ≡ false
+stop_parts true h = absurd (cc h)
+stop_parts false h = refl
 
--- and it is no outer one in a handler
-pub passes_outside : (scope : Scope) (inside : Bool) (forked : List (List ℕ)) (command : Command) → IsCommandLine command → PassesCommand scope inside forked (kept_command command) → (inside && is_outer command) ≡ false
-passes_outside scope inside forked (commands.Set reg bytes) spelled h = and_false inside
-passes_outside scope inside forked (commands.Get reg) spelled h = and_false inside
-passes_outside scope inside forked (commands.Ksec byte) spelled h = and_false inside
-passes_outside scope inside forked commands.Yield spelled h = and_false inside
-passes_outside scope inside forked (commands.Peek at len) spelled h = and_false inside
-passes_outside scope inside forked (commands.Poke at bytes) spelled h = and_false inside
-passes_outside scope inside forked commands.Sigreturn spelled h = and_false inside
-passes_outside scope inside forked (commands.Fork name) spelled h = rw (fork_parts (is_among name scope.children) (is_among name forked) inside h).2 refl
-passes_outside scope inside forked (commands.Kill name signo) spelled h = rw (kill_parts (is_among name scope.handled) inside h).1 refl
-passes_outside scope inside forked other spelled h = absurd spelled
+-- and of a wait and of a command that reaches a child
+wait_parts : (inside own : Bool) → wait_fault inside own ≡ None → (own ≡ true) × (inside ≡ false)
+wait_parts true own h = absurd (cc h)
+wait_parts false true h = (refl, refl)
+wait_parts false false h = absurd (cc h)
+
+reach_parts : (inside own awaited : Bool) → reach_fault inside own awaited ≡ None → (own ≡ true) × (awaited ≡ true) × (inside ≡ false)
+reach_parts true own awaited h = absurd (cc h)
+reach_parts false true true h = (refl, refl, refl)
+reach_parts false true false h = absurd (cc h)
+reach_parts false false awaited h = absurd (cc h)
+
+-- What is kept of a command with nothing wrong is the command, and nothing is wrong with that.
+pub known_command : (scope : Scope) (before : Before) (command : Command) → IsCommandLine command → command_limit command ≡ None → PassesCommand scope before (kept_command command) → (kept_command command ≡ command) × IsRightLine scope before (lines.Order command)
+known_command scope before (commands.Set reg bytes) spelled limit (place, found, fits) =
+    let whole = kept_whole scope.layout reg bytes place found.here fits in
+    let known : IsKnownCommand scope (commands.Set reg bytes) = ((place, found.here, subst (λ (bs : List ℕ). fits_register place bs ≡ true) whole fits, spelled.2), (place, found.here.0, found.built), tt) in
+    (ap (λ (bs : List ℕ). commands.Set reg bs) whole, local_right scope before (lines.Order (commands.Set reg bytes)) known refl refl tt)
+known_command scope before (commands.Get reg) spelled limit (place, found) = (refl, local_right scope before (lines.Order (commands.Get reg)) ((place, found.here), (place, found.here.0, found.built), tt) refl refl tt)
+known_command scope before (commands.Ksec byte) spelled limit found = (refl, local_right scope before (lines.Order (commands.Ksec byte)) (spelled, tt, tt) refl refl tt)
+known_command scope before commands.Yield spelled limit found = (refl, local_right scope before (lines.Order commands.Yield) (tt, tt, tt) refl refl tt)
+known_command scope before (commands.Peek at len) spelled limit found =
+    (refl, local_right scope before (lines.Order (commands.Peek at len)) (within_limit limits.Frame (fits_memory frame_length at len) limit, tt, tt) refl refl tt)
+known_command scope before (commands.Poke at bytes) spelled limit found =
+    let fits = within_limit limits.Frame (fits_memory frame_length at (length bytes)) limit in
+    let whole = kept_whole_bytes frame_length at bytes (kept_fits frame_length at bytes ∙ fits) in
+    (ap (λ (bs : List ℕ). commands.Poke at bs) whole, local_right scope before (lines.Order (commands.Poke at bytes)) ((fits, spelled.2), tt, tt) refl refl tt)
+known_command scope before (commands.Bpeek at len) spelled limit found =
+    (refl, local_right scope before (lines.Order (commands.Bpeek at len)) (within_limit limits.Buffer (fits_memory buffer_length at len) limit, tt, tt) refl refl tt)
+known_command scope before (commands.Bpoke at bytes) spelled limit found =
+    let fits = within_limit limits.Buffer (fits_memory buffer_length at (length bytes)) limit in
+    let whole = kept_whole_bytes buffer_length at bytes (kept_fits buffer_length at bytes ∙ fits) in
+    (ap (λ (bs : List ℕ). commands.Bpoke at bs) whole, local_right scope before (lines.Order (commands.Bpoke at bytes)) ((fits, spelled.2), tt, tt) refl refl tt)
+known_command scope before commands.Sigreturn spelled limit found = (refl, local_right scope before (lines.Order commands.Sigreturn) (tt, tt, tt) refl refl tt)
+known_command scope before (commands.Fork name) spelled limit found =
+    let parts = fork_parts (is_among name scope.children) (is_among name before.forked) before.inside found in
+    (refl, fork_right scope before name parts.0 parts.1 parts.2)
+known_command scope before (commands.Kill name signo) spelled limit found =
+    let parts = kill_parts (is_among name scope.handled) before.inside found in
+    (refl, outer_right scope before (commands.Kill name signo) (within_limit limits.Signal (is_caught signo.number) limit, tt, parts.0) refl parts.1 tt)
+known_command scope before commands.Stop spelled limit found = (refl, outer_right scope before commands.Stop (tt, tt, tt) refl (stop_parts before.inside found) tt)
+known_command scope before (commands.Wait name) spelled limit found =
+    let parts = wait_parts before.inside (before.own name) found in
+    (refl, outer_right scope before (commands.Wait name) (tt, tt, tt) refl parts.1 parts.0)
+known_command scope before (commands.Getregs name set) spelled limit found =
+    let parts = reach_parts before.inside (before.own name) (before.awaited name) found in
+    (refl, outer_right scope before (commands.Getregs name set) (tt, tt, tt) refl parts.2 (parts.0, parts.1))
+known_command scope before (commands.Setregs name set count) spelled limit found =
+    let parts = reach_parts before.inside (before.own name) (before.awaited name) found in
+    let few = at_most count buffer_length (within_limit limits.Count (nat_le count buffer_length) limit) in
+    (refl, outer_right scope before (commands.Setregs name set count) (few, tt, tt) refl parts.2 (parts.0, parts.1))
+known_command scope before (commands.Cont name) spelled limit found =
+    let parts = reach_parts before.inside (before.own name) (before.awaited name) found in
+    (refl, outer_right scope before (commands.Cont name) (tt, tt, tt) refl parts.2 (parts.0, parts.1))
+known_command scope before other spelled limit found = absurd spelled
 
 -- a command that fails by what was kept of it fails
-pub kept_fails : (scope : Scope) (inside : Bool) (forked : List (List ℕ)) (command : Command) (kind : Kind) → CommandFails scope inside forked (kept_command command) kind → CommandFails scope inside forked command kind
-kept_fails scope inside forked (commands.Set reg bytes) _ (Unknown _ word named none) = Unknown (commands.Set reg bytes) word named none
-kept_fails scope inside forked (commands.Set reg bytes) _ (Unbuilt _ word place named here unready) = Unbuilt (commands.Set reg bytes) word place named here unready
-kept_fails scope inside forked (commands.Set reg bytes) _ (Misfit _ _ place here built wrong) = Misfit reg bytes place here built (kept_misfit scope.layout reg bytes place here wrong)
-kept_fails scope inside forked (commands.Set reg bytes) _ (Misnamed _ kind why) = Misnamed (commands.Set reg bytes) kind why
-kept_fails scope inside forked (commands.Poke at bytes) _ (Unknown _ word named none) = Unknown (commands.Poke at bytes) word named none
-kept_fails scope inside forked (commands.Poke at bytes) _ (Unbuilt _ word place named here unready) = Unbuilt (commands.Poke at bytes) word place named here unready
-kept_fails scope inside forked (commands.Poke at bytes) _ (Misnamed _ kind why) = Misnamed (commands.Poke at bytes) kind why
-kept_fails scope inside forked other kind fails = fails
+pub kept_fails : (scope : Scope) (before : Before) (command : Command) (kind : Kind) → CommandFails scope before (kept_command command) kind → CommandFails scope before command kind
+kept_fails scope before (commands.Set reg bytes) _ (Unknown _ word named none) = Unknown (commands.Set reg bytes) word named none
+kept_fails scope before (commands.Set reg bytes) _ (Unbuilt _ word place named here unready) = Unbuilt (commands.Set reg bytes) word place named here unready
+kept_fails scope before (commands.Set reg bytes) _ (Misfit _ _ place here built wrong) = Misfit reg bytes place here built (kept_misfit scope.layout reg bytes place here wrong)
+kept_fails scope before (commands.Set reg bytes) _ (Misnamed _ kind why) = Misnamed (commands.Set reg bytes) kind why
+kept_fails scope before (commands.Poke at bytes) _ (Unknown _ word named none) = Unknown (commands.Poke at bytes) word named none
+kept_fails scope before (commands.Poke at bytes) _ (Unbuilt _ word place named here unready) = Unbuilt (commands.Poke at bytes) word place named here unready
+kept_fails scope before (commands.Poke at bytes) _ (Misnamed _ kind why) = Misnamed (commands.Poke at bytes) kind why
+kept_fails scope before (commands.Bpoke at bytes) _ (Unknown _ word named none) = Unknown (commands.Bpoke at bytes) word named none
+kept_fails scope before (commands.Bpoke at bytes) _ (Unbuilt _ word place named here unready) = Unbuilt (commands.Bpoke at bytes) word place named here unready
+kept_fails scope before (commands.Bpoke at bytes) _ (Misnamed _ kind why) = Misnamed (commands.Bpoke at bytes) kind why
+kept_fails scope before other kind fails = fails
 
 -- ---- lines of blocks
 

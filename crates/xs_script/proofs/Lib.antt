@@ -5,6 +5,7 @@ pub mod Lanes
 pub mod HexText
 pub mod Entries
 pub mod EntryTests
+pub mod CommandSpellings
 pub mod Spellings
 pub mod FirstLines
 pub mod FirstWords
@@ -22,6 +23,9 @@ pub mod EventBound
 pub mod ScheduleLines
 pub mod ScheduleWords
 pub mod CommandFaults
+pub mod OwnChildren
+pub mod RightLines
+pub mod Reaching
 pub mod KnownLines
 pub mod Outlines
 pub mod Numbering

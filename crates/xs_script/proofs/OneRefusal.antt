@@ -20,7 +20,8 @@ use Rattle.xs_script.specs.declared.refusal.Kind.{Kind}
 use Rattle.xs_script.specs.ScriptLine.{line_text, IsLine}
 use Rattle.xs_script.specs.Grammar.{lines_text}
 use Rattle.xs_script.specs.LineOrder.{Stand, AtVersion, AtMachine, AtRow, AtCpus, AtQuantum, AtLarge, AtSched, AtBlock, InBlock, next, may_end, after_rows, Leads}
-use Rattle.xs_script.specs.Refusal.{AreLines, first_word, is_unbuilt, unbuilt_words, table_fault, LineFails, Early, Unbuilt, Misspelled, Misplaced, Fails, Table, Here, RefusesLine, Passes, in_handler, in_handler_after, fork_of_line, forks_of, scope_of, is_outer_line, NamesOne, outer_fault, name_fault, AreOutside, IsKnown, IsKnownCommand, register_of, CommandFails, RefusesCommand}
+use Rattle.xs_script.specs.Refusal.{AreLines, first_word, is_unbuilt, unbuilt_words, table_fault, LineFails, Early, Unbuilt, Misspelled, Misplaced, Fails, Table, Here, RefusesLine, Passes, scope_of, is_outer_line, NamesOne, outer_fault, name_fault, AreOutside, ReachesOwn, LineReachesOwn, AreReaching, IsKnown, IsKnownCommand, AreKnown, register_of, CommandFails, RefusesCommand}
+use Rattle.xs_script.specs.Before.{in_handler, in_handler_after, fork_of_line, forks_of, earlier_with, earlier_after, forks_child, awaits_child, Before, told, before_of}
 use Rattle.xs_script.specs.Refusal as refusals
 use Rattle.xs_script.proofs.FirstLines.{row_begins, not_unbuilt, is_row_line}
 use Rattle.xs_script.proofs.Spellings.{one_first_line}
@@ -225,62 +226,64 @@ known_fits scope reg bytes q ((place, here, fits, bytes_are), built, child) ther
     cc (sym fits ∙ ap (λ (p : Place). fits_register p bytes) (one_place reg place q here.0 there.0) ∙ wrong)
 
 -- a command with a register names no block
-register_unnamed : (scope : Scope) (inside : Bool) (forked : List (List ℕ)) (command : Command) (reg : List ℕ) → register_of command ≡ Some reg → name_fault scope inside forked command ≡ None
-register_unnamed scope inside forked (commands.Set word bytes) reg named = refl
-register_unnamed scope inside forked (commands.Get word) reg named = refl
-register_unnamed scope inside forked other reg named = absurd (cc named)
+register_unnamed : (scope : Scope) (before : Before) (command : Command) (reg : List ℕ) → register_of command ≡ Some reg → name_fault scope before command ≡ None
+register_unnamed scope before (commands.Set word bytes) reg named = refl
+register_unnamed scope before (commands.Get word) reg named = refl
+register_unnamed scope before other reg named = absurd (cc named)
 
--- nor is a known command refused by the block that it names
-known_named : (scope : Scope) (inside : Bool) (forked : List (List ℕ)) (command : Command) → NamesOne scope command → AreDistinct (forked ++ forked_name command) → (inside && is_outer command) ≡ false → name_fault scope inside forked command ≡ None
-known_named scope inside forked (commands.Fork name) named once out = rw (named, another forked [] name once) (outside inside out)
-  where
-    outside : (inside : Bool) → (inside && true) ≡ false → outer_fault inside ≡ None
-    outside true h = absurd (cc h)
-    outside false h = refl
-known_named scope inside forked (commands.Kill name signo) named once out = rw named (outside inside out)
-  where
-    outside : (inside : Bool) → (inside && true) ≡ false → outer_fault inside ≡ None
-    outside true h = absurd (cc h)
-    outside false h = refl
-known_named scope inside forked other named once out = refl
+-- an outer command that isn't in a handler
+outside : (inside : Bool) → (inside && true) ≡ false → inside ≡ false
+outside true h = absurd (cc h)
+outside false h = refl
 
--- a known command that forks no child again, and is no outer one in a handler, doesn't fail
-pub known_not_fails : (scope : Scope) (inside : Bool) (forked : List (List ℕ)) (command : Command) (kind : Kind) → IsKnownCommand scope command → AreDistinct (forked ++ forked_name command) → (inside && is_outer command) ≡ false → CommandFails scope inside forked command kind → ⊥
-known_not_fails scope inside forked command _ known once out (refusals.Unknown _ reg named none) =
+-- nor is a command with which nothing is wrong refused by the block that it names
+right_named : (scope : Scope) (before : Before) (command : Command) → NamesOne scope command → AreDistinct (before.forked ++ forked_name command) → (before.inside && is_outer command) ≡ false → ReachesOwn before.own before.awaited command → name_fault scope before command ≡ None
+right_named scope before (commands.Fork name) named once out reaches = rw (named, another before.forked [] name once) (ap outer_fault (outside before.inside out))
+right_named scope before (commands.Kill name signo) named once out reaches = rw named (ap outer_fault (outside before.inside out))
+right_named scope before commands.Stop named once out reaches = ap outer_fault (outside before.inside out)
+right_named scope before (commands.Wait name) named once out reaches = rw (outside before.inside out, reaches) refl
+right_named scope before (commands.Getregs name set) named once out reaches = rw (outside before.inside out, reaches.0, reaches.1) refl
+right_named scope before (commands.Setregs name set count) named once out reaches = rw (outside before.inside out, reaches.0, reaches.1) refl
+right_named scope before (commands.Cont name) named once out reaches = rw (outside before.inside out, reaches.0, reaches.1) refl
+right_named scope before other named once out reaches = refl
+
+-- a known command that forks no child again, is no outer one in a handler and reaches its body's own children doesn't fail
+pub right_not_fails : (scope : Scope) (before : Before) (command : Command) (kind : Kind) → IsKnownCommand scope command → AreDistinct (before.forked ++ forked_name command) → (before.inside && is_outer command) ≡ false → ReachesOwn before.own before.awaited command → CommandFails scope before command kind → ⊥
+right_not_fails scope before command _ known once out reaches (refusals.Unknown _ reg named none) =
     let h = known_register scope command reg named known in
     none h.0 h.1
-known_not_fails scope inside forked command _ known once out (refusals.Unbuilt _ reg q named there unready) =
+right_not_fails scope before command _ known once out reaches (refusals.Unbuilt _ reg q named there unready) =
     let (place, here, built) = known_register scope command reg named known in
     cc (sym built ∙ ap is_built (one_place reg place q here.0 there.0) ∙ unready)
-known_not_fails scope inside forked _ _ known once out (refusals.Misfit reg bytes q there ready wrong) = known_fits scope reg bytes q known there wrong
-known_not_fails scope inside forked command kind known once out (refusals.Misnamed _ _ why) = cc (sym (known_named scope inside forked command known.2 once out) ∙ why)
+right_not_fails scope before _ _ known once out reaches (refusals.Misfit reg bytes q there ready wrong) = known_fits scope reg bytes q known there wrong
+right_not_fails scope before command kind known once out reaches (refusals.Misnamed _ _ why) = cc (sym (right_named scope before command known.2 once out reaches) ∙ why)
 
 -- a command fails with one kind
-one_command_cause : (scope : Scope) (inside : Bool) (forked : List (List ℕ)) (command : Command) (k j : Kind) → CommandFails scope inside forked command k → CommandFails scope inside forked command j → k ≡ j
-one_command_cause scope inside forked command _ _ (refusals.Unknown _ reg named none) (refusals.Unknown _ reg' named' none') = refl
-one_command_cause scope inside forked command _ _ (refusals.Unknown _ reg named none) (refusals.Unbuilt _ reg' q named' there unready) =
+one_command_cause : (scope : Scope) (before : Before) (command : Command) (k j : Kind) → CommandFails scope before command k → CommandFails scope before command j → k ≡ j
+one_command_cause scope before command _ _ (refusals.Unknown _ reg named none) (refusals.Unknown _ reg' named' none') = refl
+one_command_cause scope before command _ _ (refusals.Unknown _ reg named none) (refusals.Unbuilt _ reg' q named' there unready) =
     absurd (none q (subst (λ (r : List ℕ). IsRegister scope.layout r q) (one_register command reg' reg named' named) there))
-one_command_cause scope inside forked command _ _ (refusals.Unknown _ reg named none) (refusals.Misfit reg' bytes q there ready wrong) =
+one_command_cause scope before command _ _ (refusals.Unknown _ reg named none) (refusals.Misfit reg' bytes q there ready wrong) =
     absurd (none q (subst (λ (r : List ℕ). IsRegister scope.layout r q) (one_register (commands.Set reg' bytes) reg' reg refl named) there))
-one_command_cause scope inside forked command _ _ (refusals.Unknown _ reg named none) (refusals.Misnamed _ kind why) = absurd (cc (sym (register_unnamed scope inside forked command reg named) ∙ why))
-one_command_cause scope inside forked command _ _ (refusals.Unbuilt _ reg p named here unready) (refusals.Unknown _ reg' named' none) =
+one_command_cause scope before command _ _ (refusals.Unknown _ reg named none) (refusals.Misnamed _ kind why) = absurd (cc (sym (register_unnamed scope before command reg named) ∙ why))
+one_command_cause scope before command _ _ (refusals.Unbuilt _ reg p named here unready) (refusals.Unknown _ reg' named' none) =
     absurd (none p (subst (λ (r : List ℕ). IsRegister scope.layout r p) (one_register command reg reg' named named') here))
-one_command_cause scope inside forked command _ _ (refusals.Unbuilt _ reg p named here unready) (refusals.Unbuilt _ reg' q named' there unready') = refl
-one_command_cause scope inside forked command _ _ (refusals.Unbuilt _ reg p named here unready) (refusals.Misfit reg' bytes q there ready wrong) =
+one_command_cause scope before command _ _ (refusals.Unbuilt _ reg p named here unready) (refusals.Unbuilt _ reg' q named' there unready') = refl
+one_command_cause scope before command _ _ (refusals.Unbuilt _ reg p named here unready) (refusals.Misfit reg' bytes q there ready wrong) =
     let same = same_place scope.layout (commands.Set reg' bytes) reg reg' p q named refl here there in
     absurd (cc (sym ready ∙ ap is_built (sym same) ∙ unready))
-one_command_cause scope inside forked command _ _ (refusals.Unbuilt _ reg p named here unready) (refusals.Misnamed _ kind why) = absurd (cc (sym (register_unnamed scope inside forked command reg named) ∙ why))
-one_command_cause scope inside forked command _ _ (refusals.Misfit reg bytes p here ready wrong) (refusals.Unknown _ reg' named' none) =
+one_command_cause scope before command _ _ (refusals.Unbuilt _ reg p named here unready) (refusals.Misnamed _ kind why) = absurd (cc (sym (register_unnamed scope before command reg named) ∙ why))
+one_command_cause scope before command _ _ (refusals.Misfit reg bytes p here ready wrong) (refusals.Unknown _ reg' named' none) =
     absurd (none p (subst (λ (r : List ℕ). IsRegister scope.layout r p) (one_register (commands.Set reg bytes) reg reg' refl named') here))
-one_command_cause scope inside forked command _ _ (refusals.Misfit reg bytes p here ready wrong) (refusals.Unbuilt _ reg' q named' there unready) =
+one_command_cause scope before command _ _ (refusals.Misfit reg bytes p here ready wrong) (refusals.Unbuilt _ reg' q named' there unready) =
     let same = same_place scope.layout (commands.Set reg bytes) reg reg' p q refl named' here there in
     absurd (cc (sym ready ∙ ap is_built same ∙ unready))
-one_command_cause scope inside forked command _ _ (refusals.Misfit reg bytes p here ready wrong) (refusals.Misfit _ _ q there ready' wrong') = refl
-one_command_cause scope inside forked command _ _ (refusals.Misfit reg bytes p here ready wrong) (refusals.Misnamed _ kind why) = absurd (cc why)
-one_command_cause scope inside forked command _ _ (refusals.Misnamed _ kind why) (refusals.Unknown _ reg named none) = absurd (cc (sym (register_unnamed scope inside forked command reg named) ∙ why))
-one_command_cause scope inside forked command _ _ (refusals.Misnamed _ kind why) (refusals.Unbuilt _ reg p named here unready) = absurd (cc (sym (register_unnamed scope inside forked command reg named) ∙ why))
-one_command_cause scope inside forked command _ _ (refusals.Misnamed _ kind why) (refusals.Misfit reg bytes p here ready wrong) = absurd (cc why)
-one_command_cause scope inside forked command _ _ (refusals.Misnamed _ kind why) (refusals.Misnamed _ other why') = cc (sym why ∙ why')
+one_command_cause scope before command _ _ (refusals.Misfit reg bytes p here ready wrong) (refusals.Misfit _ _ q there ready' wrong') = refl
+one_command_cause scope before command _ _ (refusals.Misfit reg bytes p here ready wrong) (refusals.Misnamed _ kind why) = absurd (cc why)
+one_command_cause scope before command _ _ (refusals.Misnamed _ kind why) (refusals.Unknown _ reg named none) = absurd (cc (sym (register_unnamed scope before command reg named) ∙ why))
+one_command_cause scope before command _ _ (refusals.Misnamed _ kind why) (refusals.Unbuilt _ reg p named here unready) = absurd (cc (sym (register_unnamed scope before command reg named) ∙ why))
+one_command_cause scope before command _ _ (refusals.Misnamed _ kind why) (refusals.Misfit reg bytes p here ready wrong) = absurd (cc why)
+one_command_cause scope before command _ _ (refusals.Misnamed _ kind why) (refusals.Misnamed _ other why') = cc (sym why ∙ why')
 
 -- where lines fork no child again, the first of them doesn't
 first_once : (forked : List (List ℕ)) (l : Line) (ls : List Line) (command : Command) → l ≡ lines.Order command → AreDistinct (forked ++ forks_of (l ∷ ls)) → AreDistinct (forked ++ forked_name command)
@@ -288,30 +291,73 @@ first_once forked l ls command same h =
     let here : forks_of (l ∷ ls) ≡ forked_name command ++ forks_of ls = ap (λ (x : Line). fork_of_line x ++ forks_of ls) same in
     distinct_front (forked ++ forked_name command) (forks_of ls) (subst AreDistinct (ap (λ (names : List (List ℕ)). forked ++ names) here ∙ sym (append_assoc forked (forked_name command) (forks_of ls))) h)
 
--- among lines the first command that fails is one
-first_command : (scope : Scope) (inside : Bool) (forked : List (List ℕ)) (a b la lb : List Line) (c d : Command) (k j : Kind) → a ++ lines.Order c ∷ la ≡ b ++ lines.Order d ∷ lb → AllByRecursion (IsKnown scope) a → AllByRecursion (IsKnown scope) b → AreDistinct (forked ++ forks_of a) → AreDistinct (forked ++ forks_of b) → AreOutside inside a → AreOutside inside b → CommandFails scope (in_handler_after inside a) (forked ++ forks_of a) c k → CommandFails scope (in_handler_after inside b) (forked ++ forks_of b) d j → (length a ≡ length b) × (k ≡ j)
-first_command scope inside forked [] [] la lb c d k j e ha hb oa ob ia ib fc fd =
-    let same : d ≡ c = cc e in
-    (refl, one_command_cause scope inside (forked ++ []) c k j fc (subst (λ (x : Command). CommandFails scope inside (forked ++ []) x j) same fd))
-first_command scope inside forked [] (l ∷ b) la lb c d k j e ha hb oa ob ia ib fc fd =
-    let same : l ≡ lines.Order c = cc e in
-    absurd (known_not_fails scope inside forked c k (subst (IsKnown scope) same hb.0) (first_once forked l b c same ob) (ap (λ (x : Line). inside && is_outer_line x) (sym same) ∙ ib.0) (subst (λ (names : List (List ℕ)). CommandFails scope inside names c k) (append-nil forked) fc))
-first_command scope inside forked (l ∷ a) [] la lb c d k j e ha hb oa ob ia ib fc fd =
-    let same : l ≡ lines.Order d = cc e in
-    absurd (known_not_fails scope inside forked d j (subst (IsKnown scope) same ha.0) (first_once forked l a d same oa) (ap (λ (x : Line). inside && is_outer_line x) (sym same) ∙ ia.0) (subst (λ (names : List (List ℕ)). CommandFails scope inside names d j) (append-nil forked) fd))
-first_command scope inside forked (l ∷ a) (l' ∷ b) la lb c d k j e ha hb oa ob ia ib fc fd =
-    let same : l' ≡ l = cc e in
-    let rest : a ++ lines.Order c ∷ la ≡ b ++ lines.Order d ∷ lb = cc e in
-    let more = forked ++ fork_of_line l in
-    let next = in_handler inside l in
-    let mine : forked ++ forks_of (l ∷ a) ≡ more ++ forks_of a = sym (append_assoc forked (fork_of_line l) (forks_of a)) in
-    let yours : forked ++ forks_of (l' ∷ b) ≡ more ++ forks_of b = ap (λ (x : Line). forked ++ (fork_of_line x ++ forks_of b)) same ∙ sym (append_assoc forked (fork_of_line l) (forks_of b)) in
-    let ended : in_handler inside l' ≡ next = ap (in_handler inside) same in
-    let failed = subst (λ (t : Bool). CommandFails scope (in_handler_after t b) (forked ++ forks_of (l' ∷ b)) d j) ended fd in
-    let r = first_command scope next more a b la lb c d k j rest ha.1 hb.1 (subst AreDistinct mine oa) (subst AreDistinct yours ob) ia.1 (subst (λ (t : Bool). AreOutside t b) ended ib.1)
-    (subst (λ (names : List (List ℕ)). CommandFails scope (in_handler_after next a) names c k) mine fc)
-    (subst (λ (names : List (List ℕ)). CommandFails scope (in_handler_after next b) names d j) yours failed) in
-    (omega (arith, r.0), r.1)
+-- Nothing is wrong with these lines, which follow others that leave a reader in a handler or not, fork children, and have
+-- these commands in the open body.
+record AreRight (scope : Scope) (inside : Bool) (forked : List (List ℕ)) (earlier : List Command) (ls : List Line) : Type 0 where
+  each : AllByRecursion (IsKnown scope) ls
+  once : AreDistinct (forked ++ forks_of ls)
+  outside : AreOutside inside ls
+  reaching : AreReaching earlier ls
+
+-- what they tell
+abbrev told_after : Bool → List (List ℕ) → List Command → List Line → Before
+told_after inside forked earlier ls = told (in_handler_after inside ls) (forked ++ forks_of ls) (earlier_after earlier ls)
+
+module _ (scope : Scope) where
+  -- the lines after the first
+  right_rest : (inside : Bool) (forked : List (List ℕ)) (earlier : List Command) (l : Line) (ls : List Line) → AreRight scope inside forked earlier (l ∷ ls) → AreRight scope (in_handler inside l) (forked ++ fork_of_line l) (earlier_with earlier l) ls
+  right_rest inside forked earlier l ls h = record {
+    each = h.each.1;
+    once = subst AreDistinct (sym (append_assoc forked (fork_of_line l) (forks_of ls))) h.once;
+    outside = h.outside.1;
+    reaching = h.reaching.1;
+  }
+
+  rest_tells : (inside : Bool) (forked : List (List ℕ)) (earlier : List Command) (l : Line) (ls : List Line) → told_after inside forked earlier (l ∷ ls) ≡ told_after (in_handler inside l) (forked ++ fork_of_line l) (earlier_with earlier l) ls
+  rest_tells inside forked earlier l ls =
+      ap (λ (names : List (List ℕ)). told (in_handler_after (in_handler inside l) ls) names (earlier_after (earlier_with earlier l) ls)) (sym (append_assoc forked (fork_of_line l) (forks_of ls)))
+
+  -- the first of them doesn't fail
+  first_right : (inside : Bool) (forked : List (List ℕ)) (earlier : List Command) (l : Line) (ls : List Line) (c : Command) (k : Kind) → l ≡ lines.Order c → AreRight scope inside forked earlier (l ∷ ls) → CommandFails scope (told_after inside forked earlier []) c k → ⊥
+  first_right inside forked earlier l ls c k same h fails =
+      right_not_fails scope (told inside forked earlier) c k (subst (IsKnown scope) same h.each.0) (first_once forked l ls c same h.once)
+      (ap (λ (x : Line). inside && is_outer_line x) (sym same) ∙ h.outside.0) (subst (LineReachesOwn (forks_child earlier) (awaits_child earlier)) same h.reaching.0)
+      (subst (λ (names : List (List ℕ)). CommandFails scope (told inside names earlier) c k) (append-nil forked) fails)
+
+  -- among lines the first command that fails is one
+  first_command : (inside : Bool) (forked : List (List ℕ)) (earlier : List Command) (a b la lb : List Line) (c d : Command) (k j : Kind) → a ++ lines.Order c ∷ la ≡ b ++ lines.Order d ∷ lb → AreRight scope inside forked earlier a → AreRight scope inside forked earlier b → CommandFails scope (told_after inside forked earlier a) c k → CommandFails scope (told_after inside forked earlier b) d j → (length a ≡ length b) × (k ≡ j)
+  first_command inside forked earlier [] [] la lb c d k j e ha hb fc fd =
+      let same : d ≡ c = cc e in
+      (refl, one_command_cause scope (told_after inside forked earlier []) c k j fc (subst (λ (x : Command). CommandFails scope (told_after inside forked earlier []) x j) same fd))
+  first_command inside forked earlier [] (l ∷ b) la lb c d k j e ha hb fc fd =
+      let same : l ≡ lines.Order c = cc e in
+      absurd (first_right inside forked earlier l b c k same hb fc)
+  first_command inside forked earlier (l ∷ a) [] la lb c d k j e ha hb fc fd =
+      let same : l ≡ lines.Order d = cc e in
+      absurd (first_right inside forked earlier l a d j same ha fd)
+  first_command inside forked earlier (l ∷ a) (m ∷ b) la lb c d k j e ha hb fc fd =
+      let same : m ≡ l = cc e in
+      let rest : a ++ lines.Order c ∷ la ≡ b ++ lines.Order d ∷ lb = cc e in
+      let right = subst (λ (x : Line). AreRight scope inside forked earlier (x ∷ b)) same hb in
+      let failed = subst (λ (x : Line). CommandFails scope (told_after inside forked earlier (x ∷ b)) d j) same fd in
+      let r = first_command (in_handler inside l) (forked ++ fork_of_line l) (earlier_with earlier l) a b la lb c d k j rest
+      (right_rest inside forked earlier l a ha) (right_rest inside forked earlier l b right)
+      (subst (λ (x : Before). CommandFails scope x c k) (rest_tells inside forked earlier l a) fc)
+      (subst (λ (x : Before). CommandFails scope x d j) (rest_tells inside forked earlier l b) failed) in
+      (omega (arith, r.0), r.1)
+
+  -- lines in which nothing is wrong have no such command
+  right_not_refused : (inside : Bool) (forked : List (List ℕ)) (earlier : List Command) (a later : List Line) (c : Command) (k : Kind) → AreRight scope inside forked earlier (a ++ lines.Order c ∷ later) → CommandFails scope (told_after inside forked earlier a) c k → ⊥
+  right_not_refused inside forked earlier [] later c k h fails = first_right inside forked earlier (lines.Order c) later c k refl h fails
+  right_not_refused inside forked earlier (l ∷ a) later c k h fails =
+      right_not_refused (in_handler inside l) (forked ++ fork_of_line l) (earlier_with earlier l) a later c k (right_rest inside forked earlier l (a ++ lines.Order c ∷ later) h)
+      (subst (λ (x : Before). CommandFails scope x c k) (rest_tells inside forked earlier l a) fails)
+
+  known_right : (ls : List Line) → AreKnown scope ls → AreRight scope false [] [] ls
+  known_right ls h = record { each = h.each; once = h.once; outside = h.outside; reaching = h.reaching }
+
+  pub known_not_refused : (a later : List Line) (c : Command) (k : Kind) → AreKnown scope (a ++ lines.Order c ∷ later) → CommandFails scope (before_of a) c k → ⊥
+  known_not_refused a later c k h fails = right_not_refused false [] [] a later c k (known_right (a ++ lines.Order c ∷ later) h) fails
 
 pub one_command_refusal : (text : List ℕ) (m n : ℕ) (k j : Kind) → RefusesCommand text m k → RefusesCommand text n j → (m ≡ n) × (k ≡ j)
 one_command_refusal text m n k j r s =
@@ -319,19 +365,7 @@ one_command_refusal text m n k j r s =
     let yours = s.done ++ lines.Order s.command ∷ s.later in
     let same : mine ≡ yours = one_lines mine yours r.passes.lines_fit s.passes.lines_fit (sym r.passes.spelled ∙ s.passes.spelled) in
     let scope : scope_of yours ≡ scope_of mine = ap scope_of (sym same) in
-    let known = subst (λ (x : Scope). AllByRecursion (IsKnown x) s.done) scope s.known.each in
-    let fails = subst (λ (x : Scope). CommandFails x (in_handler_after false s.done) (forks_of s.done) s.command j) scope s.fails in
-    let first = first_command (scope_of mine) false [] r.done s.done r.later s.later r.command s.command k j same r.known.each known r.known.once s.known.once r.known.outside s.known.outside r.fails fails in
+    let known = subst (λ (x : Scope). AreKnown x s.done) scope s.known in
+    let fails = subst (λ (x : Scope). CommandFails x (before_of s.done) s.command j) scope s.fails in
+    let first = first_command (scope_of mine) false [] [] r.done s.done r.later s.later r.command s.command k j same (known_right (scope_of mine) r.done r.known) (known_right (scope_of mine) s.done known) r.fails fails in
     (omega (arith, r.number_is, s.number_is, first.0), first.1)
-
--- lines in which nothing is wrong have no such command
-pub known_not_refused : (scope : Scope) (inside : Bool) (forked : List (List ℕ)) (a later : List Line) (c : Command) (k : Kind) → AllByRecursion (IsKnown scope) (a ++ lines.Order c ∷ later) → AreDistinct (forked ++ forks_of (a ++ lines.Order c ∷ later)) → AreOutside inside (a ++ lines.Order c ∷ later) → CommandFails scope (in_handler_after inside a) (forked ++ forks_of a) c k → ⊥
-known_not_refused scope inside forked [] later c k known once out fails =
-    known_not_fails scope inside forked c k known.0 (first_once forked (lines.Order c) later c refl once) out.0 (subst (λ (names : List (List ℕ)). CommandFails scope inside names c k) (append-nil forked) fails)
-known_not_refused scope inside forked (l ∷ a) later c k known once out fails =
-    let more = forked ++ fork_of_line l in
-    let ls = a ++ lines.Order c ∷ later in
-    let all : forked ++ (fork_of_line l ++ forks_of ls) ≡ more ++ forks_of ls = sym (append_assoc forked (fork_of_line l) (forks_of ls)) in
-    let mine : forked ++ (fork_of_line l ++ forks_of a) ≡ more ++ forks_of a = sym (append_assoc forked (fork_of_line l) (forks_of a)) in
-    known_not_refused scope (in_handler inside l) more a later c k known.1 (subst AreDistinct all once) out.1
-    (subst (λ (names : List (List ℕ)). CommandFails scope (in_handler_after (in_handler inside l) a) names c k) mine fails)

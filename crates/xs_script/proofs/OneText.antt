@@ -1,15 +1,13 @@
 -- A text spells one script, or has one refusal.
-use Rattle.std.proofs.Common.{◌≡◌, ℕ, ◌≤◌, false, List, [], ◌∷◌, ◌++◌, length, sym, ◌∙◌, ap, subst, arith}
-use Rattle.std.specs.List.{AllByRecursion}
+use Rattle.std.proofs.Common.{◌≡◌, ℕ, ◌≤◌, List, ◌∷◌, ◌++◌, length, sym, ◌∙◌, ap, subst, arith}
 use Rattle.xs_model.specs.declared.script.Script.{Script}
 use Rattle.xs_model.specs.Bound.{most_events}
-use Rattle.xs_model.specs.Script.{AreDistinct}
 use Rattle.xs_script.specs.declared.line.Line.{Line}
 use Rattle.xs_script.specs.declared.line.Line.TheVariants as lines
 use Rattle.xs_script.specs.declared.refusal.Kind.{Kind}
 use Rattle.xs_script.specs.declared.refusal.Kind.TheVariants.{TooMuch}
 use Rattle.xs_script.specs.Grammar.{script_lines, Spells}
-use Rattle.xs_script.specs.Refusal.{scope_of, forks_of, IsKnown, AreOutside, RefusesCommand, RefusesEvents, IsScriptOf, Refuses, ByLine, ByCommand, ByEvents}
+use Rattle.xs_script.specs.Refusal.{scope_of, AreKnown, RefusesCommand, RefusesEvents, IsScriptOf, Refuses, ByLine, ByCommand, ByEvents}
 use Rattle.xs_script.proofs.OneRefusal.{one_lines, one_line_refusal, passes_not_refused, known_not_refused, one_command_refusal}
 use Rattle.xs_script.proofs.SpelledLines.{spelled_read}
 use Rattle.xs_script.proofs.OneScript.{one_script_of}
@@ -21,8 +19,8 @@ script_no_command text script number kind h r =
     let lined = script_lines script h.groups in
     let mine = r.done ++ lines.Order r.command ∷ r.later in
     let same : lined ≡ mine = one_lines lined mine h.passes.lines_fit r.passes.lines_fit (sym h.passes.spelled ∙ r.passes.spelled) in
-    let known = subst (λ (ls : List Line). AllByRecursion (IsKnown (scope_of ls)) ls) same h.known.each in
-    known_not_refused (scope_of mine) false [] r.done r.later r.command kind known (subst (λ (ls : List Line). AreDistinct (forks_of ls)) same h.known.once) (subst (AreOutside false) same h.known.outside) r.fails
+    let known = subst (λ (ls : List Line). AreKnown (scope_of ls) ls) same h.known in
+    known_not_refused (scope_of mine) r.done r.later r.command kind known r.fails
 
 -- nor is it by a line, or by its events where they are few enough
 script_not_events : (text : List ℕ) (script : Script) (number : ℕ) (kind : Kind) → IsScriptOf text script → most_events script ≤ 1048576 → RefusesEvents text number kind → ⊥

@@ -9,16 +9,17 @@ use Rattle.std.proofs.lemmas.Slice.Eq.{slice_eq-Decides}
 use Rattle.hex.specs.Hex.{encode_lower, lower_digits}
 use Rattle.hex.proofs.HexLemmas.{length-encode_with}
 use Rattle.xs_base.specs.declared.component.Row.{Row}
+use Rattle.xs_base.specs.declared.words.Set.{Set}
 use Rattle.xs_base.specs.Layout.{row}
 use Rattle.xs_model.specs.declared.script.Command.TheVariants as commands
 use Rattle.xs_model.specs.Script.{is_name}
 use Rattle.xs_script.specs.declared.line.Line.{Line}
 use Rattle.xs_script.specs.declared.line.Line.TheVariants as lines
-use Rattle.xs_script.specs.ScriptLine.{line_text, IsLine, IsNumber, row_text, kept_bytes, kept_line, is_register_word}
+use Rattle.xs_script.specs.ScriptLine.{set_word, line_text, IsLine, IsNumber, row_text, kept_bytes, kept_line, is_register_word}
 use Rattle.xs_script.specs.Reads.{ReadsAs, Lacks}
 use Rattle.xs_script.specs.Refusal.{NoLine}
-use Rattle.xs_script.specs.Parts.{IsValue, IsSpelledBy, is_lower_digit, digit_value, is_hex_text, IsPlainLine, IsBlockLine, IsSignalLine, IsHeadLine, IsKillLine, NoPlainLine}
-use Rattle.xs_script.proofs.Cuts.{one_cut, no_cut, Lacks-name, Lacks-register}
+use Rattle.xs_script.specs.Parts.{IsValue, IsSpelledBy, is_lower_digit, digit_value, is_hex_text, IsPlainLine, IsBlockLine, IsSignalLine, IsTraceLine, IsHeadLine, IsKillLine, NoPlainLine}
+use Rattle.xs_script.proofs.Cuts.{one_cut, no_cut, Lacks-name, Lacks-register, Lacks-set}
 use Rattle.xs_script.proofs.HexText.{AreDecoded, decoded, hex_text, hex_text_bytes}
 use Rattle.xs_script.proofs.Kept.{kept_same_bytes, kept_long}
 use Rattle.xs_script.proofs.Entries.{lacks_space, one_pair}
@@ -97,6 +98,20 @@ flag_words words w v u n m o r fn cut fm again fo once fits spelled = next_words
 pub row_joined : (words w v u : List ℕ) (n m o f : ℕ) → words ≡ decimal n ++ 32 ∷ w → w ≡ decimal m ++ 32 ∷ v → v ≡ decimal o ++ 32 ∷ u → u ≡ decimal f → words ≡ row_text (row n m o f)
 row_joined words w v u n m o f b c d e = cc
 
+-- no name of a block stands before the first space, or no word of a register set
+pub no_name : (words front rest : List ℕ) → words ≡ front ++ 32 ∷ rest → Lacks 32 front → ((name : List ℕ) → is_name name ≡ true → front ≡ name → ⊥) → (name more : List ℕ) → is_name name ≡ true → words ≡ name ++ 32 ∷ more → ⊥
+no_name words front rest cut lacks none name more fits e = none name fits (one_cut 32 front name rest more lacks (Lacks-name 32 name refl refl fits) (sym cut ∙ e)).0
+
+pub no_set_word : (words front rest : List ℕ) → words ≡ front ++ 32 ∷ rest → Lacks 32 front → ((set : Set) → Unit {0} → front ≡ set_word set → ⊥) → (set : Set) (more : List ℕ) → words ≡ set_word set ++ 32 ∷ more → ⊥
+no_set_word words front rest cut lacks none set more e = none set tt (one_cut 32 front (set_word set) rest more lacks (Lacks-set 32 set refl refl) (sym cut ∙ e)).0
+
+-- the words after a name, and after a register set
+pub after_name : (a b words x y : List ℕ) → is_name a ≡ true → is_name b ≡ true → words ≡ a ++ 32 ∷ x → words ≡ b ++ 32 ∷ y → x ≡ y
+after_name a b words x y fa fb e spelled = (one_cut 32 a b x y (Lacks-name 32 a refl refl fa) (Lacks-name 32 b refl refl fb) (sym e ∙ spelled)).1
+
+pub after_set : (a b : Set) (words x y : List ℕ) → words ≡ set_word a ++ 32 ∷ x → words ≡ set_word b ++ 32 ∷ y → x ≡ y
+after_set a b words x y e spelled = (one_cut 32 (set_word a) (set_word b) x y (Lacks-set 32 a refl refl) (Lacks-set 32 b refl refl) (sym e ∙ spelled)).1
+
 -- the register and the digits of a command that sets
 pub set_parts : (words reg digits name bytes : List ℕ) → words ≡ reg ++ 32 ∷ digits → Lacks 32 reg → is_register_word name ≡ true → words ≡ name ++ 32 ∷ encode_lower bytes → (reg ≡ name) × (digits ≡ encode_lower bytes)
 set_parts words reg digits name bytes cut lacks fits spelled =
@@ -169,6 +184,16 @@ signal_is_plain (lines.NoSignal name number) fits = fits
 signal_is_plain lines.Handler fits = fits
 signal_is_plain l fits = absurd fits
 
+pub trace_is_plain : (l : Line) → IsTraceLine l → IsPlainLine l
+trace_is_plain (lines.Order (commands.Bpeek at len)) fits = fits
+trace_is_plain (lines.Order (commands.Bpoke at bytes)) fits = fits
+trace_is_plain (lines.Order commands.Stop) fits = fits
+trace_is_plain (lines.Order (commands.Wait name)) fits = fits
+trace_is_plain (lines.Order (commands.Getregs name set)) fits = fits
+trace_is_plain (lines.Order (commands.Setregs name set count)) fits = fits
+trace_is_plain (lines.Order (commands.Cont name)) fits = fits
+trace_is_plain l fits = absurd fits
+
 head_is_plain : (l : Line) → IsHeadLine l → IsPlainLine l
 head_is_plain lines.Version fits = fits
 head_is_plain (lines.Machine named) fits = fits
@@ -178,33 +203,40 @@ head_is_plain (lines.Quantum n) fits = fits
 head_is_plain (lines.Large n) fits = fits
 head_is_plain l fits = absurd fits
 
-no_other : (bytes : List ℕ) (l : Line) → ((l : Line) → IsBlockLine l → bytes ≡ line_text l → ⊥) → ((l : Line) → IsSignalLine l → bytes ≡ line_text l → ⊥) → ((l : Line) → IsHeadLine l → bytes ≡ line_text l → ⊥) → IsPlainLine l → bytes ≡ line_text l → ⊥
-no_other bytes (lines.Sched entries) block signal head fits e = absurd fits
-no_other bytes (lines.Begin kind name) block signal head fits e = block (lines.Begin kind name) fits e
-no_other bytes (lines.Order (commands.Set reg value)) block signal head fits e = block (lines.Order (commands.Set reg value)) fits e
-no_other bytes (lines.Order (commands.Get reg)) block signal head fits e = block (lines.Order (commands.Get reg)) fits e
-no_other bytes (lines.Order (commands.Ksec byte)) block signal head fits e = block (lines.Order (commands.Ksec byte)) fits e
-no_other bytes (lines.Order commands.Yield) block signal head fits e = block (lines.Order commands.Yield) fits e
-no_other bytes (lines.Order (commands.Fork name)) block signal head fits e = block (lines.Order (commands.Fork name)) fits e
-no_other bytes (lines.Order (commands.Peek at len)) block signal head fits e = signal (lines.Order (commands.Peek at len)) fits e
-no_other bytes (lines.Order (commands.Poke at value)) block signal head fits e = signal (lines.Order (commands.Poke at value)) fits e
-no_other bytes (lines.Order commands.Sigreturn) block signal head fits e = signal (lines.Order commands.Sigreturn) fits e
-no_other bytes (lines.Order (commands.Kill name signo)) block signal head fits e = signal (lines.Order (commands.Kill name signo)) fits e
-no_other bytes (lines.Order other) block signal head fits e = absurd fits
-no_other bytes (lines.NoSignal name number) block signal head fits e = signal (lines.NoSignal name number) fits e
-no_other bytes lines.Handler block signal head fits e = signal lines.Handler fits e
-no_other bytes lines.End block signal head fits e = block lines.End fits e
-no_other bytes lines.Version block signal head fits e = head lines.Version fits e
-no_other bytes (lines.Machine named) block signal head fits e = head (lines.Machine named) fits e
-no_other bytes (lines.Row r) block signal head fits e = head (lines.Row r) fits e
-no_other bytes (lines.Cpus n) block signal head fits e = head (lines.Cpus n) fits e
-no_other bytes (lines.Quantum n) block signal head fits e = head (lines.Quantum n) fits e
-no_other bytes (lines.Large n) block signal head fits e = head (lines.Large n) fits e
+no_other : (bytes : List ℕ) (l : Line) → ((l : Line) → IsBlockLine l → bytes ≡ line_text l → ⊥) → ((l : Line) → IsSignalLine l → bytes ≡ line_text l → ⊥) → ((l : Line) → IsTraceLine l → bytes ≡ line_text l → ⊥) → ((l : Line) → IsHeadLine l → bytes ≡ line_text l → ⊥) → IsPlainLine l → bytes ≡ line_text l → ⊥
+no_other bytes (lines.Sched entries) block signal trace head fits e = absurd fits
+no_other bytes (lines.Begin kind name) block signal trace head fits e = block (lines.Begin kind name) fits e
+no_other bytes (lines.Order (commands.Set reg value)) block signal trace head fits e = block (lines.Order (commands.Set reg value)) fits e
+no_other bytes (lines.Order (commands.Get reg)) block signal trace head fits e = block (lines.Order (commands.Get reg)) fits e
+no_other bytes (lines.Order (commands.Ksec byte)) block signal trace head fits e = block (lines.Order (commands.Ksec byte)) fits e
+no_other bytes (lines.Order commands.Yield) block signal trace head fits e = block (lines.Order commands.Yield) fits e
+no_other bytes (lines.Order (commands.Fork name)) block signal trace head fits e = block (lines.Order (commands.Fork name)) fits e
+no_other bytes (lines.Order (commands.Peek at len)) block signal trace head fits e = signal (lines.Order (commands.Peek at len)) fits e
+no_other bytes (lines.Order (commands.Poke at value)) block signal trace head fits e = signal (lines.Order (commands.Poke at value)) fits e
+no_other bytes (lines.Order commands.Sigreturn) block signal trace head fits e = signal (lines.Order commands.Sigreturn) fits e
+no_other bytes (lines.Order (commands.Kill name signo)) block signal trace head fits e = signal (lines.Order (commands.Kill name signo)) fits e
+no_other bytes (lines.Order (commands.Bpeek at len)) block signal trace head fits e = trace (lines.Order (commands.Bpeek at len)) fits e
+no_other bytes (lines.Order (commands.Bpoke at value)) block signal trace head fits e = trace (lines.Order (commands.Bpoke at value)) fits e
+no_other bytes (lines.Order commands.Stop) block signal trace head fits e = trace (lines.Order commands.Stop) fits e
+no_other bytes (lines.Order (commands.Wait name)) block signal trace head fits e = trace (lines.Order (commands.Wait name)) fits e
+no_other bytes (lines.Order (commands.Getregs name set)) block signal trace head fits e = trace (lines.Order (commands.Getregs name set)) fits e
+no_other bytes (lines.Order (commands.Setregs name set count)) block signal trace head fits e = trace (lines.Order (commands.Setregs name set count)) fits e
+no_other bytes (lines.Order (commands.Cont name)) block signal trace head fits e = trace (lines.Order (commands.Cont name)) fits e
+no_other bytes (lines.Order other) block signal trace head fits e = absurd fits
+no_other bytes (lines.NoSignal name number) block signal trace head fits e = signal (lines.NoSignal name number) fits e
+no_other bytes lines.Handler block signal trace head fits e = signal lines.Handler fits e
+no_other bytes lines.End block signal trace head fits e = block lines.End fits e
+no_other bytes lines.Version block signal trace head fits e = head lines.Version fits e
+no_other bytes (lines.Machine named) block signal trace head fits e = head (lines.Machine named) fits e
+no_other bytes (lines.Row r) block signal trace head fits e = head (lines.Row r) fits e
+no_other bytes (lines.Cpus n) block signal trace head fits e = head (lines.Cpus n) fits e
+no_other bytes (lines.Quantum n) block signal trace head fits e = head (lines.Quantum n) fits e
+no_other bytes (lines.Large n) block signal trace head fits e = head (lines.Large n) fits e
 
 -- what isn't read as a line of a block is read as one before the schedule, if it is one
-pub reads_either : (bytes : List ℕ) (r : Option Line) → ((l : Line) → IsBlockLine l → bytes ≡ line_text l → ⊥) → ((l : Line) → IsSignalLine l → bytes ≡ line_text l → ⊥) → ReadsAs line_text IsHeadLine kept_line r bytes → ReadsAs line_text IsPlainLine kept_line r bytes
-reads_either bytes None block signal head = λ l fits e. no_other bytes l block signal head fits e
-reads_either bytes (Some l) block signal head = (head.0, head_is_plain head.0 head.1, head.2, head.3)
+pub reads_either : (bytes : List ℕ) (r : Option Line) → ((l : Line) → IsBlockLine l → bytes ≡ line_text l → ⊥) → ((l : Line) → IsSignalLine l → bytes ≡ line_text l → ⊥) → ((l : Line) → IsTraceLine l → bytes ≡ line_text l → ⊥) → ReadsAs line_text IsHeadLine kept_line r bytes → ReadsAs line_text IsPlainLine kept_line r bytes
+reads_either bytes None block signal trace head = λ l fits e. no_other bytes l block signal trace head fits e
+reads_either bytes (Some l) block signal trace head = (head.0, head_is_plain head.0 head.1, head.2, head.3)
 
 -- such lines among them
 pub no_plain_line : (text : List ℕ) → Lacks 10 text → NoPlainLine text

@@ -19,7 +19,7 @@ use Rattle.xs_script.specs.Refusal.{LineFails, Early, Unbuilt, Misspelled, Mispl
 use Rattle.xs_script.specs.Front.{IsFront, RefusesFrom, ExplainsFrom}
 use Rattle.xs_script.specs.Schedule.{NoSched, AreEntries, TakesWords, WordsFail, NoEntries, OverLimit, ExplainsWords, AreSchedLines, IsScheduleOf}
 use Rattle.xs_script.proofs.Cuts.{Lacks-append, no_cut}
-use Rattle.xs_script.proofs.Spellings.{lacks_word}
+use Rattle.xs_script.proofs.CommandSpellings.{lacks_word}
 use Rattle.xs_script.proofs.FirstWords.{no_sched}
 use Rattle.xs_script.proofs.Readings.{other_line}
 use Rattle.xs_script.proofs.Fronts.{front_none, front_push, line_explains}

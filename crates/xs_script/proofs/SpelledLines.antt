@@ -4,11 +4,12 @@ use Rattle.std.specs.Prelude.{bytes_eq}
 use Rattle.std.specs.List.{AllByRecursion, flat_map, list_any, list_all}
 use Rattle.std.proofs.lemmas.Bool.{lt-leb, le-leb, lt-ltb, and_parts, eqb-true}
 use Rattle.std.proofs.lemmas.List.{append_assoc, append-nil}
+use Rattle.std.proofs.lemmas.Slice.Eq.{bytes_eq-Decides}
 use Rattle.xs_base.specs.declared.component.Row.{Row}
 use Rattle.xs_base.specs.declared.component.Place.{Place}
 use Rattle.xs_base.specs.Layout.{IsSound, IsLayout, first_row_fault}
 use Rattle.xs_base.specs.Register.{IsNamed}
-use Rattle.xs_base.specs.Task.{frame_length}
+use Rattle.xs_base.specs.Task.{frame_length, buffer_length}
 use Rattle.xs_base.proofs.LayoutLemmas.{row_fault_none, layout_parts, passes, passes_sound}
 use Rattle.xs_base.proofs.Registers.{place_length, name_length, name_spelled, is_name_byte}
 use Rattle.xs_model.specs.declared.script.Named.{Named}
@@ -20,7 +21,7 @@ use Rattle.xs_model.specs.declared.script.Command.TheVariants as commands
 use Rattle.xs_model.specs.declared.script.Order.{Order}
 use Rattle.xs_model.specs.declared.script.Block.{Block}
 use Rattle.xs_model.specs.declared.script.Script.{Script}
-use Rattle.xs_model.specs.Names.{NamesBlock, AreNamedAfter, AreNamed, forked_names, all_forked_names}
+use Rattle.xs_model.specs.Names.{is_fork_of, is_forked, NamesBlock, AreNamedAfter, AreNamed, forked_names, all_forked_names}
 use Rattle.xs_model.specs.Script.{IsValid, IsBuilt, AreBuilt, IsCommand, IsBody, IsBuiltCommand, fits_memory, is_outer, is_return, is_handler, is_handler_from, is_user_kind, is_kernel_command, fits_kind, AreDistinct, is_name, is_letter}
 use Rattle.xs_script.specs.declared.block_part.BlockPart.TheVariants as places
 use Rattle.xs_script.specs.declared.commands.Scope.{Scope}
@@ -29,7 +30,8 @@ use Rattle.xs_script.specs.declared.line.Line.TheVariants as lines
 use Rattle.xs_script.specs.ScriptLine.{IsNumber, IsLine, IsCommandLine, is_register_byte, is_register_word}
 use Rattle.xs_script.specs.Grammar.{order_lines, handler_lines, lines_text, block_lines, row_lines, head_lines, sched_lines, script_lines, Spells}
 use Rattle.xs_script.specs.LineOrder.{Stand, AtVersion, AtMachine, AtRow, AtCpus, AtQuantum, AtLarge, AtSched, AtBlock, InBlock, may_have, command_limit, next, after_machine, Leads}
-use Rattle.xs_script.specs.Refusal.{AreLines, Passes, forks_of, IsKnown, AreOutside, IsScriptOf}
+use Rattle.xs_script.specs.Before.{forks_of}
+use Rattle.xs_script.specs.Refusal.{AreLines, Passes, IsKnown, AreOutside, AreReaching, IsScriptOf}
 use Rattle.xs_script.specs.Body.{names_of}
 use Rattle.xs_script.specs.Front.{IsFront}
 use Rattle.xs_script.proofs.CommandFaults.{fits_length}
@@ -38,6 +40,7 @@ use Rattle.xs_script.proofs.Fronts.{leads_join}
 use Rattle.xs_script.proofs.BlockParts.{all_join, all_parts, block_row, block_join, handler_all}
 use Rattle.xs_script.proofs.BodyLines.{another}
 use Rattle.xs_script.proofs.Children.{block_scope, child_is_name, handled_is_name, names_one, local_names, handler_local, handler_no_forks, no_forks, front_outside, front_no_names, blocks_forks}
+use Rattle.xs_script.proofs.Reaching.{front_reaching, blocks_reaching}
 use Rattle.xs_script.proofs.WholeScripts.{parted_lines, script_scope, head_known, sched_known, some_lines, may_end_some}
 use Rattle.xs_script.proofs.ScheduleLines.{front_after}
 use Rattle.xs_script.proofs.EntryTests.{at_most, joined, within_test}
@@ -78,44 +81,66 @@ register_word reg place named =
     let few : nat_le (length reg) 16 ≡ true = le-leb (length reg) 16 size.1 in
     rw (bytes, some, few) refl
 
--- what lies within the frame memory
-memory_parts : (at len : ℕ) → fits_memory frame_length at len ≡ true → (1 ≤ len) × (len ≤ 64) × (at + len ≤ frame_length)
-memory_parts at len h =
-    let outer = and_parts (nat_le 1 len && nat_le len 64) (nat_le (at + len) frame_length) h in
+-- what lies within a memory
+memory_parts : (size at len : ℕ) → fits_memory size at len ≡ true → (1 ≤ len) × (len ≤ 64) × (at + len ≤ size)
+memory_parts size at len h =
+    let outer = and_parts (nat_le 1 len && nat_le len 64) (nat_le (at + len) size) h in
     let inner = and_parts (nat_le 1 len) (nat_le len 64) outer.0 in
-    (at_most 1 len inner.0, at_most len 64 inner.1, at_most (at + len) frame_length outer.1)
+    (at_most 1 len inner.0, at_most len 64 inner.1, at_most (at + len) size outer.1)
+
+-- the name of a child that an earlier line forks
+fork_is_name : (command : Command) (name : List ℕ) → IsCommandLine command → is_fork_of name command ≡ true → is_name name ≡ true
+fork_is_name (commands.Fork child) name fits h = subst (λ (n : List ℕ). is_name n ≡ true) ((bytes_eq-Decides child name).0 h) fits
+fork_is_name other name fits h = absurd (cc h)
+
+forked_is_name : (earlier : List Order) (name : List ℕ) → AreLines (order_lines earlier) → is_forked earlier name ≡ true → is_name name ≡ true
+forked_is_name [] name fit h = absurd (cc h)
+forked_is_name (o ∷ earlier) name fit h = by_test (is_fork_of name o.command) refl h (forked_is_name earlier name fit.1)
+  where
+    by_test : (t : Bool) → t ≡ is_fork_of name o.command → (t || is_forked earlier name) ≡ true → (is_forked earlier name ≡ true → is_name name ≡ true) → is_name name ≡ true
+    by_test true is h more = fork_is_name o.command name fit.0 (sym is)
+    by_test false is h more = more h
 
 -- a script's commands, which have names of blocks
 module _ (rows : List Row) (all : List Block) (names : AllByRecursion (λ (b : Block). is_name b.name ≡ true) all) where
-  command_fits : (earlier : List Order) (command : Command) → IsCommand rows command → IsBuiltCommand command → NamesBlock all earlier command → IsCommandLine command
-  command_fits earlier (commands.Set reg bytes) (place, here, fits, bytes_are) built named =
+  command_fits : (earlier : List Order) (command : Command) → IsCommand rows command → IsBuiltCommand command → NamesBlock all earlier command → AreLines (order_lines earlier) → IsCommandLine command
+  command_fits earlier (commands.Set reg bytes) (place, here, fits, bytes_are) built named fit =
       let size = place_length reg place here.0 in
       let len = fits_length place bytes fits in
       (register_word reg place here.0, omega (arith, size.0, len), bytes_are)
-  command_fits earlier (commands.Get reg) (place, here) built named = register_word reg place here.0
-  command_fits earlier (commands.Ksec byte) fits built named = fits
-  command_fits earlier commands.Yield fits built named = tt
-  command_fits earlier (commands.Peek at len) fits built named = let parts = memory_parts at len fits in (omega (arith, parts.2), omega (arith, parts.1))
-  command_fits earlier (commands.Poke at bytes) fits built named = let parts = memory_parts at (length bytes) fits.0 in (omega (arith, parts.2), omega (arith, parts.0), fits.1)
-  command_fits earlier commands.Sigreturn fits built named = tt
-  command_fits earlier (commands.Kill name signo) fits built named = handled_is_name all name names named
-  command_fits earlier (commands.Fork name) fits built named = child_is_name all name names named
-  command_fits earlier other fits built named = absurd built
+  command_fits earlier (commands.Get reg) (place, here) built named fit = register_word reg place here.0
+  command_fits earlier (commands.Ksec byte) fits built named fit = fits
+  command_fits earlier commands.Yield fits built named fit = tt
+  command_fits earlier (commands.Peek at len) fits built named fit = let parts = memory_parts frame_length at len fits in (omega (arith, parts.2), omega (arith, parts.1))
+  command_fits earlier (commands.Poke at bytes) fits built named fit = let parts = memory_parts frame_length at (length bytes) fits.0 in (omega (arith, parts.2), omega (arith, parts.0), fits.1)
+  command_fits earlier (commands.Bpeek at len) fits built named fit = let parts = memory_parts buffer_length at len fits in (omega (arith, parts.2), omega (arith, parts.1))
+  command_fits earlier (commands.Bpoke at bytes) fits built named fit = let parts = memory_parts buffer_length at (length bytes) fits.0 in (omega (arith, parts.2), omega (arith, parts.0), fits.1)
+  command_fits earlier commands.Sigreturn fits built named fit = tt
+  command_fits earlier (commands.Kill name signo) fits built named fit = handled_is_name all name names named
+  command_fits earlier (commands.Fork name) fits built named fit = child_is_name all name names named
+  command_fits earlier commands.Stop fits built named fit = tt
+  command_fits earlier (commands.Wait name) fits built named fit = forked_is_name earlier name fit named
+  command_fits earlier (commands.Getregs name set) fits built named fit = forked_is_name earlier name fit named.0
+  command_fits earlier (commands.Setregs name set count) fits built named fit = (forked_is_name earlier name fit named.0, omega (arith, fits))
+  command_fits earlier (commands.Cont name) fits built named fit = forked_is_name earlier name fit named.0
+  command_fits earlier other fits built named fit = absurd built
 
-  orders_fit : (earlier orders : List Order) → AllByRecursion (λ (order : Order). IsCommand rows order.command) orders → AllByRecursion (λ (order : Order). IsBuiltCommand order.command) orders → AreNamedAfter all earlier orders → AreLines (order_lines orders)
-  orders_fit earlier [] h g n = tt
-  orders_fit earlier (o ∷ orders) h g n = (command_fits earlier o.command h.0 g.0 n.0, orders_fit (o ∷ earlier) orders h.1 g.1 n.1)
+  orders_fit : (earlier orders : List Order) → AllByRecursion (λ (order : Order). IsCommand rows order.command) orders → AllByRecursion (λ (order : Order). IsBuiltCommand order.command) orders → AreNamedAfter all earlier orders → AreLines (order_lines earlier) → AreLines (order_lines orders)
+  orders_fit earlier [] h g n fit = tt
+  orders_fit earlier (o ∷ orders) h g n fit =
+      let here = command_fits earlier o.command h.0 g.0 n.0 fit in
+      (here, orders_fit (o ∷ earlier) orders h.1 g.1 n.1 (here, fit))
 
   -- those of a handler are local
   local_fit : (orders : List Order) → AllByRecursion (λ (order : Order). IsCommand rows order.command) orders → AllByRecursion (λ (order : Order). IsBuiltCommand order.command) orders → AllByRecursion (λ (order : Order). is_outer order.command ≡ false) orders → AreLines (order_lines orders)
   local_fit [] h g local = tt
-  local_fit (o ∷ orders) h g local = (command_fits [] o.command h.0 g.0 (local_names all [] o.command local.0), local_fit orders h.1 g.1 local.1)
+  local_fit (o ∷ orders) h g local = (command_fits [] o.command h.0 g.0 (local_names all [] o.command local.0) tt, local_fit orders h.1 g.1 local.1)
 
   pub blocks_fit : (blocks : List Block) → AllByRecursion (λ (b : Block). is_name b.name ≡ true) blocks → AllByRecursion (λ (b : Block). IsBody rows b) blocks → AllByRecursion (λ (b : Block). AreBuilt b.body) blocks → AllByRecursion (λ (b : Block). AreBuilt b.handler) blocks → AllByRecursion (λ (b : Block). AreNamed all b.body) blocks → AreLines (flat_map block_lines blocks)
   blocks_fit [] spelled bodies built handled named = tt
   blocks_fit (b ∷ blocks) spelled bodies built handled named =
       let handler = handler_all IsLine b.handler tt (local_fit b.handler bodies.0.handler handled.0 (handler_local b.handler bodies.0.returns)) in
-      block_join IsLine b (flat_map block_lines blocks) (record { begins = spelled.0; body = orders_fit [] b.body bodies.0.body built.0 named.0; handler = handler; ends = tt }) (blocks_fit blocks spelled.1 bodies.1 built.1 handled.1 named.1)
+      block_join IsLine b (flat_map block_lines blocks) (record { begins = spelled.0; body = orders_fit [] b.body bodies.0.body built.0 named.0 tt; handler = handler; ends = tt }) (blocks_fit blocks spelled.1 bodies.1 built.1 handled.1 named.1)
 
 -- the lines of its blocks
 script_fits : (script : Script) → IsValid script → IsBuilt script → AreLines (flat_map block_lines script.blocks)
@@ -194,7 +219,10 @@ sched_leads_on cpus count (g ∷ groups) below few =
 no_limit : (rows : List Row) (command : Command) → IsCommand rows command → command_limit command ≡ None
 no_limit rows (commands.Peek at len) h = rw h refl
 no_limit rows (commands.Poke at bytes) h = rw h.0 refl
+no_limit rows (commands.Bpeek at len) h = rw h refl
+no_limit rows (commands.Bpoke at bytes) h = rw h.0 refl
 no_limit rows (commands.Kill name signo) h = rw h refl
+no_limit rows (commands.Setregs name set count) h = let few : nat_le count buffer_length ≡ true = le-leb count buffer_length h in rw few refl
 no_limit rows other h = refl
 
 -- the lines of a body
@@ -358,5 +386,6 @@ spelled_read text script h =
         each = subst (λ (x : Scope). AllByRecursion (IsKnown x) lined) (sym scope_is) (subst (AllByRecursion (IsKnown scope)) (sym parted) known);
         once = subst AreDistinct (sym forks) h.valid.forked;
         outside = subst (AreOutside false) (sym parted) (front_outside before bodies bare (blocks_outside script.layout script.blocks h.valid.bodies));
+        reaching = subst (AreReaching []) (sym parted) (front_reaching [] before bodies bare (blocks_reaching script.layout script.blocks script.blocks h.valid.bodies h.valid.named));
       };
     }

@@ -1,11 +1,7 @@
 -- One spelling for each line, and a line has no line feed in it.
-use Rattle.std.proofs.Common.{◌≡◌, ℕ, ◌+◌, ◌*◌, ◌&&◌, ◌==◌, not, Bool, true, false, List, [], ◌∷◌, ◌++◌, refl, sym, ◌∙◌, ap, subst, arith, codes, decimal}
+use Rattle.std.proofs.Common.{◌≡◌, ℕ, ◌+◌, ◌*◌, true, List, [], ◌∷◌, ◌++◌, refl, sym, ◌∙◌, ap, subst, arith, codes, decimal}
 use Rattle.std.specs.Prelude.{if◌then◌else◌}
-use Rattle.std.proofs.lemmas.Bool.{and_parts}
 use Rattle.std.proofs.lemmas.List.{append_cancel_left}
-use Rattle.std.proofs.lemmas.Fmt.{decimal_injective}
-use Rattle.hex.specs.Hex.{encode_lower}
-use Rattle.std.proofs.Props.{props}
 use Rattle.xs_base.specs.declared.component.Row.{Row}
 use Rattle.xs_base.specs.declared.words.Signo.{Signo}
 use Rattle.xs_base.specs.Layout.{row}
@@ -13,71 +9,27 @@ use Rattle.xs_model.specs.declared.script.Named.{Named}
 use Rattle.xs_model.specs.declared.script.Named.TheVariants as machines
 use Rattle.xs_model.specs.declared.script.BlockKind.{BlockKind}
 use Rattle.xs_model.specs.declared.script.BlockKind.TheVariants as blocks
-use Rattle.xs_model.specs.declared.script.Command.{Command}
 use Rattle.xs_model.specs.declared.script.Command.TheVariants as commands
 use Rattle.xs_model.specs.Script.{is_name}
 use Rattle.xs_script.specs.declared.line.Line.{Line}
 use Rattle.xs_script.specs.declared.line.Line.TheVariants as lines
-use Rattle.xs_script.specs.ScriptLine.{line_text, IsLine, IsNumber, IsSignal, row_text, kill_text, command_text, IsCommandLine, machine_name, block_word, entries_text}
+use Rattle.xs_script.specs.ScriptLine.{line_text, IsLine, IsNumber, IsSignal, row_text, kill_text, machine_name, block_word, entries_text}
 use Rattle.xs_script.specs.Reads.{Lacks}
-use Rattle.xs_script.proofs.Cuts.{Lacks-append, Lacks-name, Lacks-register, Lacks-hex, one_cut}
-use Rattle.xs_script.proofs.Lanes.{one_hex}
+use Rattle.xs_script.proofs.Cuts.{Lacks-append, Lacks-name, one_cut}
 use Rattle.xs_script.proofs.Entries.{lacks_feed, one_pair, lacks_entries, one_entries}
+use Rattle.xs_script.proofs.CommandSpellings.{lacks_word, lacks_both, lacks_kill, signal_number, lacks_command, begins, command_kind, command_kind_of, one_number, one_kill, one_command}
 
 -- ---- no line has a line feed in it
-
--- a test that a word has no line feed
-abbrev lacks_test : List ℕ → Bool
-lacks_test [] = true
-lacks_test (b ∷ bs) = not (b == 10) && lacks_test bs
-
--- so it lacks one
-pub lacks_word : (bs : List ℕ) → lacks_test bs ≡ true → Lacks 10 bs
-lacks_word [] h = tt
-lacks_word (b ∷ bs) h =
-    let p = and_parts (not (b == 10)) (lacks_test bs) h in
-    (λ e. let t = rw e at p.0 in cc t, lacks_word bs p.1)
 
 -- a number's text behind a word
 lacks_number : (word : List ℕ) (n : ℕ) → Lacks 10 word → IsNumber n → Lacks 10 (word ++ decimal n)
 lacks_number word n w fits = Lacks-append 10 word (decimal n) w (lacks_feed n fits)
-
--- two words with a space between them
-lacks_both : (a b : List ℕ) → Lacks 10 a → Lacks 10 b → Lacks 10 (a ++ 32 ∷ b)
-lacks_both a b la lb = Lacks-append 10 a (32 ∷ b) la (λ e. omega arith, lb)
 
 lacks_row : (r : Row) → IsLine (lines.Row r) → Lacks 10 (row_text r)
 lacks_row r fits =
     lacks_both (decimal r.comp.0) (decimal r.size ++ 32 ∷ (decimal r.offset ++ 32 ∷ decimal r.flags)) (lacks_feed r.comp.0 fits.0)
     (lacks_both (decimal r.size) (decimal r.offset ++ 32 ∷ decimal r.flags) (lacks_feed r.size fits.1)
     (lacks_both (decimal r.offset) (decimal r.flags) (lacks_feed r.offset fits.2) (lacks_feed r.flags fits.3)))
-
-lacks_kill : (name : List ℕ) (number : ℕ) → is_name name ≡ true → IsNumber number → Lacks 10 (kill_text name number)
-lacks_kill name number fits small =
-    Lacks-append 10 (codes "kill ") (name ++ 32 ∷ decimal number) (lacks_word (codes "kill ") refl)
-    (lacks_both name (decimal number) (Lacks-name 10 name refl refl fits) (lacks_feed number small))
-
--- a signal's number is one of 32 bits
-pub signal_number : (signo : Signo) → IsNumber signo.number
-signal_number signo = let range = signo.in_range in omega (arith, range.1)
-
-lacks_command : (command : Command) → IsCommandLine command → Lacks 10 (command_text command)
-lacks_command (commands.Set reg bytes) fits =
-    Lacks-append 10 (codes "set ") (reg ++ 32 ∷ encode_lower bytes) (lacks_word (codes "set ") refl)
-    (lacks_both reg (encode_lower bytes) (Lacks-register 10 reg refl fits.0) (Lacks-hex 10 bytes refl fits.2))
-lacks_command (commands.Get reg) fits = Lacks-append 10 (codes "get ") reg (lacks_word (codes "get ") refl) (Lacks-register 10 reg refl fits)
-lacks_command (commands.Ksec byte) fits = Lacks-append 10 (codes "ksec ") (encode_lower (byte ∷ [])) (lacks_word (codes "ksec ") refl) (Lacks-hex 10 (byte ∷ []) refl (fits, tt))
-lacks_command commands.Yield fits = lacks_word (codes "yield") refl
-lacks_command (commands.Peek at len) fits =
-    Lacks-append 10 (codes "peek ") (decimal at ++ 32 ∷ decimal len) (lacks_word (codes "peek ") refl)
-    (lacks_both (decimal at) (decimal len) (lacks_feed at fits.0) (lacks_feed len fits.1))
-lacks_command (commands.Poke at bytes) fits =
-    Lacks-append 10 (codes "poke ") (decimal at ++ 32 ∷ encode_lower bytes) (lacks_word (codes "poke ") refl)
-    (lacks_both (decimal at) (encode_lower bytes) (lacks_feed at fits.0) (Lacks-hex 10 bytes refl fits.2))
-lacks_command commands.Sigreturn fits = lacks_word (codes "sigreturn") refl
-lacks_command (commands.Kill name signo) fits = lacks_kill name signo.number fits (signal_number signo)
-lacks_command (commands.Fork name) fits = Lacks-append 10 (codes "fork ") name (lacks_word (codes "fork ") refl) (Lacks-name 10 name refl refl fits)
-lacks_command other fits = absurd fits
 
 lacks_block_word : (kind : BlockKind) → Lacks 10 (block_word kind)
 lacks_block_word blocks.Task = lacks_word (codes "task ") refl
@@ -102,51 +54,6 @@ Lacks_line lines.Handler fits = lacks_word (codes "handler") refl
 Lacks_line lines.End fits = lacks_word (codes "end") refl
 
 -- ---- lines of one text are of one kind
-
--- the text begins with the word
-abbrev pub begins : List ℕ → List ℕ → Bool
-begins [] bs = true
-begins (p ∷ ps) [] = false
-begins (p ∷ ps) (b ∷ bs) = (p == b) && begins ps bs
-
--- a number for each kind of command
-abbrev command_kind : Command → ℕ
-command_kind (commands.Set reg bytes) = 0
-command_kind (commands.Get reg) = 1
-command_kind (commands.Ksec byte) = 2
-command_kind commands.Yield = 3
-command_kind (commands.Fork name) = 4
-command_kind (commands.Peek at len) = 5
-command_kind (commands.Poke at bytes) = 6
-command_kind commands.Sigreturn = 7
-command_kind (commands.Kill name signo) = 8
-command_kind other = 9
-
--- the same, read from the first word
-abbrev command_kind_of : List ℕ → ℕ
-command_kind_of bs =
-    if begins (codes "set ") bs then 0
-    else if begins (codes "get ") bs then 1
-    else if begins (codes "ksec ") bs then 2
-    else if begins (codes "yield") bs then 3
-    else if begins (codes "fork ") bs then 4
-    else if begins (codes "peek ") bs then 5
-    else if begins (codes "poke ") bs then 6
-    else if begins (codes "sigreturn") bs then 7
-    else if begins (codes "kill ") bs then 8
-    else 9
-
-command_kind_is : (k : Command) → command_kind_of (command_text k) ≡ command_kind k
-command_kind_is (commands.Set reg bytes) = refl
-command_kind_is (commands.Get reg) = refl
-command_kind_is (commands.Ksec byte) = refl
-command_kind_is commands.Yield = refl
-command_kind_is (commands.Fork name) = refl
-command_kind_is (commands.Peek at len) = refl
-command_kind_is (commands.Poke at bytes) = refl
-command_kind_is commands.Sigreturn = refl
-command_kind_is (commands.Kill name signo) = refl
-command_kind_is other = refl
 
 -- a number for each kind of block
 abbrev pub block_kind : BlockKind → ℕ
@@ -208,6 +115,13 @@ kind_is (lines.Order (commands.Peek at len)) = refl
 kind_is (lines.Order (commands.Poke at bytes)) = refl
 kind_is (lines.Order commands.Sigreturn) = refl
 kind_is (lines.Order (commands.Kill name signo)) = refl
+kind_is (lines.Order (commands.Bpeek at len)) = refl
+kind_is (lines.Order (commands.Bpoke at bytes)) = refl
+kind_is (lines.Order commands.Stop) = refl
+kind_is (lines.Order (commands.Wait name)) = refl
+kind_is (lines.Order (commands.Getregs name set)) = refl
+kind_is (lines.Order (commands.Setregs name set count)) = refl
+kind_is (lines.Order (commands.Cont name)) = refl
 kind_is (lines.Order other) = refl
 kind_is (lines.NoSignal name number) = refl
 kind_is lines.Handler = refl
@@ -218,10 +132,6 @@ same_kind : (a b : Line) → line_text a ≡ line_text b → kind a ≡ kind b
 same_kind a b e = sym (kind_is a) ∙ ap kind_of e ∙ kind_is b
 
 -- ---- lines of one text are equal
-
--- one number after a word
-pub one_number : (word : List ℕ) (m n : ℕ) → IsNumber m → IsNumber n → word ++ decimal m ≡ word ++ decimal n → m ≡ n
-one_number word m n fm fn e = decimal_injective m n (omega arith) (omega arith) (append_cancel_left word _ _ e)
 
 -- a number for each machine
 abbrev machine_kind : Named → ℕ
@@ -262,84 +172,10 @@ one_row r s f g e =
     let offset = one_pair r.offset s.offset (decimal r.flags) (decimal s.flags) f.2 g.2 size.1 in
     same_row r s number.0 size.0 offset.0 (one_number [] r.flags s.flags f.3 g.3 offset.1)
 
-same_command_kind : (a b : Command) → command_text a ≡ command_text b → command_kind a ≡ command_kind b
-same_command_kind a b e = sym (command_kind_is a) ∙ ap command_kind_of e ∙ command_kind_is b
-
--- one register and bytes after a word
-one_set : (a b x y : List ℕ) → IsCommandLine (commands.Set a x) → IsCommandLine (commands.Set b y) → command_text (commands.Set a x) ≡ command_text (commands.Set b y) → (a ≡ b) × (x ≡ y)
-one_set a b x y fa fb e =
-    let tail = append_cancel_left (codes "set ") (a ++ 32 ∷ encode_lower x) (b ++ 32 ∷ encode_lower y) e in
-    let cut = one_cut 32 a b (encode_lower x) (encode_lower y) (Lacks-register 32 a refl fa.0) (Lacks-register 32 b refl fb.0) tail in
-    (cut.0, one_hex x y fa.2 fb.2 cut.1)
-
--- one number and bytes after a word
-one_poke : (a b : ℕ) (x y : List ℕ) → IsCommandLine (commands.Poke a x) → IsCommandLine (commands.Poke b y) → command_text (commands.Poke a x) ≡ command_text (commands.Poke b y) → (a ≡ b) × (x ≡ y)
-one_poke a b x y fa fb e =
-    let tail = append_cancel_left (codes "poke ") (decimal a ++ 32 ∷ encode_lower x) (decimal b ++ 32 ∷ encode_lower y) e in
-    let cut = one_pair a b (encode_lower x) (encode_lower y) fa.0 fb.0 tail in
-    (cut.0, one_hex x y fa.2 fb.2 cut.1)
-
--- two numbers after a word
-one_peek : (a b x y : ℕ) → IsCommandLine (commands.Peek a x) → IsCommandLine (commands.Peek b y) → command_text (commands.Peek a x) ≡ command_text (commands.Peek b y) → (a ≡ b) × (x ≡ y)
-one_peek a b x y fa fb e =
-    let tail = append_cancel_left (codes "peek ") (decimal a ++ 32 ∷ decimal x) (decimal b ++ 32 ∷ decimal y) e in
-    let cut = one_pair a b (decimal x) (decimal y) fa.0 fb.0 tail in
-    (cut.0, one_number [] x y fa.1 fb.1 cut.1)
-
--- one name and number after a word
-pub one_kill : (a b : List ℕ) (m n : ℕ) → is_name a ≡ true → is_name b ≡ true → IsNumber m → IsNumber n → kill_text a m ≡ kill_text b n → (a ≡ b) × (m ≡ n)
-one_kill a b m n fa fb fm fn e =
-    let tail = append_cancel_left (codes "kill ") (a ++ 32 ∷ decimal m) (b ++ 32 ∷ decimal n) e in
-    let cut = one_cut 32 a b (decimal m) (decimal n) (Lacks-name 32 a refl refl fa) (Lacks-name 32 b refl refl fb) tail in
-    (cut.0, one_number [] m n fm fn cut.1)
-
--- signals of one number are the same: that the number is one has one proof
-abbrev signal_of : (n : ℕ) → IsSignal n → Signo
-signal_of n fits = record { number = n; in_range = fits }
-
-one_range : (n : ℕ) → IsProp (IsSignal n)
-one_range n = Prim.hlevel props
-
-pub same_signo : (a b : Signo) → a.number ≡ b.number → a ≡ b
-same_signo a b e =
-    subst (λ n. (fits : IsSignal n) → a ≡ signal_of n fits) e
-    (λ fits. ap (λ (h : IsSignal a.number). signal_of a.number h) (one_range a.number a.in_range fits)) b.in_range
-
 -- the number of a signal isn't that of none
 no_signal : (name other : List ℕ) (signo : Signo) (number : ℕ) → is_name name ≡ true → is_name other ≡ true → IsNumber number → (IsSignal number → ⊥) → kill_text name signo.number ≡ kill_text other number → ⊥
 no_signal name other signo number fa fb small none e =
     none (subst IsSignal (one_kill name other signo.number number fa fb (signal_number signo) small e).1 signo.in_range)
-
--- commands of one text are equal
-pub one_command : (a b : Command) → IsCommandLine a → IsCommandLine b → command_text a ≡ command_text b → a ≡ b
-one_command (commands.Set a x) (commands.Set b y) f g e =
-    let s = one_set a b x y f g e in
-    let ea = s.0 in
-    let ex = s.1 in
-    cc
-one_command (commands.Get a) (commands.Get b) f g e = ap commands.Get (append_cancel_left (codes "get ") a b e)
-one_command (commands.Ksec a) (commands.Ksec b) f g e =
-    let same = one_hex (a ∷ []) (b ∷ []) (f, tt) (g, tt) (append_cancel_left (codes "ksec ") (encode_lower (a ∷ [])) (encode_lower (b ∷ [])) e) in
-    cc same
-one_command commands.Yield commands.Yield f g e = refl
-one_command (commands.Peek a x) (commands.Peek b y) f g e =
-    let s = one_peek a b x y f g e in
-    let ea = s.0 in
-    let ex = s.1 in
-    cc
-one_command (commands.Poke a x) (commands.Poke b y) f g e =
-    let s = one_poke a b x y f g e in
-    let ea = s.0 in
-    let ex = s.1 in
-    cc
-one_command commands.Sigreturn commands.Sigreturn f g e = refl
-one_command (commands.Kill a s) (commands.Kill b t) f g e =
-    let cut = one_kill a b s.number t.number f g (signal_number s) (signal_number t) e in
-    let ea = cut.0 in
-    let es = same_signo s t cut.1 in
-    cc
-one_command (commands.Fork a) (commands.Fork b) f g e = ap commands.Fork (append_cancel_left (codes "fork ") a b e)
-one_command a b f g e = let k = same_command_kind a b e in absurd (omega arith)
 
 -- lines of one text are equal
 pub one_line : (a b : Line) → IsLine a → IsLine b → line_text a ≡ line_text b → a ≡ b

@@ -1,6 +1,6 @@
 -- What the stands among blocks tell of the lines that lead there: whether they are in a handler, and that no command is
 -- beyond its limits.
-use Rattle.std.proofs.Common.{◌≡◌, ℕ, Bool, true, false, ◌&&◌, List, [], ◌∷◌, ◌++◌, length, Option, Some, None, Ok, Err, refl, sym, ◌∙◌, ap}
+use Rattle.std.proofs.Common.{◌≡◌, ℕ, Bool, true, false, List, [], ◌∷◌, ◌++◌, length, Option, Some, None, Ok, Err, refl, sym, ◌∙◌, ap}
 use Rattle.std.specs.Prelude.{bytes_eq, nat_le, if◌then◌else◌}
 use Rattle.std.specs.List.{AllByRecursion, list_any}
 use Rattle.xs_model.specs.declared.script.BlockKind.{BlockKind}
@@ -11,14 +11,14 @@ use Rattle.xs_script.specs.declared.block_part.BlockPart.{BlockPart}
 use Rattle.xs_script.specs.declared.block_part.BlockPart.TheVariants as places
 use Rattle.xs_script.specs.declared.line.Line.{Line}
 use Rattle.xs_script.specs.declared.line.Line.TheVariants as lines
-use Rattle.xs_script.specs.declared.body.Tail.{Tail}
-use Rattle.xs_script.specs.declared.body.Tail.TheVariants as tails
-use Rattle.xs_script.specs.declared.body.Begun.{Begun}
+use Rattle.xs_script.specs.declared.begun.Tail.{Tail}
+use Rattle.xs_script.specs.declared.begun.Tail.TheVariants as tails
+use Rattle.xs_script.specs.declared.begun.Begun.{Begun}
 use Rattle.xs_script.specs.declared.refusal.Kind.TheVariants.{BadLine, Limit, Repeated}
 use Rattle.xs_script.specs.declared.refusal.LimitName.{LimitName}
 use Rattle.xs_script.specs.declared.refusal.LimitName.TheVariants as limits
 use Rattle.xs_script.specs.LineOrder.{Stand, AtVersion, AtMachine, AtRow, AtCpus, AtQuantum, AtLarge, AtSched, AtBlock, InBlock, may_have, may_handle, may_close, command_limit, limit_fault, part_after, after_order, next, Leads}
-use Rattle.xs_script.specs.Refusal.{in_handler, in_handler_after, is_outer_line, AreOutside}
+use Rattle.xs_script.specs.Before.{in_handler, in_handler_after}
 use Rattle.xs_script.specs.Body.{tail_part, tail_inside, begun_stand, begun_inside}
 use Rattle.xs_script.proofs.WholeScripts.{IsAmongBlocks, among_step}
 
@@ -121,8 +121,3 @@ tail_stands (tails.Returned orders) = refl
 pub body_inside : (blocks : List Block) (begun : Option Begun) → begun_inside begun ≡ stand_inside (begun_stand blocks begun)
 body_inside blocks None = refl
 body_inside blocks (Some begun) = tail_stands begun.tail
-
--- one line more that is no outer command in a handler
-pub outside_push : (inside : Bool) (ls : List Line) (l : Line) → AreOutside inside ls → (in_handler_after inside ls && is_outer_line l) ≡ false → AreOutside inside (ls ++ l ∷ [])
-outside_push inside [] l out here = (here, tt)
-outside_push inside (x ∷ ls) l out here = (out.0, outside_push (in_handler inside x) ls l out.1 here)

@@ -27,7 +27,8 @@ use Rattle.xs_script.specs.declared.refusal.Kind.{Kind}
 use Rattle.xs_script.specs.declared.refusal.Kind.TheVariants.{BadLine, Limit, Repeated}
 use Rattle.xs_script.specs.declared.refusal.LimitName.TheVariants.{Blocks}
 use Rattle.xs_script.specs.LineOrder.{Stand, AtVersion, AtMachine, AtRow, AtCpus, AtQuantum, AtLarge, AtSched, AtBlock, InBlock, order_fault, part_after, may_handle, may_close, after_order, may_end, next, Leads}
-use Rattle.xs_script.specs.Refusal.{Passes, rows_of_line, table_of, children_of, handled_of, scope_of, in_handler_after, forks_of, IsKnown, AreOutside, IsScriptOf, ByLine, ByCommand, Explains, CommandFails}
+use Rattle.xs_script.specs.Before.{in_handler_after, forks_of, earlier_after, Before, told, before_of}
+use Rattle.xs_script.specs.Refusal.{Passes, rows_of_line, table_of, children_of, handled_of, scope_of, IsKnown, AreOutside, AreReaching, IsScriptOf, ByLine, ByCommand, Explains, CommandFails}
 use Rattle.xs_script.specs.Front.{IsFront, ExplainsFrom}
 use Rattle.xs_script.specs.Head.{IsHeadOf, lines_of_head, machine_lines}
 use Rattle.xs_script.specs.Body.{names_of, AreBlocksOf, ByBlockLine, ByBlockCommand, ExplainsBlocks}
@@ -37,6 +38,7 @@ use Rattle.xs_script.proofs.BlockParts.{all_join, block_join, handler_all}
 use Rattle.xs_script.proofs.Fronts.{front_join, rest_explains}
 use Rattle.xs_script.proofs.ScheduleLines.{front_after, after_explains}
 use Rattle.xs_script.proofs.Children.{child_names, handled_names, block_scope, blocks_children, blocks_handled, no_children, no_handled, no_inside, no_forks, front_outside, front_no_names}
+use Rattle.xs_script.proofs.Reaching.{no_earlier, front_reaching}
 use Rattle.xs_script.proofs.OneRefusal.{one_lines}
 
 -- ---- the head
@@ -135,7 +137,7 @@ pub same_scope : (rows table : List Row) (names children others handled : List (
 same_scope rows table names children others handled er en eo =
     ap (λ (rs : List Row). scope_with rs names others) er ∙ ap (λ (ns : List (List ℕ)). scope_with table ns others) en ∙ ap (λ (ns : List (List ℕ)). scope_with table children ns) eo
 
--- ---- what both passes leave
+-- ---- what the first two passes leave
 
 -- the lines of the script, its front and its blocks
 pub parted_lines : (script : Script) (groups : List (List ℕ)) → script_lines script groups ≡ (head_lines script ++ sched_lines groups) ++ flat_map block_lines script.blocks
@@ -185,6 +187,7 @@ read_script_of text first rest head number later_number sched children handled b
         each = subst (λ (x : Scope). AllByRecursion (IsKnown x) lined) scope_is (subst (AllByRecursion (IsKnown scope)) (sym (parted_lines script s.groups)) (all_join (IsKnown scope) before later before_known b.known.each));
         once = subst AreDistinct (sym (ap forks_of (parted_lines script s.groups) ∙ no_forks before later bare)) b.known.once;
         outside = subst (AreOutside false) (sym (parted_lines script s.groups)) (front_outside before later bare b.known.outside);
+        reaching = subst (AreReaching []) (sym (parted_lines script s.groups)) (front_reaching [] before later bare b.known.reaching);
       };
     }
 
@@ -280,6 +283,8 @@ outline_refuses text first rest head number later_number sched children handled 
     let scope_is : scope_of all ≡ scope = same_scope (table_of all) rows (children_of all) children (handled_of all) handled table child_lines handler_lines in
     let inside : in_handler_after false (before ++ f.done) ≡ in_handler_after false f.done = no_inside false before f.done bare_names in
     let forks : forks_of (before ++ f.done) ≡ forks_of f.done = no_forks before f.done bare_names in
+    let earlier : earlier_after [] (before ++ f.done) ≡ earlier_after [] f.done = no_earlier [] before f.done bare_names in
+    let tells : before_of (before ++ f.done) ≡ before_of f.done = λ i. told (inside i) (forks i) (earlier i) in
     let before_known = all_join (IsKnown scope) (head_lines script) (sched_lines s.groups) (head_known scope script) (sched_known scope s.groups) in
     let long : length (before ++ f.done) ≡ length before + length f.done = length-append before f.done in
     let parts : length before ≡ length (head_lines script) + length (sched_lines s.groups) = length-append (head_lines script) (sched_lines s.groups) in
@@ -300,11 +305,11 @@ outline_refuses text first rest head number later_number sched children handled 
         each = subst (λ (x : Scope). AllByRecursion (IsKnown x) (before ++ f.done)) (sym scope_is) (all_join (IsKnown scope) before f.done before_known f.known.each);
         once = subst AreDistinct (sym forks) f.known.once;
         outside = front_outside before f.done bare_names f.known.outside;
+        reaching = front_reaching [] before f.done bare_names f.known.reaching;
       };
       fails =
-          subst (λ (x : Scope). CommandFails x (in_handler_after false (before ++ f.done)) (forks_of (before ++ f.done)) f.command kind) (sym scope_is)
-          (subst (λ (t : Bool). CommandFails scope t (forks_of (before ++ f.done)) f.command kind) (sym inside)
-          (subst (λ (ns : List (List ℕ)). CommandFails scope (in_handler_after false f.done) ns f.command kind) (sym forks) f.fails));
+          subst (λ (x : Scope). CommandFails x (before_of (before ++ f.done)) f.command kind) (sym scope_is)
+          (subst (λ (x : Before). CommandFails scope x f.command kind) (sym tells) f.fails);
       number_is = omega (arith, h.next, s.next, f.number_is, long, parts, heads, groups);
     })
 outline_refuses text first rest head number later_number sched children handled errors.Memory h s e = tt

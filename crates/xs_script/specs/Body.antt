@@ -10,20 +10,22 @@ use Rattle.xs_script.specs.declared.block_part.BlockPart.{BlockPart}
 use Rattle.xs_script.specs.declared.block_part.BlockPart.TheVariants as parts
 use Rattle.xs_script.specs.declared.line.Line.{Line}
 use Rattle.xs_script.specs.declared.line.Line.TheVariants as lines
-use Rattle.xs_script.specs.declared.body.Tail.{Tail}
-use Rattle.xs_script.specs.declared.body.Tail.TheVariants as tails
-use Rattle.xs_script.specs.declared.body.Begun.{Begun}
+use Rattle.xs_script.specs.declared.begun.Tail.{Tail}
+use Rattle.xs_script.specs.declared.begun.Tail.TheVariants as tails
+use Rattle.xs_script.specs.declared.begun.Begun.{Begun}
 use Rattle.xs_script.specs.declared.body.Body.{Body}
 use Rattle.xs_script.specs.declared.commands.Scope.{Scope}
+use Rattle.xs_script.specs.declared.own_child.OwnChild.{OwnChild}
 use Rattle.xs_script.specs.declared.refusal.Kind.{Kind}
 use Rattle.xs_script.specs.declared.refusal.ScriptError.{ScriptError}
 use Rattle.xs_script.specs.declared.refusal.ScriptError.TheVariants as errors
 use Rattle.xs_script.specs.ScriptLine.{IsLine, line_text, kept_line}
 use Rattle.xs_script.specs.Grammar.{order_lines, handler_lines, block_lines}
 use Rattle.xs_script.specs.LineOrder.{Stand, AtBlock, InBlock, may_end, next}
-use Rattle.xs_script.specs.Refusal.{Fails, CommandFails, children_of, handled_of, forks_of, in_handler_after, AreKnown}
+use Rattle.xs_script.specs.Before.{Before, forks_of, earlier_after, forks_child, awaits_child, before_of}
+use Rattle.xs_script.specs.Refusal.{Fails, CommandFails, children_of, handled_of, AreKnown}
 use Rattle.xs_script.specs.Front.{IsFront, RefusesFrom}
-use Rattle.xs_script.specs.Commands.{PassesCommand}
+use Rattle.xs_script.specs.Commands.{is_own, is_own_awaited, own_after, known_before, PassesCommand}
 
 abbrev pub names_of : List Block → List (List ℕ)
 names_of blocks = map (λ (block : Block). block.name) blocks
@@ -72,6 +74,7 @@ pub record IsPushed (begun : Begun) (order : Order) (after : Begun) : Type 0 whe
   pub name : after.name ≡ begun.name
   pub body : after.body ≡ body_with begun.body begun.tail order
   pub tail : after.tail ≡ tail_with begun.tail order
+  pub own : after.own ≡ own_after begun.own order.command
 
 -- the whole block
 abbrev pub block_of_begun : Begun → Block
@@ -88,6 +91,22 @@ body_stand body = begun_stand body.blocks body.begun
 abbrev pub begun_inside : Option Begun → Bool
 begun_inside None = false
 begun_inside (Some begun) = tail_inside begun.tail
+
+-- the children that it forks
+abbrev pub begun_own : Option Begun → List OwnChild
+begun_own None = []
+begun_own (Some begun) = begun.own
+
+-- those of the body in which a line leaves a reader
+abbrev pub own_with : List OwnChild → Line → List OwnChild
+own_with own (lines.Begin kind name) = []
+own_with own (lines.Order command) = own_after own command
+own_with own lines.End = []
+own_with own other = own
+
+-- what is known before the next command
+abbrev pub body_before : Body → Before
+body_before body = known_before (begun_inside body.begun) body.forked (begun_own body.begun)
 
 -- the lines that came
 abbrev pub begun_lines : Option Begun → List Line
@@ -111,17 +130,18 @@ pub record IsNumbered (first : ℕ) (body : Body) : Type 0 where
 pub record TakesLine (number : ℕ) (body : Body) (line : Line) (after : Body) : Type 0 where
   pub leads : next (body_stand body) line ≡ Ok (body_stand after)
   pub came : lines_of_body after ≡ lines_of_body body ++ line ∷ []
+  pub own : begun_own after.begun ≡ own_with (begun_own body.begun) line
   pub numbered : (first : ℕ) → number ≡ first + length (lines_of_body body) → IsNumbered first body → IsNumbered first after
 
--- Nothing is wrong with what a line names, in a handler or not, by the children that were forked before and after it.
-abbrev pub PassesLine : Scope → Bool → List (List ℕ) → Line → List (List ℕ) → Type 0
-PassesLine scope inside forked (lines.Order command) after = PassesCommand scope inside forked command × (after ≡ forked ++ forked_name command)
-PassesLine scope inside forked line after = after ≡ forked
+-- Nothing is wrong with what a line names, by what the lines before it tell and by the children that are forked after it.
+abbrev pub PassesLine : Scope → Before → Line → List (List ℕ) → Type 0
+PassesLine scope before (lines.Order command) after = PassesCommand scope before command × (after ≡ before.forked ++ forked_name command)
+PassesLine scope before line after = after ≡ before.forked
 
 -- It takes a line with which nothing is wrong, which is line `number`.
 pub record Adds (scope : Scope) (number : ℕ) (body : Body) (line : Line) (after : Body) : Type 0 where
   pub taken : TakesLine number body line after
-  pub passes : PassesLine scope (begun_inside body.begun) body.forked line after.forked
+  pub passes : PassesLine scope (body_before body) line after.forked
 
 -- It takes what is kept of the text's first line, and the rest comes after that line.
 pub record ReadsLine (scope : Scope) (number : ℕ) (body : Body) (text : List ℕ) (after : Body) (rest : List ℕ) : Type 0 where
@@ -133,26 +153,26 @@ pub record ReadsLine (scope : Scope) (number : ℕ) (body : Body) (text : List �
 -- ---- refusals
 
 -- what a line is refused with by what it names
-abbrev pub LineNames : Scope → Bool → List (List ℕ) → Line → Kind → Type 0
-LineNames scope inside forked (lines.Order command) kind = CommandFails scope inside forked command kind
-LineNames scope inside forked line kind = ⊥
+abbrev pub LineNames : Scope → Before → Line → Kind → Type 0
+LineNames scope before (lines.Order command) kind = CommandFails scope before command kind
+LineNames scope before line kind = ⊥
 
 -- what line `number` is refused with: by its place, or by what it names
 abbrev pub ExplainsAdded : Scope → Body → ℕ → Line → ScriptError → Type 0
-ExplainsAdded scope body number line (errors.Refused at kind) = (at ≡ number) × ((next (body_stand body) line ≡ Err kind) ⊎ LineNames scope (begun_inside body.begun) body.forked line kind)
+ExplainsAdded scope body number line (errors.Refused at kind) = (at ≡ number) × ((next (body_stand body) line ≡ Err kind) ⊎ LineNames scope (body_before body) line kind)
 ExplainsAdded scope body number line errors.Memory = Unit {0}
 
 -- The text's first line is a command that fails.
-pub record FailsHere (scope : Scope) (inside : Bool) (forked : List (List ℕ)) (text : List ℕ) (kind : Kind) : Type 0 where
+pub record FailsHere (scope : Scope) (before : Before) (text : List ℕ) (kind : Kind) : Type 0 where
   pub command : Command
   pub rest : List ℕ
   pub fits : IsLine (lines.Order command)
   pub spelled : text ≡ line_text (lines.Order command) ++ 10 ∷ rest
-  pub fails : CommandFails scope inside forked command kind
+  pub fails : CommandFails scope before command kind
 
 -- what the text's first line, which is line `number`, is refused with
 abbrev pub ExplainsBody : Scope → Body → ℕ → List ℕ → ScriptError → Type 0
-ExplainsBody scope body number text (errors.Refused at kind) = Fails (body_stand body) number text at kind ⊎ ((at ≡ number) × FailsHere scope (begun_inside body.begun) body.forked text kind)
+ExplainsBody scope body number text (errors.Refused at kind) = Fails (body_stand body) number text at kind ⊎ ((at ≡ number) × FailsHere scope (body_before body) text kind)
 ExplainsBody scope body number text errors.Memory = Unit {0}
 
 -- Nothing is wrong with what the lines before a command name, and it fails. Line `first` is the first of them.
@@ -162,7 +182,7 @@ pub record FirstFault (scope : Scope) (first : ℕ) (ls : List Line) (number : �
   pub later : List Line
   pub split : ls ≡ done ++ lines.Order command ∷ later
   pub known : AreKnown scope done
-  pub fails : CommandFails scope (in_handler_after false done) (forks_of done) command kind
+  pub fails : CommandFails scope (before_of done) command kind
   pub number_is : number ≡ first + length done
 
 -- What blocks are refused with: by a line, or else by the first command that fails.
@@ -176,6 +196,10 @@ ExplainsBlocks scope first text errors.Memory = Unit {0}
 
 -- ---- what was read
 
+-- A reader knows of the children of a body what its earlier commands tell, the latest first.
+abbrev pub AreOwn : List OwnChild → List Command → Type 0
+AreOwn own earlier = (name : List ℕ) → (is_own own name ≡ forks_child earlier name) × (is_own_awaited own name ≡ awaits_child earlier name)
+
 -- What a reader keeps is that of the lines so far, with which nothing is wrong. Line `first` is the first of them, and line
 -- `number` the next.
 pub record IsReadSoFar (scope : Scope) (first : ℕ) (text : List ℕ) (body : Body) (number : ℕ) (rest : List ℕ) : Type 0 where
@@ -183,6 +207,7 @@ pub record IsReadSoFar (scope : Scope) (first : ℕ) (text : List ℕ) (body : B
   pub front : IsFront (AtBlock []) text (lines_of_body body) (body_stand body) rest
   pub known : AreKnown scope (lines_of_body body)
   pub forked_is : body.forked ≡ forks_of (lines_of_body body)
+  pub own : AreOwn (begun_own body.begun) (earlier_after [] (lines_of_body body))
   pub next : number ≡ first + length (lines_of_body body)
 
 -- The text is the lines of these blocks, of which there is one at least, and nothing is wrong with them.

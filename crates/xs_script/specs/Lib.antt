@@ -4,6 +4,7 @@ pub mod Reads
 pub mod Parts
 pub mod Grammar
 pub mod LineOrder
+pub mod Before
 pub mod Refusal
 pub mod Front
 pub mod Head

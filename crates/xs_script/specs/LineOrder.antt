@@ -11,7 +11,7 @@ use Rattle.xs_model.specs.declared.script.BlockKind.{BlockKind}
 use Rattle.xs_model.specs.declared.script.BlockKind.TheVariants as blocks
 use Rattle.xs_model.specs.declared.script.Command.{Command}
 use Rattle.xs_model.specs.declared.script.Command.TheVariants as commands
-use Rattle.xs_base.specs.Task.{frame_length}
+use Rattle.xs_base.specs.Task.{frame_length, buffer_length}
 use Rattle.xs_model.specs.Script.{is_kernel_command, is_return, is_user_kind, fits_memory, is_caught}
 use Rattle.xs_script.specs.declared.block_part.BlockPart.{BlockPart}
 use Rattle.xs_script.specs.declared.block_part.BlockPart.TheVariants as parts
@@ -107,19 +107,20 @@ may_have parts.Body blocks.Kthread command = is_kernel_command command
 may_have parts.Handler kind command = true
 may_have parts.Returned kind command = false
 
--- the limit that a command's numbers or bytes are out of: what it reads or writes lies within the frame memory
-abbrev pub frame_limit : Bool → Option LimitName
-frame_limit true = None
-frame_limit false = Some limits.Frame
+-- the limit, where a test isn't passed
+abbrev pub limit_unless : LimitName → Bool → Option LimitName
+limit_unless name true = None
+limit_unless name false = Some name
 
-abbrev pub signal_limit : Bool → Option LimitName
-signal_limit true = None
-signal_limit false = Some limits.Signal
-
+-- The limit that a command's numbers or bytes are out of: what it reads or writes lies within the frame memory or within
+-- the buffer, and a register set has no more bytes than the buffer.
 abbrev pub command_limit : Command → Option LimitName
-command_limit (commands.Peek at len) = frame_limit (fits_memory frame_length at len)
-command_limit (commands.Poke at bytes) = frame_limit (fits_memory frame_length at (length bytes))
-command_limit (commands.Kill name signo) = signal_limit (is_caught signo.number)
+command_limit (commands.Peek at len) = limit_unless limits.Frame (fits_memory frame_length at len)
+command_limit (commands.Poke at bytes) = limit_unless limits.Frame (fits_memory frame_length at (length bytes))
+command_limit (commands.Bpeek at len) = limit_unless limits.Buffer (fits_memory buffer_length at len)
+command_limit (commands.Bpoke at bytes) = limit_unless limits.Buffer (fits_memory buffer_length at (length bytes))
+command_limit (commands.Kill name signo) = limit_unless limits.Signal (is_caught signo.number)
+command_limit (commands.Setregs name set count) = limit_unless limits.Count (nat_le count buffer_length)
 command_limit other = None
 
 abbrev pub limit_fault : Option LimitName → Option Kind

@@ -43,6 +43,17 @@ IsSignalLine (lines.NoSignal name number) = IsLine (lines.NoSignal name number)
 IsSignalLine lines.Handler = IsLine lines.Handler
 IsSignalLine line = ⊥
 
+-- a line of a parent and its child, which waits for it and reaches its registers, and of the buffer for these
+abbrev pub IsTraceLine : Line → Type 0
+IsTraceLine (lines.Order (commands.Bpeek at len)) = IsLine (lines.Order (commands.Bpeek at len))
+IsTraceLine (lines.Order (commands.Bpoke at bytes)) = IsLine (lines.Order (commands.Bpoke at bytes))
+IsTraceLine (lines.Order commands.Stop) = IsLine (lines.Order commands.Stop)
+IsTraceLine (lines.Order (commands.Wait name)) = IsLine (lines.Order (commands.Wait name))
+IsTraceLine (lines.Order (commands.Getregs name set)) = IsLine (lines.Order (commands.Getregs name set))
+IsTraceLine (lines.Order (commands.Setregs name set count)) = IsLine (lines.Order (commands.Setregs name set count))
+IsTraceLine (lines.Order (commands.Cont name)) = IsLine (lines.Order (commands.Cont name))
+IsTraceLine line = ⊥
+
 -- another line of a block, its first and its last one too
 abbrev pub IsBlockLine : Line → Type 0
 IsBlockLine (lines.Begin kind name) = IsLine (lines.Begin kind name)

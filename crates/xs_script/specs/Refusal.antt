@@ -17,16 +17,16 @@ use Rattle.xs_model.specs.Bound.{most_events}
 use Rattle.xs_model.specs.Script.{AreDistinct, AreBlocksNumbered, IsTableOf, IsCommand, IsBuiltCommand, is_outer, fits_register, is_built}
 use Rattle.xs_model.specs.declared.script.BlockKind.{BlockKind}
 use Rattle.xs_model.specs.declared.script.BlockKind.TheVariants as kinds
-use Rattle.xs_model.specs.Names.{forked_name}
 use Rattle.xs_script.specs.declared.commands.Scope.{Scope}
 use Rattle.xs_script.specs.declared.line.Line.{Line}
 use Rattle.xs_script.specs.declared.line.Line.TheVariants as lines
 use Rattle.xs_script.specs.declared.refusal.Kind.{Kind}
-use Rattle.xs_script.specs.declared.refusal.Kind.TheVariants.{NotBuilt, BadLine, Layout, Repeated, UnknownName, OuterInHandler, TooMuch}
+use Rattle.xs_script.specs.declared.refusal.Kind.TheVariants.{NotBuilt, BadLine, Layout, Repeated, UnknownName, OuterInHandler, NotAwaited, TooMuch}
 use Rattle.xs_script.specs.declared.refusal.ScriptError.{ScriptError}
 use Rattle.xs_script.specs.declared.refusal.ScriptError.TheVariants as errors
 use Rattle.xs_script.specs.ScriptLine.{IsLine, line_text}
 use Rattle.xs_script.specs.Grammar.{lines_text, AreGroups, head_lines, script_lines}
+use Rattle.xs_script.specs.Before.{Before, in_handler, forks_of, earlier_with, forks_child, awaits_child, before_of}
 use Rattle.xs_script.specs.LineOrder.{Stand, AtVersion, AtMachine, AtRow, AtCpus, AtQuantum, AtLarge, AtSched, AtBlock, InBlock, may_end, next, Leads}
 
 -- ---- words of a line
@@ -45,9 +45,7 @@ first_word text = before 32 (first_line text)
 
 -- the first words of the forms that this version doesn't have
 unfoldable pub unbuilt_words : List (List ℕ)
-unbuilt_words =
-    codes "tilerelease" ∷ codes "perm" ∷ codes "bpeek" ∷ codes "bpoke" ∷ codes "stop" ∷ codes "wait" ∷ codes "getregs"
-    ∷ codes "setregs" ∷ codes "cont" ∷ []
+unbuilt_words = codes "tilerelease" ∷ codes "perm" ∷ []
 
 -- The text's first line is of a form that this version doesn't have, however it goes on.
 abbrev pub is_unbuilt : List ℕ → Bool
@@ -180,34 +178,6 @@ handled_of ls = handled_after [] ls
 abbrev pub scope_of : List Line → Scope
 scope_of ls = record { layout = table_of ls; children = children_of ls; handled = handled_of ls }
 
--- whether what comes after a line stands in a handler
-abbrev pub in_handler : Bool → Line → Bool
-in_handler inside lines.Handler = true
-in_handler inside lines.End = false
-in_handler inside other = inside
-
-abbrev pub in_handler_after : Bool → List Line → Bool
-in_handler_after inside [] = inside
-in_handler_after inside (l ∷ ls) = in_handler_after (in_handler inside l) ls
-
-abbrev pub fork_of_line : Line → List (List ℕ)
-fork_of_line lines.Version = []
-fork_of_line (lines.Machine named) = []
-fork_of_line (lines.Row r) = []
-fork_of_line (lines.Cpus n) = []
-fork_of_line (lines.Quantum n) = []
-fork_of_line (lines.Large n) = []
-fork_of_line (lines.Sched entries) = []
-fork_of_line (lines.Begin kind name) = []
-fork_of_line (lines.Order command) = forked_name command
-fork_of_line (lines.NoSignal name number) = []
-fork_of_line lines.Handler = []
-fork_of_line lines.End = []
-
--- the names that these lines fork
-abbrev pub forks_of : List Line → List (List ℕ)
-forks_of ls = flat_map fork_of_line ls
-
 abbrev pub is_among : List ℕ → List (List ℕ) → Bool
 is_among name names = list_any (λ other. bytes_eq other name) names
 
@@ -217,7 +187,8 @@ register_of (commands.Set reg bytes) = Some reg
 register_of (commands.Get reg) = Some reg
 register_of other = None
 
--- A fork has the name of a child block, and a signal goes to a block with a handler.
+-- A fork has the name of a child block, and a signal goes to a block with a handler. Of a child that a command waits for or
+-- reaches, the lines before tell more.
 abbrev pub NamesOne : Scope → Command → Type 0
 NamesOne scope (commands.Fork name) = is_among name scope.children ≡ true
 NamesOne scope (commands.Kill name signo) = is_among name scope.handled ≡ true
@@ -233,23 +204,40 @@ abbrev pub outer_fault : Bool → Option Kind
 outer_fault true = Some OuterInHandler
 outer_fault false = None
 
--- What a command is refused with by the block that it names and by its place, which is in a handler or not, where the lines
--- before it fork these children.
-abbrev pub name_fault : Scope → Bool → List (List ℕ) → Command → Option Kind
-name_fault scope inside forked (commands.Fork name) =
-    if is_among name scope.children then (if is_among name forked then Some Repeated else outer_fault inside)
+-- So neither does a wait, which names a child that an earlier line of its body forks. In a handler that isn't tested.
+abbrev pub wait_fault : Bool → Bool → Option Kind
+wait_fault true own = Some OuterInHandler
+wait_fault false true = None
+wait_fault false false = Some UnknownName
+
+-- Nor does a command that reaches such a child, which its body has waited for and not let go on since.
+abbrev pub reach_fault : Bool → Bool → Bool → Option Kind
+reach_fault true own awaited = Some OuterInHandler
+reach_fault false true true = None
+reach_fault false true false = Some NotAwaited
+reach_fault false false awaited = Some UnknownName
+
+-- What a command is refused with by the block that it names and by its place, by what the lines before it tell.
+abbrev pub name_fault : Scope → Before → Command → Option Kind
+name_fault scope before (commands.Fork name) =
+    if is_among name scope.children then (if is_among name before.forked then Some Repeated else outer_fault before.inside)
     else Some UnknownName
-name_fault scope inside forked (commands.Kill name signo) =
-    if is_among name scope.handled then outer_fault inside
+name_fault scope before (commands.Kill name signo) =
+    if is_among name scope.handled then outer_fault before.inside
     else Some UnknownName
-name_fault scope inside forked other = None
+name_fault scope before commands.Stop = outer_fault before.inside
+name_fault scope before (commands.Wait name) = wait_fault before.inside (before.own name)
+name_fault scope before (commands.Getregs name set) = reach_fault before.inside (before.own name) (before.awaited name)
+name_fault scope before (commands.Setregs name set count) = reach_fault before.inside (before.own name) (before.awaited name)
+name_fault scope before (commands.Cont name) = reach_fault before.inside (before.own name) (before.awaited name)
+name_fault scope before other = None
 
 -- What a command is refused with.
-pub data CommandFails (scope : Scope) (inside : Bool) (forked : List (List ℕ)) : Command → Kind → Type 0 where
-  Unknown : (command : Command) (reg : List ℕ) → register_of command ≡ Some reg → ((place : Place) → IsRegister scope.layout reg place → ⊥) → CommandFails scope inside forked command UnknownName
-  Unbuilt : (command : Command) (reg : List ℕ) (place : Place) → register_of command ≡ Some reg → IsRegister scope.layout reg place → is_built place ≡ false → CommandFails scope inside forked command NotBuilt
-  Misfit : (reg bytes : List ℕ) (place : Place) → IsRegister scope.layout reg place → is_built place ≡ true → fits_register place bytes ≡ false → CommandFails scope inside forked (commands.Set reg bytes) BadLine
-  Misnamed : (command : Command) (kind : Kind) → name_fault scope inside forked command ≡ Some kind → CommandFails scope inside forked command kind
+pub data CommandFails (scope : Scope) (before : Before) : Command → Kind → Type 0 where
+  Unknown : (command : Command) (reg : List ℕ) → register_of command ≡ Some reg → ((place : Place) → IsRegister scope.layout reg place → ⊥) → CommandFails scope before command UnknownName
+  Unbuilt : (command : Command) (reg : List ℕ) (place : Place) → register_of command ≡ Some reg → IsRegister scope.layout reg place → is_built place ≡ false → CommandFails scope before command NotBuilt
+  Misfit : (reg bytes : List ℕ) (place : Place) → IsRegister scope.layout reg place → is_built place ≡ true → fits_register place bytes ≡ false → CommandFails scope before (commands.Set reg bytes) BadLine
+  Misnamed : (command : Command) (kind : Kind) → name_fault scope before command ≡ Some kind → CommandFails scope before command kind
 
 abbrev pub IsKnown : Scope → Line → Type 0
 IsKnown scope lines.Version = Unit {0}
@@ -275,12 +263,30 @@ abbrev pub AreOutside : Bool → List Line → Type 0
 AreOutside inside [] = Unit {0}
 AreOutside inside (l ∷ ls) = ((inside && is_outer_line l) ≡ false) × AreOutside (in_handler inside l) ls
 
--- Nothing is wrong with what these lines name: each is known, each child is forked by one of them at most, and those that
--- reach other blocks stand outside of handlers.
+-- A child that a command waits for or reaches is one of its own body, and one that it reaches is awaited.
+abbrev pub ReachesOwn : (List ℕ → Bool) → (List ℕ → Bool) → Command → Type 0
+ReachesOwn own awaited (commands.Wait name) = own name ≡ true
+ReachesOwn own awaited (commands.Getregs name set) = (own name ≡ true) × (awaited name ≡ true)
+ReachesOwn own awaited (commands.Setregs name set count) = (own name ≡ true) × (awaited name ≡ true)
+ReachesOwn own awaited (commands.Cont name) = (own name ≡ true) × (awaited name ≡ true)
+ReachesOwn own awaited other = Unit {0}
+
+abbrev pub LineReachesOwn : (List ℕ → Bool) → (List ℕ → Bool) → Line → Type 0
+LineReachesOwn own awaited (lines.Order command) = ReachesOwn own awaited command
+LineReachesOwn own awaited other = Unit {0}
+
+-- So does each of these lines, which follow the earlier commands of a body, the latest first.
+abbrev pub AreReaching : List Command → List Line → Type 0
+AreReaching earlier [] = Unit {0}
+AreReaching earlier (l ∷ ls) = LineReachesOwn (forks_child earlier) (awaits_child earlier) l × AreReaching (earlier_with earlier l) ls
+
+-- Nothing is wrong with what these lines name: each is known, each child is forked by one of them at most, those that
+-- reach other blocks stand outside of handlers, and a child is reached only where its parent forked and awaited it.
 pub record AreKnown (scope : Scope) (ls : List Line) : Type 0 where
   pub each : AllByRecursion (IsKnown scope) ls
   pub once : AreDistinct (forks_of ls)
   pub outside : AreOutside false ls
+  pub reaching : AreReaching [] ls
 
 -- The lines pass, nothing is wrong with those before one, and that one fails.
 pub record RefusesCommand (text : List ℕ) (number : ℕ) (kind : Kind) : Type 0 where
@@ -289,7 +295,7 @@ pub record RefusesCommand (text : List ℕ) (number : ℕ) (kind : Kind) : Type 
   pub later : List Line
   pub passes : Passes text (done ++ lines.Order command ∷ later)
   pub known : AreKnown (scope_of (done ++ lines.Order command ∷ later)) done
-  pub fails : CommandFails (scope_of (done ++ lines.Order command ∷ later)) (in_handler_after false done) (forks_of done) command kind
+  pub fails : CommandFails (scope_of (done ++ lines.Order command ∷ later)) (before_of done) command kind
   pub number_is : number ≡ length done + 1
 
 -- ---- the third pass: how many events a run may have

@@ -14,6 +14,8 @@ limit_word limits.Large = codes "large"
 limit_word limits.Sched = codes "sched"
 limit_word limits.Blocks = codes "blocks"
 limit_word limits.Frame = codes "frame"
+limit_word limits.Buffer = codes "buffer"
+limit_word limits.Count = codes "count"
 limit_word limits.Signal = codes "signal"
 
 abbrev pub layout_word : LayoutError → List ℕ
@@ -35,6 +37,7 @@ kind_text (kinds.Layout error) = codes "layout " ++ layout_word error
 kind_text kinds.Repeated = codes "repeated"
 kind_text kinds.UnknownName = codes "unknown-name"
 kind_text kinds.OuterInHandler = codes "outer-in-handler"
+kind_text kinds.NotAwaited = codes "not-awaited"
 kind_text (kinds.TooMuch events) = codes "too-much " ++ decimal events
 
 -- `refused LINE KIND` and a line feed

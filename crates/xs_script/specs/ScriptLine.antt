@@ -3,6 +3,8 @@ use Rattle.std.specs.Prelude.{◌≡◌, ℕ, ◌^◌, ◌<◌, ◌≤◌, Bool,
 use Rattle.std.specs.List.{list_all, flat_map, AllByRecursion}
 use Rattle.hex.specs.Hex.{encode_lower}
 use Rattle.xs_base.specs.declared.component.Row.{Row}
+use Rattle.xs_base.specs.declared.words.Set.{Set}
+use Rattle.xs_base.specs.declared.words.Set.TheVariants as sets
 use Rattle.xs_model.specs.declared.script.Named.{Named}
 use Rattle.xs_model.specs.declared.script.Named.TheVariants as machines
 use Rattle.xs_model.specs.declared.script.BlockKind.{BlockKind}
@@ -36,6 +38,11 @@ block_word blocks.Kthread = codes "kthread "
 abbrev pub kill_text : List ℕ → ℕ → List ℕ
 kill_text name number = codes "kill " ++ (name ++ 32 ∷ decimal number)
 
+-- the word of a register set
+abbrev pub set_word : Set → List ℕ
+set_word sets.Xstate = codes "xstate"
+set_word sets.Fx = codes "fx"
+
 -- Words are separated by one space. Bytes are digits 0 to 9 and a to f, two a byte, in the order of addresses. A command
 -- that this version doesn't have has no line.
 abbrev pub command_text : Command → List ℕ
@@ -45,9 +52,16 @@ command_text (commands.Ksec byte) = codes "ksec " ++ encode_lower (byte ∷ [])
 command_text commands.Yield = codes "yield"
 command_text (commands.Peek at len) = codes "peek " ++ (decimal at ++ 32 ∷ decimal len)
 command_text (commands.Poke at bytes) = codes "poke " ++ (decimal at ++ 32 ∷ encode_lower bytes)
+command_text (commands.Bpeek at len) = codes "bpeek " ++ (decimal at ++ 32 ∷ decimal len)
+command_text (commands.Bpoke at bytes) = codes "bpoke " ++ (decimal at ++ 32 ∷ encode_lower bytes)
 command_text commands.Sigreturn = codes "sigreturn"
 command_text (commands.Fork name) = codes "fork " ++ name
 command_text (commands.Kill name signo) = kill_text name signo.number
+command_text commands.Stop = codes "stop"
+command_text (commands.Wait name) = codes "wait " ++ name
+command_text (commands.Getregs name set) = codes "getregs " ++ (name ++ 32 ∷ set_word set)
+command_text (commands.Setregs name set count) = codes "setregs " ++ (name ++ 32 ∷ (set_word set ++ 32 ∷ decimal count))
+command_text (commands.Cont name) = codes "cont " ++ name
 command_text other = []
 
 abbrev pub line_text : Line → List ℕ
@@ -84,9 +98,16 @@ IsCommandLine (commands.Ksec byte) = byte < 256
 IsCommandLine commands.Yield = Unit {0}
 IsCommandLine (commands.Peek at len) = IsNumber at × IsNumber len
 IsCommandLine (commands.Poke at bytes) = IsNumber at × (0 < length bytes) × AllByRecursion (λ byte. byte < 256) bytes
+IsCommandLine (commands.Bpeek at len) = IsNumber at × IsNumber len
+IsCommandLine (commands.Bpoke at bytes) = IsNumber at × (0 < length bytes) × AllByRecursion (λ byte. byte < 256) bytes
 IsCommandLine commands.Sigreturn = Unit {0}
 IsCommandLine (commands.Fork name) = is_name name ≡ true
 IsCommandLine (commands.Kill name signo) = is_name name ≡ true
+IsCommandLine commands.Stop = Unit {0}
+IsCommandLine (commands.Wait name) = is_name name ≡ true
+IsCommandLine (commands.Getregs name set) = is_name name ≡ true
+IsCommandLine (commands.Setregs name set count) = (is_name name ≡ true) × IsNumber count
+IsCommandLine (commands.Cont name) = is_name name ≡ true
 IsCommandLine other = ⊥
 
 -- a number that is that of a signal
@@ -121,6 +142,7 @@ kept_row r = record r { comp = record { 0 = min r.comp.0 255 } }
 abbrev pub kept_command : Command → Command
 kept_command (commands.Set reg bytes) = commands.Set reg (kept_bytes bytes)
 kept_command (commands.Poke at bytes) = commands.Poke at (kept_bytes bytes)
+kept_command (commands.Bpoke at bytes) = commands.Bpoke at (kept_bytes bytes)
 kept_command other = other
 
 abbrev pub kept_line : Line → Line

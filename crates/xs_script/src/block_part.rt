@@ -1,9 +1,9 @@
 //! The parts of a block, and what may stand in each.
 
 ghost use Rattle.std.specs.Prelude.{◌≡◌, ◌^◌, ◌<◌};
-ghost use Rattle.xs_base.specs.Task.{frame_length};
+ghost use Rattle.xs_base.specs.Task.{frame_length, buffer_length};
 ghost use Rattle.xs_model.specs.Script.{is_kernel_command, is_return, is_user_kind, fits_memory, is_caught};
-ghost use Rattle.xs_script.specs.LineOrder.{may_have, may_handle, may_close, no_signal_kind, part_after, frame_limit, signal_limit, command_limit, order_fault};
+ghost use Rattle.xs_script.specs.LineOrder.{may_have, may_handle, may_close, no_signal_kind, part_after, limit_unless, command_limit, order_fault};
 
 use crate::refusal::{Kind, LimitName};
 use xs_base::Signo;
@@ -11,6 +11,9 @@ use xs_model::{BlockKind, Command};
 
 /// The bytes of the memory of a signal frame.
 const FRAME_LENGTH: u64 = 16_388;
+
+/// The bytes of the buffer for register sets.
+const BUFFER_LENGTH: u64 = 16_384;
 
 /// The most bytes that a line reads or writes of a memory.
 const MOST_BYTES: u64 = 64;
@@ -105,31 +108,47 @@ fn command_limit(command: &Command) -> Option<LimitName>
     ensures { result ≡ command_limit command.now }
 {
     match command {
-        Command::Peek { at, len } => frame_limit(fits_frame(*at, *len as u64)),
-        Command::Poke { at, bytes } => frame_limit(fits_frame(*at, bytes.as_slice().len() as u64)),
-        Command::Kill { signo, .. } => signal_limit(is_caught(*signo)),
+        Command::Peek { at, len } => frame_limit(*at, *len as u64),
+        Command::Poke { at, bytes } => frame_limit(*at, bytes.as_slice().len() as u64),
+        Command::Bpeek { at, len } => buffer_limit(*at, *len as u64),
+        Command::Bpoke { at, bytes } => buffer_limit(*at, bytes.as_slice().len() as u64),
+        Command::Kill { signo, .. } => limit_unless(LimitName::Signal, is_caught(*signo)),
+        Command::Setregs { count, .. } => {
+            limit_unless(LimitName::Count, *count as u64 <= BUFFER_LENGTH)
+        }
         _ => None,
     }
 }
 
-fn frame_limit(fits: bool) -> Option<LimitName>
-    ensures { result ≡ frame_limit fits }
-{
-    if fits { None } else { Some(LimitName::Frame) }
-}
-
-fn signal_limit(fits: bool) -> Option<LimitName>
-    ensures { result ≡ signal_limit fits }
-{
-    if fits { None } else { Some(LimitName::Signal) }
-}
-
-/// Whether so many bytes from a place on lie within the memory of a signal frame, and are 1 to 64.
-fn fits_frame(at: u32, len: u64) -> bool
+/// The limit that so many bytes of the memory of a signal frame are out of, from a place on.
+fn frame_limit(at: u32, len: u64) -> Option<LimitName>
     requires { len < 2 ^ 32 }
-    ensures { result ≡ fits_memory frame_length at len }
+    ensures { result ≡ limit_unless LimitName.Frame (fits_memory frame_length at len) }
 {
-    1 <= len && len <= MOST_BYTES && at as u64 + len <= FRAME_LENGTH
+    limit_unless(LimitName::Frame, fits_memory(FRAME_LENGTH, at, len))
+}
+
+/// The limit that so many bytes of the buffer are out of.
+fn buffer_limit(at: u32, len: u64) -> Option<LimitName>
+    requires { len < 2 ^ 32 }
+    ensures { result ≡ limit_unless LimitName.Buffer (fits_memory buffer_length at len) }
+{
+    limit_unless(LimitName::Buffer, fits_memory(BUFFER_LENGTH, at, len))
+}
+
+/// The limit, where what it limits is out of it.
+fn limit_unless(name: LimitName, fits: bool) -> Option<LimitName>
+    ensures { result ≡ limit_unless name fits }
+{
+    if fits { None } else { Some(name) }
+}
+
+/// Whether so many bytes from a place on lie within a memory of this size, and are 1 to 64.
+fn fits_memory(size: u64, at: u32, len: u64) -> bool
+    requires { len < 2 ^ 32 }
+    ensures { result ≡ fits_memory size at len }
+{
+    1 <= len && len <= MOST_BYTES && at as u64 + len <= size
 }
 
 /// Whether a handler can have the signal: SIGKILL and SIGSTOP have none.

@@ -5,40 +5,21 @@ ghost use Rattle.std.specs.List.{list_any};
 ghost use Rattle.std.specs.Str.{bytes_eq};
 ghost use Rattle.xs_model.specs.declared.script.Block.{Block};
 ghost use Rattle.xs_model.specs.Names.{forked_name};
-ghost use Rattle.xs_script.specs.LineOrder.{order_fault, next, may_end};
+ghost use Rattle.xs_script.specs.LineOrder.{next, may_end};
 ghost use Rattle.xs_script.specs.Front.{ExplainsLine, ExplainsNext};
-ghost use Rattle.xs_script.specs.Body.{tail_part, tail_inside, tail_orders, handler_with, block_of_begun, IsPushed, TakesLine, Adds, ReadsLine, begun_inside, body_stand, lines_of_body, ExplainsAdded, ExplainsBody};
+ghost use Rattle.xs_script.specs.Body.{begun_inside, begun_own, TakesLine, Adds, ReadsLine, body_stand, ExplainsAdded, ExplainsBody};
 
-use crate::block_part::BlockPart;
+use crate::begun::{Begun, Tail};
 use crate::commands::{Scope, command_fault};
 use crate::front::first_line;
 use crate::line::Line;
+use crate::own_child::OwnChild;
 use crate::refusal::{Kind, LimitName, ScriptError};
 use std::alloc::{AllocError, Global};
 use xs_model::{Block, BlockKind, Command, Items, Name, Order};
 
 /// The most blocks of a script.
 const MOST_BLOCKS: usize = 64;
-
-/// The handler of a block that has begun.
-#[derive(Drop)]
-pub(crate) enum Tail {
-    /// None has begun.
-    Body,
-    /// These lines of it came.
-    Handler(Items<Order>),
-    /// These are all its lines.
-    Returned(Items<Order>),
-}
-
-/// A block that has begun and not ended.
-#[derive(Drop)]
-pub(crate) struct Begun {
-    pub(crate) kind: BlockKind,
-    pub(crate) name: Name,
-    pub(crate) body: Items<Order>,
-    pub(crate) tail: Tail,
-}
 
 /// What came so far of the blocks: those that are whole, the one that has begun, and the names of the children that their
 /// lines fork.
@@ -47,106 +28,6 @@ pub(crate) struct Body {
     pub(crate) blocks: Items<Block>,
     pub(crate) begun: Option<Begun>,
     pub(crate) forked: Items<Name>,
-}
-
-impl Tail {
-    /// The part of the block that a reader stands in.
-    fn part(&self) -> BlockPart
-        ensures { result ≡ tail_part self.now }
-    {
-        match self {
-            Tail::Body => BlockPart::Body,
-            Tail::Handler(_) => BlockPart::Handler,
-            Tail::Returned(_) => BlockPart::Returned,
-        }
-    }
-
-    /// Whether a reader stands in the handler, to its end.
-    fn is_inside(&self) -> bool
-        ensures { result ≡ tail_inside self.now }
-    {
-        match self {
-            Tail::Body => false,
-            Tail::Handler(_) | Tail::Returned(_) => true,
-        }
-    }
-
-    /// The lines of the handler.
-    fn into_orders(self, alloc: Global) -> Items<Order>
-        ensures { result ≡ tail_orders self }
-    {
-        match self {
-            Tail::Body => Items::new(alloc),
-            Tail::Handler(orders) | Tail::Returned(orders) => orders,
-        }
-    }
-}
-
-impl Begun {
-    /// What a command is refused with by its place.
-    fn order_fault(&self, command: &Command) -> Option<Kind>
-        ensures { result ≡ order_fault (tail_part self.now.tail) self.now.kind command.now }
-    {
-        self.tail.part().order_fault(self.kind, command)
-    }
-
-    /// The block with one line more, which may stand there.
-    fn push(self, order: Order) -> Result<Begun, AllocError>
-        requires { order_fault (tail_part self.tail) self.kind order.command ≡ None }
-        ensures { IfOk result (IsPushed self order) }
-    {
-        let Begun {
-            kind,
-            name,
-            mut body,
-            tail,
-        } = self;
-        let tail = match tail {
-            Tail::Body => {
-                body.push(order)?;
-                Tail::Body
-            }
-            Tail::Handler(orders) => push_handler(orders, order)?,
-            Tail::Returned(orders) => Tail::Returned(orders),
-        };
-        Ok(Begun {
-            kind,
-            name,
-            body,
-            tail,
-        })
-    }
-
-    /// The whole block, which may end there.
-    fn into_block(self, alloc: Global) -> Block
-        ensures { result ≡ block_of_begun self }
-    {
-        let Begun {
-            kind,
-            name,
-            body,
-            tail,
-        } = self;
-        let handler = tail.into_orders(alloc);
-        Block {
-            kind,
-            name,
-            body,
-            handler,
-        }
-    }
-}
-
-/// The handler of these lines and one more, which ends it where it is the return.
-fn push_handler(mut orders: Items<Order>, order: Order) -> Result<Tail, AllocError>
-    ensures { IfOk result (λ tail. tail ≡ handler_with orders order) }
-{
-    let part = BlockPart::Handler.after(&order.command);
-    orders.push(order)?;
-    match part {
-        BlockPart::Returned => Ok(Tail::Returned(orders)),
-        _ => Ok(Tail::Handler(orders)),
-    }
 }
 
 impl Body {
@@ -258,6 +139,7 @@ impl Body {
             name,
             body: Items::new(alloc),
             tail: Tail::Body,
+            own: Items::new(alloc),
         });
         Ok(())
     }
@@ -271,6 +153,7 @@ impl Body {
             scope,
             self.is_inside(),
             self.forked.as_slice(),
+            self.own(),
             &command,
         ) {
             return Err(ScriptError::Refused { line: number, kind });
@@ -289,6 +172,16 @@ impl Body {
         match &self.begun {
             Some(begun) => begun.tail.is_inside(),
             None => false,
+        }
+    }
+
+    /// The children that the lines of the block that has begun fork.
+    fn own(&self) -> &[OwnChild]
+        ensures { result.now ≡ begun_own self.now.begun }
+    {
+        match &self.begun {
+            Some(begun) => begun.own.as_slice(),
+            None => &[],
         }
     }
 
@@ -342,6 +235,7 @@ impl Body {
                     name: begun.name,
                     body: begun.body,
                     tail: Tail::Handler(Items::new(alloc)),
+                    own: begun.own,
                 });
                 Ok(())
             }

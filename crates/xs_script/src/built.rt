@@ -8,17 +8,7 @@ ghost use Rattle.xs_script.specs.Refusal.{unbuilt_words};
 use xs_base::Place;
 
 /// The first words of the forms that this version doesn't have.
-const UNBUILT_WORDS: [&[u8]; 9] = [
-    b"tilerelease",
-    b"perm",
-    b"bpeek",
-    b"bpoke",
-    b"stop",
-    b"wait",
-    b"getregs",
-    b"setregs",
-    b"cont",
-];
+const UNBUILT_WORDS: [&[u8]; 2] = [b"tilerelease", b"perm"];
 
 /// Whether it is one of those words.
 pub(crate) fn is_unbuilt_word(word: &[u8]) -> bool

@@ -4,10 +4,11 @@ ghost use Rattle.std.specs.Prelude.{◌≡◌, ◌==◌, drop, MatchOption, IfOk
 ghost use Rattle.std.specs.List.{list_all};
 ghost use Rattle.xs_base.specs.File.{is_mxcsr};
 ghost use Rattle.xs_model.specs.Script.{fits_register};
-ghost use Rattle.xs_script.specs.Refusal.{is_among, outer_fault, name_fault, CommandFails};
-ghost use Rattle.xs_script.specs.Commands.{IsBuiltRegister, RegisterFails, PassesCommand};
+ghost use Rattle.xs_script.specs.Refusal.{is_among, outer_fault, wait_fault, reach_fault, name_fault, CommandFails};
+ghost use Rattle.xs_script.specs.Commands.{known_before, IsBuiltRegister, RegisterFails, PassesCommand};
 
 use crate::built::is_built;
+use crate::own_child::{OwnChild, is_own, is_own_awaited};
 use crate::refusal::Kind;
 use xs_base::{Lane, Place};
 use xs_layout::Layout;
@@ -25,14 +26,16 @@ pub struct Scope {
     pub handled: Items<Name>,
 }
 
-/// What a command is refused with, in a handler or not, where the lines before it fork these children.
+/// What a command is refused with, in a handler or not, where the lines before it fork these children, and those of its own
+/// body these.
 pub(crate) fn command_fault(
     scope: &Scope,
     inside: bool,
     forked: &[Name],
+    own: &[OwnChild],
     command: &Command,
 ) -> Option<Kind>
-    ensures { MatchOption result (PassesCommand scope.now inside forked.now command.now) (CommandFails scope.now inside forked.now command.now) }
+    ensures { MatchOption result (PassesCommand scope.now (known_before inside forked.now own.now) command.now) (CommandFails scope.now (known_before inside forked.now own.now) command.now) }
 {
     match command {
         Command::Set { reg, bytes } => match find_register(&scope.layout, reg.as_slice()) {
@@ -44,13 +47,19 @@ pub(crate) fn command_fault(
             Ok(_) => None,
             Err(kind) => Some(kind),
         },
-        other => name_fault(scope, inside, forked, other),
+        other => name_fault(scope, inside, forked, own, other),
     }
 }
 
 /// What a command is refused with by the block that it names and by its place, which is in a handler or not.
-fn name_fault(scope: &Scope, inside: bool, forked: &[Name], command: &Command) -> Option<Kind>
-    ensures { result ≡ name_fault scope.now inside forked.now command.now }
+fn name_fault(
+    scope: &Scope,
+    inside: bool,
+    forked: &[Name],
+    own: &[OwnChild],
+    command: &Command,
+) -> Option<Kind>
+    ensures { result ≡ name_fault scope.now (known_before inside forked.now own.now) command.now }
 {
     match command {
         Command::Fork { name } => {
@@ -68,6 +77,11 @@ fn name_fault(scope: &Scope, inside: bool, forked: &[Name], command: &Command) -
             }
             outer_fault(inside)
         }
+        Command::Stop => outer_fault(inside),
+        Command::Wait { name } => wait_fault(inside, is_own(own, name)),
+        Command::Getregs { name, .. } | Command::Setregs { name, .. } | Command::Cont { name } => {
+            reach_fault(inside, is_own(own, name), is_own_awaited(own, name))
+        }
         _ => None,
     }
 }
@@ -80,6 +94,28 @@ fn outer_fault(inside: bool) -> Option<Kind>
         Some(Kind::OuterInHandler)
     } else {
         None
+    }
+}
+
+/// What a wait is refused with, in a handler or not, for a child of its own body or another block.
+fn wait_fault(inside: bool, own: bool) -> Option<Kind>
+    ensures { result ≡ wait_fault inside own }
+{
+    match (inside, own) {
+        (true, _) => Some(Kind::OuterInHandler),
+        (false, true) => None,
+        (false, false) => Some(Kind::UnknownName),
+    }
+}
+
+/// What a command that reaches a child is refused with, which is one of its own body or not, and awaited or not.
+fn reach_fault(inside: bool, own: bool, awaited: bool) -> Option<Kind>
+    ensures { result ≡ reach_fault inside own awaited }
+{
+    match wait_fault(inside, own) {
+        Some(kind) => Some(kind),
+        None if awaited => None,
+        None => Some(Kind::NotAwaited),
     }
 }
 

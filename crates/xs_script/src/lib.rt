@@ -3,6 +3,7 @@
 //! which text spells a script, and `Refusal` which line refuses it.
 #![tactic(auto)]
 
+mod begun;
 mod block_part;
 mod body;
 mod built;
@@ -12,9 +13,11 @@ mod head;
 mod line;
 mod line_reader;
 mod outline;
+mod own_child;
 mod reader;
 mod refusal;
 mod schedule;
+mod trace_lines;
 mod words;
 
 pub use reader::{every_text, not_both, one_refusal, one_script, read_script};

@@ -1,15 +1,18 @@
 //! The lines of a script, read.
 
-ghost use Rattle.std.specs.Prelude.{◌≡◌, ◌<◌, true, List, ℕ, ◌∷◌, ◌++◌, length, codes, decimal, bytes_eq, MatchOption, IfSome};
+ghost use Rattle.std.specs.Prelude.{◌≡◌, ◌<◌, List, ℕ, ◌∷◌, ◌++◌, length, codes, bytes_eq, MatchOption, IfSome};
 ghost use Rattle.xs_script.specs.declared.line.Line.{Line};
-ghost use Rattle.xs_script.specs.ScriptLine.{block_word, line_text, IsNumber, IsSignal, kept_line};
+ghost use Rattle.xs_script.specs.ScriptLine.{block_word, line_text, IsSignal, kept_line};
 ghost use Rattle.xs_script.specs.Reads.{ReadsAs};
 ghost use Rattle.xs_script.specs.Parts.{IsPlainLine, IsBlockLine, IsSignalLine, IsHeadLine, IsKillLine, NoPlainLine};
 ghost use Rattle.xs_script.specs.Refusal.{is_unbuilt, first_word};
 
 use crate::built::is_unbuilt_word;
 use crate::line::Line;
-use crate::words::{before, cut_at, read_byte, read_bytes, read_name, read_number, read_register};
+use crate::trace_lines::read_trace_line;
+use crate::words::{
+    before, cut_at, read_byte, read_bytes, read_first_number, read_name, read_number, read_register,
+};
 use xs_base::{Comp, Row, Signo, after};
 use xs_model::{BlockKind, Command, Name, Named};
 
@@ -49,7 +52,10 @@ fn read_line(line: &[u8]) -> Option<Line>
         Some(line) => Some(line),
         None => match read_signal_line(line) {
             Some(line) => Some(line),
-            None => read_head_line(line),
+            None => match read_trace_line(line) {
+                Some(line) => Some(line),
+                None => read_head_line(line),
+            },
         },
     }
 }
@@ -259,13 +265,4 @@ fn read_row(words: &[u8]) -> Option<Line>
         offset,
         flags,
     }))
-}
-
-/// The number before the first space of some words, and the words after it.
-fn read_first_number(words: &[u8]) -> Option<(u32, &[u8])>
-    ensures { MatchOption result ((n : ℕ) (rest : List ℕ) → IsNumber n → words.now ≡ decimal n ++ 32 ∷ rest → ⊥) (λ x. IsNumber x.0 × (words.now ≡ decimal x.0 ++ 32 ∷ x.1.now)) }
-{
-    let (number, rest) = cut_at(b' ', words)?;
-    let number = read_number(number)?;
-    Some((number, rest))
 }

@@ -23,6 +23,10 @@ pub enum LimitName {
     Blocks,
     /// Bytes that a line reads or writes of the memory of a signal frame: 1 to 64, within its 16,388.
     Frame,
+    /// Bytes that a line reads or writes of the buffer for register sets: 1 to 64, within its 16,384.
+    Buffer,
+    /// Bytes that a register set is set from: at most 16,384.
+    Count,
     /// Signals: 1 to 31 without 9 and 19.
     Signal,
 }
@@ -41,11 +45,14 @@ pub enum Kind {
     Layout(LayoutError),
     /// A block has the name of an earlier one, or a child is forked that an earlier line forks.
     Repeated,
-    /// A register isn't one of the machine, the name after `fork` isn't that of a child block, or the one after `kill` isn't
-    /// that of a block with a handler.
+    /// A register isn't one of the machine, the name after `fork` isn't that of a child block, the one after `kill` isn't
+    /// that of a block with a handler, or the one after `wait`, `getregs`, `setregs` or `cont` isn't that of a child that an
+    /// earlier line of the same body forks.
     UnknownName,
     /// A command that reaches another block stands in a handler.
     OuterInHandler,
+    /// A child is reached for which no line of the same body waits before, or that one let go on since.
+    NotAwaited,
     /// The bound on the events of a run is this one, and exceeds 1,048,576. The line is 0.
     TooMuch(u64),
 }
@@ -99,6 +106,7 @@ fn put_kind(out: &mut RefusalLine, kind: Kind)
         Kind::Repeated => put(out, b" repeated"),
         Kind::UnknownName => put(out, b" unknown-name"),
         Kind::OuterInHandler => put(out, b" outer-in-handler"),
+        Kind::NotAwaited => put(out, b" not-awaited"),
         Kind::TooMuch(events) => {
             put(out, b" too-much ");
             let mut buffer = Buffer::new();
@@ -118,6 +126,8 @@ fn limit_word(name: LimitName) -> &'static [u8]
         LimitName::Sched => b"sched",
         LimitName::Blocks => b"blocks",
         LimitName::Frame => b"frame",
+        LimitName::Buffer => b"buffer",
+        LimitName::Count => b"count",
         LimitName::Signal => b"signal",
     }
 }

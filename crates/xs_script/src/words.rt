@@ -6,7 +6,7 @@ ghost use Rattle.std.specs.Str.{bytes_eq};
 ghost use Rattle.hex.specs.Hex.{encode_lower};
 ghost use Rattle.xs_model.specs.Script.{is_letter, is_letter_or_digit, is_name};
 ghost use Rattle.xs_script.specs.Reads.{Reads, ReadsAs, Lacks};
-ghost use Rattle.xs_script.specs.ScriptLine.{is_register_byte, is_register_word, kept_bytes};
+ghost use Rattle.xs_script.specs.ScriptLine.{IsNumber, is_register_byte, is_register_word, kept_bytes};
 ghost use Rattle.xs_script.specs.Parts.{IsValue, IsSpelledBy, is_lower_digit, is_hex_text, digit_value};
 ghost use Rattle.xs_script.specs.Refusal.{before};
 
@@ -62,6 +62,15 @@ fn parse_number(bytes: &[u8]) -> Option<u32>
         Ok(number) => Some(number),
         Err(_) => None,
     }
+}
+
+/// The number before the first space of some words, and the words after it.
+pub fn read_first_number(words: &[u8]) -> Option<(u32, &[u8])>
+    ensures { MatchOption result ((n : ℕ) (rest : List ℕ) → IsNumber n → words.now ≡ decimal n ++ 32 ∷ rest → ⊥) (λ x. IsNumber x.0 × (words.now ≡ decimal x.0 ++ 32 ∷ x.1.now)) }
+{
+    let (number, rest) = cut_at(b' ', words)?;
+    let number = read_number(number)?;
+    Some((number, rest))
 }
 
 /// The name of a block that the bytes are.

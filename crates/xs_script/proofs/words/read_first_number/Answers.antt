@@ -1,7 +1,7 @@
 use Rattle.std.proofs.Common.{decimal}
 use Rattle.xs_script.proofs.Cuts.{no_cut}
 use Rattle.xs_script.proofs.Readings.{no_number}
-use Rattle.xs_script.proofs.line_reader.read_first_number.Goals as goal
+use Rattle.xs_script.proofs.words.read_first_number.Goals as goal
 
 pub returns-in_err-number : goal.returns-in_err-number
 returns-in_err-number c = rw c.from_residual.ensures (λ n rest fits e. no_cut 32 c.args.words.now (decimal n) rest c.in_err-number.ensures e)
