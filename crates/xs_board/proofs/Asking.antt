@@ -17,14 +17,15 @@ use Rattle.xs_model.specs.Note.{is_at, mark}
 use Rattle.xs_model.specs.Script.{is_user, is_user_block, is_user_kind}
 use Rattle.xs_model.specs.State.{is_active, is_on_cpu, is_ready, lives, none_lives, turn_cpu}
 use Rattle.xs_task.specs.declared.task.Task.{Task}
-use Rattle.xs_board.specs.Mailbox.{Mailbox, closed, emptied, mailbox_at, mailbox_of, next_signal}
+use Rattle.xs_board.specs.Member.{Member, absent, emptied, life_of, member_at, member_of, next_signal}
 use Rattle.xs_base.specs.declared.component.Row.{Row}
 use Rattle.xs_base.specs.declared.words.Signo.{Signo}
 use Rattle.xs_base.specs.Task.{PrivateTask}
 use Rattle.xs_model.specs.Due.{first_signal, signal_of}
 use Rattle.xs_model.specs.Machine.{later_signals, started}
-use Rattle.xs_model.specs.State.{BlockState}
-use Rattle.xs_board.specs.Board.{Board, signal_at, signal_in, private_in, task_of_state, IsBoard, IsKeptBeside, IsTaskOf, HasHome, past_of, machine_in, ready_of, stage_in, turn_on, living}
+use Rattle.xs_model.specs.State.{BlockState, task_of_state}
+use Rattle.xs_board.specs.declared.member.Life.TheVariants.{Going}
+use Rattle.xs_board.specs.Board.{Board, signal_at, signal_in, private_in, IsBoard, IsKeptBeside, IsTaskOf, HasHome, past_of, machine_in, ready_of, stage_in, turn_on, living}
 use Rattle.xs_board.specs.Home.{IsHome, is_resting}
 use Rattle.xs_board.specs.Laws.{Laws}
 use Rattle.xs_board.specs.Taken.{HasOther, is_user_how}
@@ -38,16 +39,16 @@ nil_of_len [] none = refl
 nil_of_len (x ∷ xs) none = absurd (omega arith)
 
 -- none lives where none is counted, and one lives where some are
-pub nobody_lives : (board : Board) (list : List ℕ) (capacity count : ℕ) (boxes : List Mailbox) → IsKeptBeside board list capacity count boxes → count ≡ 0 → none_lives (machine_in board) ≡ true
-nobody_lives board list capacity count boxes kept none = none_counted (machine_in board).blocks 0 ∙ eq-eqb (living board) 0 (sym kept.alive ∙ none)
+pub nobody_lives : (board : Board) (list : List ℕ) (capacity count : ℕ) (members : List Member) → IsKeptBeside board list capacity count members → count ≡ 0 → none_lives (machine_in board) ≡ true
+nobody_lives board list capacity count members kept none = none_counted (machine_in board).blocks 0 ∙ eq-eqb (living board) 0 (sym kept.alive ∙ none)
 
 -- one lives where some are counted
-pub somebody_lives : (board : Board) (list : List ℕ) (capacity count : ℕ) (boxes : List Mailbox) → IsKeptBeside board list capacity count boxes → (count ≡ 0 → ⊥) → none_lives (machine_in board) ≡ false
-somebody_lives board list capacity count boxes kept some = none_counted (machine_in board).blocks 0 ∙ ne_eqb (living board) 0 (λ (e : living board ≡ 0). some (kept.alive ∙ e))
+pub somebody_lives : (board : Board) (list : List ℕ) (capacity count : ℕ) (members : List Member) → IsKeptBeside board list capacity count members → (count ≡ 0 → ⊥) → none_lives (machine_in board) ≡ false
+somebody_lives board list capacity count members kept some = none_counted (machine_in board).blocks 0 ∙ ne_eqb (living board) 0 (λ (e : living board ≡ 0). some (kept.alive ∙ e))
 
 -- the first of the list is ready
-pub first_ready : FirstReady → (board : Board) (list : List ℕ) (capacity count t : ℕ) (boxes : List Mailbox) (rest : List ℕ) → IsBoard board → IsKeptBeside board list capacity count boxes → list ≡ t ∷ rest → stage_in board t ≡ Ready
-first_ready law board list capacity count t boxes rest is kept front = law board.script (past_of board) t rest is.legal (sym kept.queue ∙ front)
+pub first_ready : FirstReady → (board : Board) (list : List ℕ) (capacity count t : ℕ) (members : List Member) (rest : List ℕ) → IsBoard board → IsKeptBeside board list capacity count members → list ≡ t ∷ rest → stage_in board t ≡ Ready
+first_ready law board list capacity count t members rest is kept front = law board.script (past_of board) t rest is.legal (sym kept.queue ∙ front)
 
 -- it is one of the script's blocks
 pub ready_known : MachineKnown → (board : Board) (t : ℕ) → stage_in board t ≡ Ready → t < length board.script.blocks
@@ -88,17 +89,17 @@ how_known law board t cpu kind task known how is own kind_is known_is how_is = e
 ]
 
 -- a user task comes by a load or a skip, a kernel thread by neither
-pub user_how : (user is_held : Bool) → is_user_how (how_of user is_held) ≡ user
+pub user_how : (user is_stopped_life : Bool) → is_user_how (how_of user is_stopped_life) ≡ user
 user_how true true = refl
 user_how true false = refl
 user_how false true = refl
 user_how false false = refl
 
 -- a restore is left out only where both numbers say so
-pub skip_held : (user is_held : Bool) → how_of user is_held ≡ Skip → is_held ≡ true
+pub skip_held : (user is_stopped_life : Bool) → how_of user is_stopped_life ≡ Skip → is_stopped_life ≡ true
 skip_held true true skip = refl
 skip_held true false skip = absurd (cc skip)
-skip_held false is_held skip = absurd (cc skip)
+skip_held false is_stopped_life skip = absurd (cc skip)
 
 -- the number that is known
 pub is_at_some : (known : Option ℕ) (x : ℕ) → is_at known x ≡ true → known ≡ Some x
@@ -121,14 +122,14 @@ abbrev rest_after : Option Signo → List Signo → List Signo
 rest_after None pending = pending
 rest_after (Some signo) pending = later_signals pending
 
-started_box : (cpu : ℕ) (signal : Option Signo) (block : BlockState) → mailbox_of (Some (started cpu signal block)) ≡ record { alive = true; pending = rest_after signal block.pending }
-started_box cpu None block = refl
-started_box cpu (Some signo) block = refl
+started_member : (cpu : ℕ) (signal : Option Signo) (block : BlockState) → member_of (Some (started cpu signal block)) ≡ record { life = Going; parent = block.parent; pending = rest_after signal block.pending }
+started_member cpu None block = refl
+started_member cpu (Some signo) block = refl
 
-left_in : (handling : Bool) (pending : List Signo) → emptied handling (record { alive = true; pending = pending }) ≡ record { alive = true; pending = rest_after (if handling then None else first_signal pending) pending }
-left_in true pending = refl
-left_in false [] = refl
-left_in false (signo ∷ pending) = refl
+left_in : (handling : Bool) (parent : Option ℕ) (pending : List Signo) → emptied handling (record { life = Going; parent = parent; pending = pending }) ≡ record { life = Going; parent = parent; pending = rest_after (if handling then None else first_signal pending) pending }
+left_in true parent pending = refl
+left_in false parent [] = refl
+left_in false parent (signo ∷ pending) = refl
 
 -- none where none is pending
 none_next : (handling : Bool) → (if handling then None else first_signal []) ≡ None
@@ -152,28 +153,28 @@ next_is laws board t block task is own here = elim (cases_Bool (is_user board.sc
     handling_of true rows task private user home = sym (ap (λ (p : PrivateTask). p.handling) home.parked.form)
     handling_of false rows task private user home = absurd (cc user)
 
--- its mailbox
-box_there : Laws → (board : Board) (list : List ℕ) (capacity count t : ℕ) (boxes : List Mailbox) (box : Mailbox) → IsKeptBeside board list capacity count boxes → stage_in board t ≡ Ready → box ≡ get_or boxes t box → box ≡ mailbox_at boxes t
-box_there laws board list capacity count t boxes box kept ready there =
+-- what is kept beside it
+member_there : Laws → (board : Board) (list : List ℕ) (capacity count t : ℕ) (members : List Member) (member : Member) → IsKeptBeside board list capacity count members → stage_in board t ≡ Ready → member ≡ get_or members t member → member ≡ member_at members t
+member_there laws board list capacity count t members member kept ready there =
     let known = ready_known laws.machine board t ready in
     let each = kept.each in
-    there ∙ get_or_default boxes t box closed (omega (arith, known, each))
+    there ∙ get_or_default members t member absent (omega (arith, known, each))
 
 -- the signal that it gives
-signal_known : Laws → (board : Board) (list : List ℕ) (capacity count t : ℕ) (boxes : List Mailbox) (box : Mailbox) (task : Task) → IsBoard board → IsKeptBeside board list capacity count boxes → IsTaskOf board t task → stage_in board t ≡ Ready → box ≡ get_or boxes t box → next_signal task.handling box ≡ signal_in board t
-signal_known laws board list capacity count t boxes box task is kept own ready there =
+signal_known : Laws → (board : Board) (list : List ℕ) (capacity count t : ℕ) (members : List Member) (member : Member) (task : Task) → IsBoard board → IsKeptBeside board list capacity count members → IsTaskOf board t task → stage_in board t ≡ Ready → member ≡ get_or members t member → next_signal task.handling member ≡ signal_in board t
+signal_known laws board list capacity count t members member task is kept own ready there =
     let b = the_block board t ready in
-    ap (next_signal task.handling) (box_there laws board list capacity count t boxes box kept ready there ∙ kept.mail t ∙ ap mailbox_of b.1) ∙ next_is laws board t b.0 task is own b.1 ∙ sym (ap signal_at b.1)
+    ap (next_signal task.handling) (member_there laws board list capacity count t members member kept ready there ∙ kept.member t ∙ ap member_of b.1) ∙ next_is laws board t b.0 task is own b.1 ∙ sym (ap signal_at b.1)
 
 -- what stays in it
-pub box_known : Laws → (board : Board) (list : List ℕ) (capacity count t cpu : ℕ) (boxes : List Mailbox) (box : Mailbox) (task : Task) (signal : Option Signo) → IsBoard board → IsKeptBeside board list capacity count boxes → IsTaskOf board t task
-    → (ready : stage_in board t ≡ Ready) → box ≡ get_or boxes t box → signal ≡ signal_in board t → emptied task.handling box ≡ mailbox_of (Some (started cpu signal (the_block board t ready).0))
-box_known laws board list capacity count t cpu boxes box task signal is kept own ready there signal_is =
+pub member_known : Laws → (board : Board) (list : List ℕ) (capacity count t cpu : ℕ) (members : List Member) (member : Member) (task : Task) (signal : Option Signo) → IsBoard board → IsKeptBeside board list capacity count members → IsTaskOf board t task
+    → (ready : stage_in board t ≡ Ready) → member ≡ get_or members t member → signal ≡ signal_in board t → emptied task.handling member ≡ member_of (Some (started cpu signal (the_block board t ready).0))
+member_known laws board list capacity count t cpu members member task signal is kept own ready there signal_is =
     let b = the_block board t ready in
-    ap (emptied task.handling) (box_there laws board list capacity count t boxes box kept ready there ∙ kept.mail t ∙ ap mailbox_of b.1 ∙ ap (λ (s : Stage). record { alive = lives s; pending = (b.0).pending }) b.2)
-    ∙ left_in task.handling (b.0).pending
-    ∙ ap (λ (signal : Option Signo). record { alive = true; pending = rest_after signal (b.0).pending }) (next_is laws board t b.0 task is own b.1 ∙ sym (signal_is ∙ ap signal_at b.1))
-    ∙ sym (started_box cpu signal b.0)
+    ap (emptied task.handling) (member_there laws board list capacity count t members member kept ready there ∙ kept.member t ∙ ap member_of b.1 ∙ ap (λ (s : Stage). record { life = life_of s; parent = (b.0).parent; pending = (b.0).pending }) b.2)
+    ∙ left_in task.handling (b.0).parent (b.0).pending
+    ∙ ap (λ (signal : Option Signo). record { life = Going; parent = (b.0).parent; pending = rest_after signal (b.0).pending }) (next_is laws board t b.0 task is own b.1 ∙ sym (signal_is ∙ ap signal_at b.1))
+    ∙ sym (started_member cpu signal b.0)
 
 -- a kernel thread gets none
 pub thread_quiet : Laws → (board : Board) (t : ℕ) → IsBoard board → stage_in board t ≡ Ready → is_user board.script t ≡ false → signal_in board t ≡ None
@@ -182,14 +183,14 @@ thread_quiet laws board t is ready thread =
     ap signal_at b.1 ∙ ap (λ (pending : List Signo). if (b.0).task.handling then None else first_signal pending) (laws.threads board.script (past_of board) t b.0 is.valid is.legal thread b.1).0 ∙ none_next (b.0).task.handling
 
 -- The first of the list may start, with its task.
-pub may_take : Laws → (board : Board) (list : List ℕ) (capacity count t : ℕ) (boxes : List Mailbox) (rest : List ℕ) (cpu : ℕ) (block : Block) (slot : Option Task) (task : Task) (known : Option ℕ) (how : How) (box : Mailbox) (signal : Option Signo)
-    → IsBoard board → IsKeptBeside board list capacity count boxes → list ≡ t ∷ rest
+pub may_take : Laws → (board : Board) (list : List ℕ) (capacity count t : ℕ) (members : List Member) (rest : List ℕ) (cpu : ℕ) (block : Block) (slot : Option Task) (task : Task) (known : Option ℕ) (how : How) (member : Member) (signal : Option Signo)
+    → IsBoard board → IsKeptBeside board list capacity count members → list ≡ t ∷ rest
     → slot ≡ Some task → slot ≡ get_or board.home t slot → block ≡ get_or board.script.blocks t block
     → cpu < board.script.cpus → turn_on board cpu ≡ None → known ≡ mark board.script (past_of board) cpu
-    → how ≡ how_of (is_user_kind block.kind) (is_at known t && is_at task.last cpu) → box ≡ get_or boxes t box → signal ≡ next_signal task.handling box
+    → how ≡ how_of (is_user_kind block.kind) (is_at known t && is_at task.last cpu) → member ≡ get_or members t member → signal ≡ next_signal task.handling member
     → MayTake board t cpu rest how signal × IsTaskOf board t task
-may_take laws board list capacity count t boxes rest cpu block slot task known how box signal is kept front some there block_is processor free known_is how_is box_is signal_is =
-    let ready = first_ready laws.first board list capacity count t boxes rest is kept front in
+may_take laws board list capacity count t members rest cpu block slot task known how member signal is kept front some there block_is processor free known_is how_is member_is signal_is =
+    let ready = first_ready laws.first board list capacity count t members rest is kept front in
     let own = home_task laws.machine board t task is ready slot some there in (
       record {
         is_board = is;
@@ -198,7 +199,7 @@ may_take laws board list capacity count t boxes rest cpu block slot task known h
         processor = processor;
         free = free;
         how_is = how_known laws.numbers board t cpu block.kind task known how is own (user_kind board t block (ready_known laws.machine board t ready) block_is) known_is how_is;
-        signal_is = signal_is ∙ signal_known laws board list capacity count t boxes box task is kept own ready box_is;
+        signal_is = signal_is ∙ signal_known laws board list capacity count t members member task is kept own ready member_is;
       },
       own,
     )

@@ -1,5 +1,5 @@
 -- A board before its first event.
-use Rattle.std.proofs.Common.{◌≡◌, ℕ, zero, suc, ◌+◌, ◌*◌, ◌<◌, ◌≤◌, Bool, true, false, ◌&&◌, List, [], ◌∷◌, ◌++◌, map, length, refl, sym, ap, ◌∙◌, subst, arith}
+use Rattle.std.proofs.Common.{◌≡◌, ℕ, zero, suc, ◌+◌, ◌*◌, ◌<◌, ◌≤◌, Bool, true, false, ◌&&◌, List, [], ◌∷◌, ◌++◌, map, length, refl, sym, ap, ◌∙◌, subst, arith, length-append}
 use Rattle.std.proofs.lemmas.List.{length-map}
 use Rattle.std.proofs.lemmas.Option.{slice_get-map}
 use Rattle.std.specs.Option.{option_map}
@@ -15,16 +15,15 @@ use Rattle.xs_model.specs.declared.stage.Stage.TheVariants.{Unborn, Ready}
 use Rattle.xs_model.specs.Bound.{all_kill_lines, body_lines, longest_handler, most_events}
 use Rattle.xs_model.specs.Ready.{ready_from}
 use Rattle.xs_model.specs.Script.{is_user, is_user_block, is_user_kind, IsBuilt, IsValid}
-use Rattle.xs_model.specs.State.{is_ready, lives, opening, opening_block, opening_stage, stage_of}
+use Rattle.xs_model.specs.State.{is_ready, lives, opening, opening_block, opening_stage, stage_of, task_of_state}
 use Rattle.xs_pool.specs.Pool.{Pool}
 use Rattle.xs_task.specs.declared.task.Task.{Task}
-use Rattle.xs_board.specs.Board.{Board, IsBoard, IsKeptBeside, HasHome, task_of_state, holds_area, tally, one}
+use Rattle.xs_board.specs.Board.{Board, IsBoard, IsKeptBeside, HasHome, holds_area, tally, one}
 use Rattle.xs_board.specs.Home.{IsClear, IsHome}
-use Rattle.xs_board.specs.Mailbox.{Mailbox, mailbox_at, mailbox_of}
-use Rattle.xs_board.specs.Opening.{first_mailbox, is_born, one_born, one_user, users_in, born_if, born_in, born_from, AreFirst}
+use Rattle.xs_board.specs.Member.{Member, life_of, member_at, member_of}
+use Rattle.xs_board.specs.Opening.{first_member, one_user, users_in, born_if, born_from, AreFirst}
 use Rattle.xs_board.proofs.Blocks.{existing}
-use Rattle.xs_board.proofs.Mailboxes.{box_with}
-use Rattle.xs_board.proofs.FirstTasks.{born_length, users_few}
+use Rattle.xs_board.proofs.FirstTasks.{born_few, users_few}
 
 -- the bound of a valid script is small, and so are its parts
 pub bound_small : (script : Script) → IsValid script → (body_lines script.blocks ≤ 1048576) × (all_kill_lines script.blocks * longest_handler script.blocks ≤ 1048576 * 1048576) × (length script.blocks ≤ 1048576)
@@ -36,25 +35,34 @@ bound_small script valid = by_parts (body_lines script.blocks) (all_kill_lines s
 -- the blocks that are born are ready
 ready_all : (rows : List Row) (i : ℕ) (blocks : List Block) → ready_from i (map (opening_block rows) blocks) ≡ born_from i blocks
 ready_all rows i [] = refl
-ready_all rows i (block ∷ blocks) = by_kind block.kind (ready_from (i + 1) (map (opening_block rows) blocks)) ∙ ap (λ (list : List ℕ). born_if block.kind i ++ list) (ready_all rows (i + 1) blocks)
+ready_all rows i (block ∷ blocks) = by_test (is_ready (opening_stage block.kind)) (ready_from (i + 1) (map (opening_block rows) blocks)) ∙ ap (λ (list : List ℕ). born_if block.kind i ++ list) (ready_all rows (i + 1) blocks)
   where
-    by_kind : (kind : BlockKind) (rest : List ℕ) → (if is_ready (opening_stage kind) then i ∷ rest else rest) ≡ born_if kind i ++ rest
-    by_kind kinds.Task rest = refl
-    by_kind kinds.Child rest = refl
-    by_kind kinds.Kthread rest = refl
+    by_test : (test : Bool) (rest : List ℕ) → (if test then i ∷ rest else rest) ≡ (if test then i ∷ [] else []) ++ rest
+    by_test true rest = refl
+    by_test false rest = refl
 
--- how many are such, where a block is by its birth
-tally_all : (such : Stage → Bool) → such Ready ≡ true → such Unborn ≡ false → (rows : List Row) (i : ℕ) (blocks : List Block) → tally (λ t stage. such stage) i (map (opening_block rows) blocks) ≡ born_in blocks
-tally_all such on off rows i [] = refl
-tally_all such on off rows i (block ∷ blocks) =
+-- and they are those that live
+living_all : (rows : List Row) (i n : ℕ) (blocks : List Block) → length (born_from i blocks) ≡ tally (λ t stage. lives stage) n (map (opening_block rows) blocks)
+living_all rows i n [] = refl
+living_all rows i n (block ∷ blocks) =
+    let long = length-append (born_if block.kind i) (born_from (i + 1) blocks) in
     let here = by_kind block.kind in
-    let rest = tally_all such on off rows (i + 1) blocks in
-    omega (arith, here, rest)
+    let rest = living_all rows (i + 1) (n + 1) blocks in
+    omega (arith, long, here, rest)
   where
-    by_kind : (kind : BlockKind) → one (such (opening_stage kind)) ≡ one_born kind
-    by_kind kinds.Task = ap one on
-    by_kind kinds.Child = ap one off
-    by_kind kinds.Kthread = ap one on
+    by_kind : (kind : BlockKind) → length (born_if kind i) ≡ one (lives (opening_stage kind))
+    by_kind kinds.Task = refl
+    by_kind kinds.Child = refl
+    by_kind kinds.Kthread = refl
+
+-- they are at most all
+pub born_few_all : (i : ℕ) (blocks : List Block) → length (born_from i blocks) ≤ length blocks
+born_few_all i [] = omega arith
+born_few_all i (block ∷ blocks) =
+    let long = length-append (born_if block.kind i) (born_from (i + 1) blocks) in
+    let here = born_few block.kind i in
+    let rest = born_few_all (i + 1) blocks in
+    omega (arith, long, here, rest)
 
 -- the user tasks, all of which have areas
 tally_users : (script : Script) (rows : List Row) (i : ℕ) (blocks : List Block) → ((j : ℕ) → slice_get script.blocks (i + j) ≡ slice_get blocks j) → tally (λ t stage. is_user script t && holds_area stage) i (map (opening_block rows) blocks) ≡ users_in blocks
@@ -84,16 +92,11 @@ first_clear kinds.Task rows task unborn home = absurd (cc unborn)
 first_clear kinds.Child rows task unborn home = root_clear rows task home
 first_clear kinds.Kthread rows task unborn home = absurd (cc unborn)
 
--- the mailboxes
-first_boxes : (rows : List Row) (blocks : List Block) (t : ℕ) → mailbox_at (map first_mailbox blocks) t ≡ mailbox_of (slice_get (map (opening_block rows) blocks) t)
-first_boxes rows [] t = refl
-first_boxes rows (block ∷ blocks) zero = by_kind block.kind
-  where
-    by_kind : (kind : BlockKind) → box_with (is_born kind) ([]) ≡ record { alive = lives (opening_stage kind); pending = [] }
-    by_kind kinds.Task = refl
-    by_kind kinds.Child = refl
-    by_kind kinds.Kthread = refl
-first_boxes rows (block ∷ blocks) (suc t) = first_boxes rows blocks t
+-- what is kept beside them
+first_members : (rows : List Row) (blocks : List Block) (t : ℕ) → member_at (map first_member blocks) t ≡ member_of (slice_get (map (opening_block rows) blocks) t)
+first_members rows [] t = refl
+first_members rows (block ∷ blocks) zero = refl
+first_members rows (block ∷ blocks) (suc t) = first_members rows blocks t
 
 module _ (script : Script) (home : List (Option Task)) (pool : Pool) (room : ℕ) where
   -- the board
@@ -139,12 +142,11 @@ module _ (script : Script) (home : List (Option Task)) (pool : Pool) (room : ℕ
       }
 
   -- what is kept beside it
-  pub beside_open : (list : List ℕ) (capacity count : ℕ) (boxes : List Mailbox) → list ≡ born_from 0 script.blocks → length script.blocks ≤ capacity → count ≡ born_in script.blocks → boxes ≡ map first_mailbox script.blocks → IsKeptBeside first_board list capacity count boxes
-  beside_open list capacity count boxes is fits living are = record {
+  pub beside_open : (list : List ℕ) (capacity count : ℕ) (members : List Member) → list ≡ born_from 0 script.blocks → length script.blocks ≤ capacity → count ≡ length list → members ≡ map first_member script.blocks → IsKeptBeside first_board list capacity count members
+  beside_open list capacity count members is fits living are = record {
     queue = is ∙ sym (ready_all script.layout 0 script.blocks);
-    ready = ap length is ∙ born_length 0 script.blocks ∙ sym (tally_all is_ready refl refl script.layout 0 script.blocks);
     fits = fits;
-    alive = living ∙ sym (tally_all lives refl refl script.layout 0 script.blocks);
-    each = ap length are ∙ length-map script.blocks first_mailbox;
-    mail = λ t. ap (λ (all : List Mailbox). mailbox_at all t) are ∙ first_boxes script.layout script.blocks t;
+    alive = living ∙ ap length is ∙ living_all script.layout 0 0 script.blocks;
+    each = ap length are ∙ length-map script.blocks first_member;
+    member = λ t. ap (λ (all : List Member). member_at all t) are ∙ first_members script.layout script.blocks t;
   }

@@ -7,7 +7,7 @@ use Rattle.std.specs.List.{list_any, AllByRecursion}
 use Rattle.xs_model.specs.declared.stage.Stage.{Stage}
 use Rattle.xs_model.specs.declared.stage.Stage.TheVariants.{Unborn}
 use Rattle.xs_model.specs.State.{BlockState, lives, stage_at, stage_of}
-use Rattle.xs_board.specs.Board.{but_signals, one, tally, task_of_state}
+use Rattle.xs_board.specs.Board.{one, tally}
 
 -- there is an element at each place
 pub existing : {A : Type 0} (xs : List A) (t : ℕ) → t < length xs → (x : A) × (slice_get xs t ≡ Some x)
@@ -29,33 +29,22 @@ block_in blocks t stage born is = found (slice_get blocks t) refl
     found None at = absurd (born (sym is ∙ ap stage_of at))
     found (Some block) at = (block, at, sym (ap stage_of at) ∙ is)
 
--- as many are such where the stages are the same one by one
-tally_same : (such : ℕ → Stage → Bool) (i : ℕ) (xs ys : List BlockState) → length ys ≡ length xs → ((u : ℕ) → stage_at ys u ≡ stage_at xs u) → tally such i ys ≡ tally such i xs
+-- A block is such before as after, whatever its number.
+abbrev pub AreAlike : (ℕ → Stage → Bool) → List BlockState → List BlockState → ℕ → Type 0
+AreAlike such xs ys u = (n : ℕ) → such n (stage_at ys u) ≡ such n (stage_at xs u)
+
+-- as many are such where each is such before as after
+pub tally_same : (such : ℕ → Stage → Bool) (i : ℕ) (xs ys : List BlockState) → length ys ≡ length xs → ((u : ℕ) → AreAlike such xs ys u) → tally such i ys ≡ tally such i xs
 tally_same such i [] [] len same = refl
 tally_same such i [] (y ∷ ys) len same = absurd (omega (arith, len))
 tally_same such i (x ∷ xs) [] len same = absurd (omega (arith, len))
 tally_same such i (x ∷ xs) (y ∷ ys) len same =
-    let here : one (such i y.stage) ≡ one (such i x.stage) = ap (λ (s : Stage). one (such i s)) (same 0) in
+    let here : one (such i y.stage) ≡ one (such i x.stage) = ap one (same 0 i) in
     let rest = tally_same such (i + 1) xs ys (omega (arith, len)) (λ u. same (suc u)) in
     omega (arith, here, rest)
 
--- the state of a block but for its signals tells the stage and the private task
-stage_plain : (b : Option BlockState) → stage_of (but_signals b) ≡ stage_of b
-stage_plain None = refl
-stage_plain (Some block) = refl
-
-pub stage_same : (a b : Option BlockState) → but_signals a ≡ but_signals b → stage_of a ≡ stage_of b
-stage_same a b same = sym (stage_plain a) ∙ ap stage_of same ∙ stage_plain b
-
-task_plain : (b : Option BlockState) → task_of_state (but_signals b) ≡ task_of_state b
-task_plain None = refl
-task_plain (Some block) = refl
-
-pub task_same : (a b : Option BlockState) → but_signals a ≡ but_signals b → task_of_state a ≡ task_of_state b
-task_same a b same = sym (task_plain a) ∙ ap task_of_state same ∙ task_plain b
-
 -- how many are such after one block changed
-pub tally_point : (such : ℕ → Stage → Bool) (i t n : ℕ) (xs ys : List BlockState) (x y : BlockState) → length ys ≡ length xs → slice_get xs t ≡ Some x → slice_get ys t ≡ Some y → ((u : ℕ) → (u ≡ t → ⊥) → stage_at ys u ≡ stage_at xs u) → n ≡ i + t → tally such i ys + one (such n x.stage) ≡ tally such i xs + one (such n y.stage)
+pub tally_point : (such : ℕ → Stage → Bool) (i t n : ℕ) (xs ys : List BlockState) (x y : BlockState) → length ys ≡ length xs → slice_get xs t ≡ Some x → slice_get ys t ≡ Some y → ((u : ℕ) → (u ≡ t → ⊥) → AreAlike such xs ys u) → n ≡ i + t → tally such i ys + one (such n x.stage) ≡ tally such i xs + one (such n y.stage)
 tally_point such i t n [] ys x y len before now others sum = absurd (cc before)
 tally_point such i t n (a ∷ xs) [] x y len before now others sum = absurd (cc now)
 tally_point such i zero n (a ∷ xs) (b ∷ ys) x y len before now others sum =
@@ -67,7 +56,7 @@ tally_point such i zero n (a ∷ xs) (b ∷ ys) x y len before now others sum =
     let more = tally_same such (i + 1) xs ys (omega (arith, len)) (λ u. others (suc u) (λ (e : suc u ≡ zero). absurd (cc e))) in
     omega (arith, first, second, more)
 tally_point such i (suc t) n (a ∷ xs) (b ∷ ys) x y len before now others sum =
-    let first : one (such i b.stage) ≡ one (such i a.stage) = ap (λ (s : Stage). one (such i s)) (others 0 (λ (e : zero ≡ suc t). absurd (cc e))) in
+    let first : one (such i b.stage) ≡ one (such i a.stage) = ap one (others 0 (λ (e : zero ≡ suc t). absurd (cc e)) i) in
     let rest = tally_point such (i + 1) t n xs ys x y (omega (arith, len)) before now (λ u other. others (suc u) (λ (e : suc u ≡ suc t). other (omega (arith, e)))) (omega (arith, sum)) in
     omega (arith, first, rest)
 
@@ -86,14 +75,14 @@ replaced {A = A} (z ∷ xs) (suc i) x y at = let rest = replaced xs i x y at in 
     others ys same (suc u) apart = same u (λ (e : u ≡ i). apart (ap suc e))
 
 -- how many are such after two blocks changed
-pub tally_two : (such : ℕ → Stage → Bool) (t c : ℕ) (xs ys : List BlockState) (x now born new : BlockState) → length ys ≡ length xs → slice_get xs t ≡ Some x → slice_get ys t ≡ Some now → slice_get xs c ≡ Some born → slice_get ys c ≡ Some new → (t ≡ c → ⊥) → ((u : ℕ) → (u ≡ t → ⊥) → (u ≡ c → ⊥) → stage_at ys u ≡ stage_at xs u) → tally such 0 ys + one (such t x.stage) + one (such c born.stage) ≡ tally such 0 xs + one (such t now.stage) + one (such c new.stage)
+pub tally_two : (such : ℕ → Stage → Bool) (t c : ℕ) (xs ys : List BlockState) (x now born new : BlockState) → length ys ≡ length xs → slice_get xs t ≡ Some x → slice_get ys t ≡ Some now → slice_get xs c ≡ Some born → slice_get ys c ≡ Some new → (t ≡ c → ⊥) → ((u : ℕ) → (u ≡ t → ⊥) → (u ≡ c → ⊥) → AreAlike such xs ys u) → tally such 0 ys + one (such t x.stage) + one (such c born.stage) ≡ tally such 0 xs + one (such t now.stage) + one (such c new.stage)
 tally_two such t c xs ys x now born new len before after unborn is apart others =
     let mid = replaced xs c born new unborn in
-    let first = tally_point such 0 c c xs mid.0 born new mid.1 unborn mid.2 (λ u other. ap stage_of (mid.3 u other)) (omega arith) in
+    let first = tally_point such 0 c c xs mid.0 born new mid.1 unborn mid.2 (λ u other n. ap (λ (b : Option BlockState). such n (stage_of b)) (mid.3 u other)) (omega arith) in
     let second = tally_point such 0 t t mid.0 ys x now (omega (arith, len, mid.1)) (mid.3 t apart ∙ before) after
-    (λ u other. elim (cases_eq u c) [
-      | inl same ↦ ap (stage_at ys) same ∙ ap stage_of is ∙ sym (ap (stage_at mid.0) same ∙ ap stage_of mid.2)
-      | inr far ↦ others u other far ∙ sym (ap stage_of (mid.3 u far))
+    (λ u other n. elim (cases_eq u c) [
+      | inl same ↦ ap (λ (v : ℕ). such n (stage_at ys v)) same ∙ ap (λ (b : Option BlockState). such n (stage_of b)) is ∙ sym (ap (λ (v : ℕ). such n (stage_at mid.0 v)) same ∙ ap (λ (b : Option BlockState). such n (stage_of b)) mid.2)
+      | inr far ↦ others u other far n ∙ sym (ap (λ (b : Option BlockState). such n (stage_of b)) (mid.3 u far))
     ]) (omega arith) in
     omega (arith, first, second)
 

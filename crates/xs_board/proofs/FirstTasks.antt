@@ -1,5 +1,5 @@
 -- The tasks, the queue and the pool before the first event, block by block.
-use Rattle.std.proofs.Common.{◌≡◌, ℕ, zero, suc, ◌+◌, ◌<◌, ◌≤◌, List, [], ◌∷◌, ◌++◌, length, drop, get_or, refl, sym, ap, ◌∙◌, subst, arith, inl, inr, add-one, drop-cons, length-append}
+use Rattle.std.proofs.Common.{◌≡◌, ℕ, zero, suc, ◌+◌, ◌<◌, ◌≤◌, List, [], ◌∷◌, ◌++◌, length, drop, get_or, refl, sym, ap, ◌∙◌, subst, arith, inl, inr, add-one, drop-cons}
 use Rattle.std.proofs.lemmas.Bool.{cases_lt}
 use Rattle.std.proofs.lemmas.Option.{slice_get_read, same_Some}
 use Rattle.std.specs.Prelude.{Option, Some, None, slice_get}
@@ -9,7 +9,7 @@ use Rattle.xs_model.specs.declared.script.BlockKind.{BlockKind}
 use Rattle.xs_model.specs.declared.script.BlockKind.TheVariants as kinds
 use Rattle.xs_pool.specs.Pool.{Pool}
 use Rattle.xs_task.specs.declared.task.Task.{Task}
-use Rattle.xs_board.specs.Opening.{one_born, one_user, users_in, born_if, born_in, born_from, IsFirstTask, AreFirst, pool_first}
+use Rattle.xs_board.specs.Opening.{one_user, users_in, born_if, born_from, IsFirstTask, AreFirst, pool_first}
 
 -- the numbers from a block on
 pub born_step : (blocks : List Block) (i : ℕ) (block : Block) → i < length blocks → block ≡ get_or blocks i block → born_from i (drop i blocks) ≡ born_if block.kind i ++ born_from (i + 1) (drop (i + 1) blocks)
@@ -18,20 +18,6 @@ born_step blocks i block within is =
     ap (born_from i) (drop-cons blocks i block within)
     ∙ ap (λ (b : Block). born_if b.kind i ++ born_from (i + 1) (drop (suc i) blocks)) (sym is)
     ∙ ap (λ (n : ℕ). born_if block.kind i ++ born_from (i + 1) (drop n blocks)) next
-
--- they are as many as are born
-pub born_length : (i : ℕ) (blocks : List Block) → length (born_from i blocks) ≡ born_in blocks
-born_length i [] = refl
-born_length i (block ∷ blocks) =
-    let long = length-append (born_if block.kind i) (born_from (i + 1) blocks) in
-    let rest = born_length (i + 1) blocks in
-    let here = by_kind block.kind in
-    omega (arith, long, rest, here)
-  where
-    by_kind : (kind : BlockKind) → length (born_if kind i) ≡ one_born kind
-    by_kind kinds.Task = refl
-    by_kind kinds.Child = refl
-    by_kind kinds.Kthread = refl
 
 -- at most one
 pub born_few : (kind : BlockKind) (i : ℕ) → length (born_if kind i) ≤ 1

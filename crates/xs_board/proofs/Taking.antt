@@ -18,17 +18,17 @@ use Rattle.xs_model.specs.Note.{last}
 use Rattle.xs_model.specs.Ready.{ready_list}
 use Rattle.xs_model.specs.Replay.{entry, entry_of, begin, runner, told}
 use Rattle.xs_model.specs.Script.{is_user}
-use Rattle.xs_model.specs.State.{BlockState, is_ready, lives, stage_at, stage_of, turn_cpu, is_on_cpu}
+use Rattle.xs_model.specs.State.{BlockState, lives, stage_at, stage_of, task_of_state, turn_cpu, is_on_cpu}
 use Rattle.xs_task.specs.declared.task.Task.{Task}
-use Rattle.xs_board.specs.Mailbox.{Mailbox, mailbox_of}
-use Rattle.xs_board.specs.Board.{Board, begun, but_signals, signal_at, signal_in, IsBoard, IsKeptBeside, past_of, machine_in, ready_of, stage_in, private_in, task_of_state, turn_on, areas, holds_area, tally, one}
+use Rattle.xs_board.specs.Member.{Member, member_of}
+use Rattle.xs_board.specs.Board.{Board, begun, signal_at, signal_in, IsBoard, IsKeptBeside, past_of, machine_in, ready_of, stage_in, private_in, turn_on, areas, holds_area, tally, one}
 use Rattle.xs_board.specs.Home.{is_resting}
 use Rattle.xs_board.specs.Laws.{Laws}
 use Rattle.xs_board.specs.Starts.{AreInOrder}
 use Rattle.xs_board.proofs.Blocks.{block_in, tally_point}
 use Rattle.xs_board.proofs.Runners.{is_on, no_runner, runner_alike, runner_is, runner_off}
 use Rattle.xs_board.proofs.Tests.{if_false}
-use Rattle.xs_board.proofs.Mailboxes.{set_are}
+use Rattle.xs_board.proofs.Members.{set_are}
 use Rattle.xs_board.proofs.Moving.{reverse_onto_past, fits, as_many, home_stays}
 
 -- The first of the ready list is ready, and what the start of its turn needs.
@@ -157,7 +157,7 @@ module _ (laws : Laws) (old : Board) (t cpu : ℕ) (rest : List ℕ) (how : How)
     -- how many blocks are such
     taken_tally : (such : ℕ → Stage → Bool) → tally such 0 now + one (such t Ready) ≡ tally such 0 (machine_in old).blocks + one (such t (Turn cpu 0))
     taken_tally such =
-        let sum = tally_point such 0 t t (machine_in old).blocks now block began many here taken_block (λ u other. ap stage_of (taken_others u other)) (omega arith) in
+        let sum = tally_point such 0 t t (machine_in old).blocks now block began many here taken_block (λ u other n. ap (λ (b : Option BlockState). such n (stage_of b)) (taken_others u other)) (omega arith) in
         ap (λ (s : Stage). tally such 0 now + one (such t s)) (sym ready_is) ∙ sum ∙ ap (λ (s : Stage). tally such 0 (machine_in old).blocks + one (such t s)) (started_stage cpu signal block)
 
     -- the board without the task
@@ -179,7 +179,7 @@ module _ (laws : Laws) (old : Board) (t cpu : ℕ) (rest : List ℕ) (how : How)
             | inl same ↦ absurd (let off : is_resting (stage_at now u) ≡ false = ap is_resting (ap (stage_at now) same ∙ taken_stage) in cc (off, rests))
             | inr other ↦
                 let stays = taken_others u other in
-                home_stays old new u refl (slots u other) (ap but_signals stays) (told_is (λ past. last old.script past u ≡ last old.script (past_of old) u) (start_last t cpu u _ other))
+                home_stays old new u refl (slots u other) (ap task_of_state stays) (λ unborn. sym (ap stage_of stays) ∙ unborn) (told_is (λ past. last old.script past u ≡ last old.script (past_of old) u) (start_last t cpu u _ other))
                 (was.home u (sym (ap (λ (b : Option BlockState). is_resting (stage_of b)) stays) ∙ rests) known)
           ];
           pool = record {
@@ -192,21 +192,18 @@ module _ (laws : Laws) (old : Board) (t cpu : ℕ) (rest : List ℕ) (how : How)
         }
 
     -- what is kept beside it
-    pub beside_taken : (home : List (Option Task)) (room capacity count : ℕ) (boxes : List Mailbox) (box : Mailbox) → IsKeptBeside old (t ∷ rest) capacity count boxes → box ≡ mailbox_of (Some began)
-        → IsKeptBeside (record { script = old.script; history = history; home = home; pool = old.pool; room = room }) rest capacity count (slice_set boxes t box)
-    beside_taken home room capacity count boxes box kept box_is =
-        let fewer = taken_tally (λ v stage. is_ready stage) in
+    pub beside_taken : (home : List (Option Task)) (room capacity count : ℕ) (members : List Member) (member : Member) → IsKeptBeside old (t ∷ rest) capacity count members → member ≡ member_of (Some began)
+        → IsKeptBeside (record { script = old.script; history = history; home = home; pool = old.pool; room = room }) rest capacity count (slice_set members t member)
+    beside_taken home room capacity count members member kept member_is =
         let living = taken_tally (λ v stage. lives stage) in
-        let before = kept.ready in
         let alive = kept.alive in
         let each = kept.each in
         let in_range = slice_get_within (machine_in old).blocks t block here in
         let same = (laws.machine old.script (past_of old)).2 in
         record {
           queue = sym (told_is (λ past. ready_list old.script past ≡ rest) (laws.start_ready old.script (past_of old) t cpu how signal rest may.first));
-          ready = omega (arith, fewer, before);
           fits = kept.fits;
           alive = omega (arith, living, alive);
-          each = length-set boxes t box ∙ each;
-          mail = set_are (machine_in old).blocks now boxes t box (omega (arith, in_range, same, each)) kept.mail (ap mailbox_of taken_block ∙ sym box_is) (λ u other. ap mailbox_of (taken_others u other));
+          each = length-set members t member ∙ each;
+          member = set_are (machine_in old).blocks now members t member (omega (arith, in_range, same, each)) kept.member (ap member_of taken_block ∙ sym member_is) (λ u other. ap member_of (taken_others u other));
         }

@@ -1,9 +1,9 @@
 -- The board: what callers see of it, and what holds of it between calls. Everything that its history tells is told by the private
 -- machine: the stages of the blocks, their private tasks and the ready list.
-use Rattle.std.specs.Prelude.{◌≡◌, ◌⊎◌, ℕ, ◌+◌, ◌<◌, ◌≤◌, Bool, true, false, ◌&&◌, List, [], ◌∷◌, length, reverse, slice_get, slice_index_or, Option, Some, None}
+use Rattle.std.specs.Prelude.{◌≡◌, ℕ, ◌+◌, ◌<◌, ◌≤◌, Bool, true, false, ◌&&◌, List, [], ◌∷◌, length, reverse, slice_get, slice_index_or, Option, Some, None}
 use Rattle.xs_base.specs.declared.words.Signo.{Signo}
 use Rattle.xs_base.specs.Frame.{delivered}
-use Rattle.xs_base.specs.Task.{PrivateTask, root_task, parked}
+use Rattle.xs_base.specs.Task.{PrivateTask, parked}
 use Rattle.xs_model.specs.declared.event.Event.{Event}
 use Rattle.xs_model.specs.declared.event.Reply.{Reply}
 use Rattle.xs_model.specs.declared.script.Script.{Script}
@@ -12,20 +12,21 @@ use Rattle.xs_model.specs.declared.stage.Stage.TheVariants.{Unborn, Ready, Turn,
 use Rattle.xs_model.specs.Bound.{most_events}
 use Rattle.xs_model.specs.Due.{signal_of}
 use Rattle.xs_model.specs.History.{IsLegal, machine_of}
-use Rattle.xs_model.specs.Laws.{HadNoTurn}
+use Rattle.xs_model.specs.Laws.{KeepsBlock}
+use Rattle.xs_model.specs.Machine.{machine}
 use Rattle.xs_model.specs.Note.{last}
 use Rattle.xs_model.specs.Ready.{ready_list}
 use Rattle.xs_model.specs.Replay.{runner}
 use Rattle.xs_model.specs.Script.{IsValid, IsBuilt, is_user}
-use Rattle.xs_model.specs.State.{BlockState, Machine, stage_at, lives, is_ready}
+use Rattle.xs_model.specs.State.{BlockState, Machine, stage_at, task_at, lives}
 use Rattle.xs_pool.specs.Pool.{Pool}
 use Rattle.xs_task.specs.declared.task.Task.{Task}
 use Rattle.xs_board.specs.declared.turn.Close.{Close}
 use Rattle.xs_board.specs.declared.turn.Entry.{Entry}
 use Rattle.xs_board.specs.Home.{IsClear, IsHome, is_resting}
-use Rattle.xs_board.specs.Mailbox.{Mailbox, AreMailboxes}
+use Rattle.xs_board.specs.Member.{Member, AreMembers}
 use Rattle.xs_board.specs.Starts.{AreInOrder}
-use Rattle.xs_board.specs.Turn.{forked, newborn, task_after, task_handed, task_closed, close_answer}
+use Rattle.xs_board.specs.Turn.{past_with, task_after, task_handed, task_closed, close_answer}
 
 -- A board: its script, the events so far, the task of each block that is home, the pool of areas, and how many events it has
 -- room for in all.
@@ -52,24 +53,27 @@ ready_of board = ready_list board.script (past_of board)
 abbrev pub stage_in : Board → ℕ → Stage
 stage_in board t = stage_at (machine_in board).blocks t
 
-abbrev pub task_of_state : Option BlockState → PrivateTask
-task_of_state None = root_task []
-task_of_state (Some block) = block.task
-
 -- the private task of a block
 abbrev pub private_in : Board → ℕ → PrivateTask
-private_in board t = task_of_state (slice_get (machine_in board).blocks t)
+private_in board t = task_at (machine_in board).blocks t
 
--- the private task of a block after these lines of its turn
+-- the blocks after these lines of the turn of block t, and its private task then
+abbrev pub blocks_with : Board → ℕ → List Entry → List BlockState
+blocks_with board t entries = (machine board.script (past_with t entries (past_of board))).blocks
+
 abbrev pub private_with : Board → ℕ → List Entry → PrivateTask
 private_with board t entries = task_after board.script t (private_in board t) entries
+
+-- what the outer line answers with which block t closes its turn after these lines
+abbrev pub answer_in : Board → ℕ → List Entry → Close → Reply
+answer_in board t entries close = close_answer board.script (blocks_with board t entries) t close
 
 -- the same task when it was switched out there for this close, and when its turn is closed
 abbrev pub private_after : Board → ℕ → List Entry → Close → PrivateTask
 private_after board t entries close = parked (task_handed close (private_with board t entries))
 
 abbrev pub private_closed : Board → ℕ → List Entry → Close → PrivateTask
-private_closed board t entries close = parked (task_closed close (private_with board t entries))
+private_closed board t entries close = parked (task_closed board.script (blocks_with board t entries) t close (answer_in board t entries close) (private_with board t entries))
 
 -- the signal that a Start of the block carries
 abbrev pub signal_at : Option BlockState → Option Signo
@@ -84,10 +88,6 @@ abbrev pub begun : Option Signo → PrivateTask → PrivateTask
 begun None task = task
 begun (Some signo) task = delivered task
 
--- what the outer line answers with which the block closes its turn
-abbrev pub answer_in : Board → ℕ → Close → Reply
-answer_in board t close = close_answer board.script (machine_in board).blocks t close
-
 -- the block that is in a turn on the processor
 abbrev pub turn_on : Board → ℕ → Option ℕ
 turn_on board cpu = runner cpu 0 (machine_in board).blocks
@@ -96,24 +96,9 @@ turn_on board cpu = runner cpu 0 (machine_in board).blocks
 abbrev pub KeepsOthers : ℕ → Board → Board → Type 0
 KeepsOthers t old new = (u : ℕ) → (u ≡ t → ⊥) → slice_get (machine_in new).blocks u ≡ slice_get (machine_in old).blocks u
 
--- Block t has borne the child, and had this task at the fork: the child was unborn and had no turn, and is ready.
-pub record WasBorn (t : ℕ) (parent : PrivateTask) (child : ℕ) (old new : Board) : Type 0 where
-  pub unborn : stage_in old child ≡ Unborn
-  pub fresh : HadNoTurn old.script (past_of old) child
-  pub apart : child ≡ t → ⊥
-  pub parent_user : is_user old.script t ≡ true
-  pub child_user : is_user old.script child ≡ true
-  pub state : slice_get (machine_in new).blocks child ≡ Some (newborn t parent)
-
--- the state of a block but for its pending signals
-abbrev pub but_signals : Option BlockState → Option BlockState
-but_signals None = None
-but_signals (Some block) = Some (record block { pending = [] })
-
--- Every other block is in the state in which it was, pending signals aside, but one that the close bears.
-abbrev pub KeepsOrBears : ℕ → PrivateTask → Close → Board → Board → Type 0
-KeepsOrBears t parent close old new = (u : ℕ) → (u ≡ t → ⊥)
-    → (but_signals (slice_get (machine_in new).blocks u) ≡ but_signals (slice_get (machine_in old).blocks u)) ⊎ ((forked old.script t close ≡ Some u) × WasBorn t parent u old new)
+-- Every other block stays in its turn, and a last processor that it has it had before, with the same private task.
+abbrev pub OthersKept : ℕ → Board → Board → Type 0
+OthersKept t old new = (u : ℕ) → (u ≡ t → ⊥) → KeepsBlock old.script (past_of old) (past_of new) u
 
 -- Every other processor has the turn that it had, or none.
 abbrev pub KeepsTurns : ℕ → Board → Board → Type 0
@@ -176,12 +161,11 @@ pub record IsBoard (board : Board) : Type 0 where
   pub pool : IsPoolOf board
   pub room : most_events board.script ≤ board.room
 
--- What the code keeps beside: a queue that is the ready list, with room for every block, how many blocks live, and the mailbox of
--- each block.
-pub record IsKeptBeside (board : Board) (list : List ℕ) (capacity count : ℕ) (boxes : List Mailbox) : Type 0 where
+-- What the code keeps beside: a queue that is the ready list, with room for every block, how many blocks live, and what each block
+-- does, its parent and its signals.
+pub record IsKeptBeside (board : Board) (list : List ℕ) (capacity count : ℕ) (members : List Member) : Type 0 where
   pub queue : list ≡ ready_of board
-  pub ready : length list ≡ tally (λ t stage. is_ready stage) 0 (machine_in board).blocks
   pub fits : length board.script.blocks ≤ capacity
   pub alive : count ≡ living board
-  pub each : length boxes ≡ length board.script.blocks
-  pub mail : AreMailboxes (machine_in board).blocks boxes
+  pub each : length members ≡ length board.script.blocks
+  pub member : AreMembers (machine_in board).blocks members

@@ -1,19 +1,20 @@
 -- The laws of the private machine on which the board rests.
-use Rattle.xs_model.specs.Laws.{LinesFound, TurnsKnown, TurnsApart, TwoNumbers, FirstReady, NobodyReady, NeverStuck, FewEvents, MachineKnown, BuiltBlocks, BuiltEnds, BuiltLines, ForkBears, UnbornUnseen, StartIsStep, LocalIsStep, OuterIsStep, RefusalIsStep, EndIsStep, StartedBlock, RanBlock, ForkedBlock, BornBlock, SentOwn, SentOther, EndedBlock, KilledBlock, StartOthers, LocalOthers, ForkOthers, EndOthers, KilledOthers, StartTakes, LocalKeeps, LocalRises, ForkRises, SentRises, BuiltKills, OuterOutside, SentToUser, ThreadsQuiet, QuietUnlessAlive}
+use Rattle.xs_model.specs.Laws.{LinesFound, TurnsKnown, TurnsApart, TwoNumbers, ReadyOnce, FirstReady, NobodyReady, NeverStuck, FewEvents, MachineKnown, TasksValid, BuiltBlocks, BuiltLines, ForkBears, UnbornUnseen, StartIsStep, LocalIsStep, OuterIsStep, RefusalIsStep, EndIsStep, OuterOutside, OuterOfUser, NamedUser, WaitsForChild, ThreadsQuiet, QuietUnlessAlive, OthersKeep}
+use Rattle.xs_model.specs.Effects.{StartedBlock, RanBlock, OuterOwn, OuterOther, EndedBlock, KilledBlock, StartOthers, LocalOthers, EndOthers, KilledOthers, StartTakes, LocalKeeps, LocalRises, OuterRises, EndRises, KillRises}
 
 pub record Laws : Type 0 where
   pub found : LinesFound
   pub known : TurnsKnown
   pub apart : TurnsApart
   pub numbers : TwoNumbers
+  pub once : ReadyOnce
   pub first : FirstReady
   pub nobody : NobodyReady
   pub stuck : NeverStuck
   pub few : FewEvents
   pub machine : MachineKnown
+  pub tasks : TasksValid
   pub blocks : BuiltBlocks
-  pub ends : BuiltEnds
-  pub kills : BuiltKills
   pub lines : BuiltLines
   pub bears : ForkBears
   pub unseen : UnbornUnseen
@@ -24,23 +25,24 @@ pub record Laws : Type 0 where
   pub end_is : EndIsStep
   pub started : StartedBlock
   pub ran : RanBlock
-  pub forked : ForkedBlock
-  pub born : BornBlock
-  pub sent : SentOwn
-  pub sent_other : SentOther
+  pub outer_own : OuterOwn
+  pub outer_other : OuterOther
   pub ended : EndedBlock
   pub killed : KilledBlock
   pub start_others : StartOthers
   pub local_others : LocalOthers
-  pub fork_others : ForkOthers
   pub end_others : EndOthers
   pub kill_others : KilledOthers
   pub start_ready : StartTakes
   pub local_keeps : LocalKeeps
   pub local_rises : LocalRises
-  pub fork_rises : ForkRises
-  pub sent_rises : SentRises
+  pub outer_rises : OuterRises
+  pub end_rises : EndRises
+  pub kill_rises : KillRises
   pub outside : OuterOutside
-  pub sent_users : SentToUser
+  pub outer_user : OuterOfUser
+  pub named : NamedUser
+  pub waits : WaitsForChild
   pub threads : ThreadsQuiet
   pub quiet : QuietUnlessAlive
+  pub others_keep : OthersKeep

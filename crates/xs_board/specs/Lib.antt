@@ -4,7 +4,9 @@ pub mod Turn
 pub mod Starts
 pub mod Home
 pub mod Pending
-pub mod Mailbox
+pub mod Member
+pub mod Birth
+pub mod Deed
 pub mod Putting
 pub mod Opening
 pub mod Board

@@ -1,5 +1,5 @@
 -- What a board has before its first event.
-use Rattle.std.specs.Prelude.{◌≡◌, ℕ, ◌+◌, ◌<◌, Bool, true, false, List, [], ◌∷◌, ◌++◌, slice_get, slice_index_or, Option, Some, None}
+use Rattle.std.specs.Prelude.{◌≡◌, ℕ, ◌+◌, ◌<◌, Bool, true, false, List, [], ◌∷◌, ◌++◌, slice_get, slice_index_or, Option, Some, None, if◌then◌else◌}
 use Rattle.xs_base.specs.declared.class.Class.TheVariants as classes
 use Rattle.xs_base.specs.declared.component.Row.{Row}
 use Rattle.xs_base.specs.Task.{root_task}
@@ -7,10 +7,11 @@ use Rattle.xs_model.specs.declared.script.Block.{Block}
 use Rattle.xs_model.specs.declared.script.BlockKind.{BlockKind}
 use Rattle.xs_model.specs.declared.script.BlockKind.TheVariants.{Task, Child, Kthread}
 use Rattle.xs_model.specs.Script.{is_user_kind}
+use Rattle.xs_model.specs.State.{is_ready, opening_stage}
 use Rattle.xs_pool.specs.Pool.{Pool, leased}
 use Rattle.xs_task.specs.declared.task.Task as tasks
 use Rattle.xs_board.specs.Home.{IsHome}
-use Rattle.xs_board.specs.Mailbox.{Mailbox}
+use Rattle.xs_board.specs.Member.{Member, life_of}
 
 abbrev pub one_user : BlockKind → ℕ
 one_user Task = 1
@@ -22,36 +23,18 @@ abbrev pub users_in : List Block → ℕ
 users_in [] = 0
 users_in (block ∷ blocks) = one_user block.kind + users_in blocks
 
--- how many of the blocks are born before the first event: a child isn't
-abbrev pub one_born : BlockKind → ℕ
-one_born Task = 1
-one_born Child = 0
-one_born Kthread = 1
-
-abbrev pub born_in : List Block → ℕ
-born_in [] = 0
-born_in (block ∷ blocks) = one_born block.kind + born_in blocks
-
--- the number of a block, if it is born then
+-- the number of a block, if it is born before the first event: a child isn't
 abbrev pub born_if : BlockKind → ℕ → List ℕ
-born_if Task i = i ∷ []
-born_if Child i = []
-born_if Kthread i = i ∷ []
+born_if kind i = if is_ready (opening_stage kind) then i ∷ [] else []
 
 -- the numbers of these blocks, from number i on
 abbrev pub born_from : ℕ → List Block → List ℕ
 born_from i [] = []
 born_from i (block ∷ blocks) = born_if block.kind i ++ born_from (i + 1) blocks
 
--- the block is born then
-abbrev pub is_born : BlockKind → Bool
-is_born Task = true
-is_born Child = false
-is_born Kthread = true
-
--- its mailbox
-abbrev pub first_mailbox : Block → Mailbox
-first_mailbox block = record { alive = is_born block.kind; pending = [] }
+-- what is kept of the block beside its task
+abbrev pub first_member : Block → Member
+first_member block = record { life = life_of (opening_stage block.kind); parent = None; pending = [] }
 
 -- The task of a block of the kind and of this number, before the first event.
 pub record IsFirstTask (rows : List Row) (kind : BlockKind) (name : ℕ) (task : tasks.Task) : Type 0 where

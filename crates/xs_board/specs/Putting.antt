@@ -1,38 +1,27 @@
 -- What the board keeps after a task came back, by the close of its turn.
-use Rattle.std.specs.Prelude.{◌≡◌, ℕ, ◌+◌, ◌-◌, List, [], ◌∷◌, ◌++◌, slice_index_or, slice_set, Option, Some, None}
+use Rattle.std.specs.Prelude.{◌≡◌, ℕ, ◌+◌, ◌-◌, ◌<◌, Bool, true, false, not, ◌&&◌, List, [], ◌∷◌, ◌++◌, length, slice_set, Option, Some, None, if◌then◌else◌}
 use Rattle.xs_area.specs.declared.area.Lease.{Lease}
-use Rattle.xs_base.specs.declared.class.Class.TheVariants.{Small}
-use Rattle.xs_base.specs.declared.component.Row.{Row}
-use Rattle.xs_base.specs.Task.{PrivateTask, child_of, marks_after}
 use Rattle.xs_pool.specs.Pool.{Pool, returned}
 use Rattle.xs_task.specs.declared.task.Task.{Task}
-use Rattle.xs_task.specs.Parked.{IsParked}
-use Rattle.xs_task.specs.TaskArea.{IsTask}
+use Rattle.xs_board.specs.declared.member.Life.{Life}
 use Rattle.xs_board.specs.declared.turn.Close.{Close}
 use Rattle.xs_board.specs.declared.turn.Close.TheVariants.{Quantum, Yield, Outer, Refused, End}
-use Rattle.xs_board.specs.Home.{IsClear}
-use Rattle.xs_board.specs.Mailbox.{Mailbox, closed}
+use Rattle.xs_board.specs.Member.{Member, child_if, ended, is_going, is_waiting, listed, member_at, released, waiter_in, with_going}
 
-abbrev pub IfEnd : Close → Type 0 → Type 0
-IfEnd Quantum Holds = Unit {0}
-IfEnd Yield Holds = Unit {0}
-IfEnd (Outer line) Holds = Unit {0}
-IfEnd (Refused error) Holds = Holds
-IfEnd End Holds = Holds
+-- The task ends with its turn.
+abbrev pub ends : Close → Bool
+ends Quantum = false
+ends Yield = false
+ends (Outer line) = false
+ends (Refused error) = true
+ends End = true
 
-abbrev pub UnlessEnd : Close → Type 0 → Type 0
-UnlessEnd Quantum Holds = Holds
-UnlessEnd Yield Holds = Holds
-UnlessEnd (Outer line) Holds = Holds
-UnlessEnd (Refused error) Holds = Unit {0}
-UnlessEnd End Holds = Unit {0}
-
-abbrev pub IfOuter : Close → Type 0 → Type 0
-IfOuter Quantum Holds = Unit {0}
-IfOuter Yield Holds = Unit {0}
-IfOuter (Outer line) Holds = Holds
-IfOuter (Refused error) Holds = Unit {0}
-IfOuter End Holds = Unit {0}
+abbrev pub is_outer : Close → Bool
+is_outer Quantum = false
+is_outer Yield = false
+is_outer (Outer line) = true
+is_outer (Refused error) = false
+is_outer End = false
 
 -- what the line at the task's place does, where that line closes the turn
 abbrev pub at_outer : {A : Type 0} → Close → Option A → Option A
@@ -42,86 +31,67 @@ at_outer (Outer line) deed = deed
 at_outer (Refused error) deed = None
 at_outer End deed = None
 
--- ---- a birth
+-- ---- the task
 
--- The task can become a child: it has all that a task has, a Small area, and memories of zeros.
-pub record CanBeBorn (rows : List Row) (task : Task) : Type 0 where
-  pub whole : IsTask rows task
-  pub small : (lease : Lease) → task.lease ≡ Some lease → lease.class ≡ Small
-  pub clear : IsClear task
+-- The task goes behind the outer line with which its turn closes, unless it waits there.
+abbrev pub moves_on : Close → Life → Bool
+moves_on close life = is_outer close && not (is_waiting life)
 
--- The task of an unborn block became the child of a task that was switched out.
-pub record BecameChild (rows : List Row) (parent before after : Task) : Type 0 where
-  pub whole : IsTask rows after
-  pub stands : (p : PrivateTask) → IsParked rows parent p → p.marks ≡ marks_after p → IsParked rows after (child_of p)
-  pub name : after.name ≡ before.name
-  pub last : after.last ≡ None
+abbrev pub moved_on : Bool → Task → Task
+moved_on moves task = if moves then record task { place = task.place + 1 } else task
 
--- The tasks that are home, of which a fork makes one the child.
-abbrev pub Bears : Option ℕ → List Row → Task → List (Option Task) → List (Option Task) → Type 0
-Bears None rows parent old new = new ≡ old
-Bears (Some child) rows parent old new =
-    (before : Task) × (after : Task) × (slice_index_or old child None ≡ Some before) × (new ≡ slice_set old child (Some after)) × BecameChild rows parent before after
-
--- the queue with the child at its end, and how many blocks live then
-abbrev pub ready_born : Option ℕ → List ℕ → List ℕ
-ready_born None list = list
-ready_born (Some child) list = list ++ child ∷ []
-
-abbrev pub living_born : Option ℕ → ℕ → ℕ
-living_born None living = living
-living_born (Some child) living = living + 1
-
--- the task behind an outer line
-abbrev pub moved_on : Close → Task → Task
-moved_on Quantum task = task
-moved_on Yield task = task
-moved_on (Outer line) task = record task { place = task.place + 1 }
-moved_on (Refused error) task = task
-moved_on End task = task
-
--- ---- the task itself
+-- what holds where a test does
+abbrev pub Where : Bool → Type 0 → Type 0
+Where test Holds = test ≡ true → Holds
 
 -- the tasks that are home: one that has ended isn't
-abbrev pub home_after : Close → Task → List (Option Task) → List (Option Task)
-home_after Quantum task home = slice_set home task.name (Some task)
-home_after Yield task home = slice_set home task.name (Some task)
-home_after (Outer line) task home = slice_set home task.name (Some task)
-home_after (Refused error) task home = home
-home_after End task home = home
-
--- the queue: the block stands at its end, if it hasn't ended
-abbrev pub ready_after : Close → ℕ → List ℕ → List ℕ
-ready_after Quantum t list = list ++ t ∷ []
-ready_after Yield t list = list ++ t ∷ []
-ready_after (Outer line) t list = list ++ t ∷ []
-ready_after (Refused error) t list = list
-ready_after End t list = list
+abbrev pub home_after : Bool → Task → List (Option Task) → List (Option Task)
+home_after ends task home = if ends then home else slice_set home task.name (Some task)
 
 -- how many blocks live
-abbrev pub living_after : Close → ℕ → ℕ
-living_after Quantum living = living
-living_after Yield living = living
-living_after (Outer line) living = living
-living_after (Refused error) living = living - 1
-living_after End living = living - 1
+abbrev pub living_after : Bool → ℕ → ℕ
+living_after ends living = if ends then living - 1 else living
 
--- the mailboxes: that of a block that has ended is closed
-abbrev pub boxes_after : Close → ℕ → List Mailbox → List Mailbox
-boxes_after Quantum t boxes = boxes
-boxes_after Yield t boxes = boxes
-boxes_after (Outer line) t boxes = boxes
-boxes_after (Refused error) t boxes = slice_set boxes t closed
-boxes_after End t boxes = slice_set boxes t closed
+-- ---- whom it makes ready
+
+-- the members when the parent of block t waits no more
+abbrev pub members_woken : ℕ → List Member → List Member
+members_woken t members = with_going (waiter_in members t) members
+
+-- and when block t has ended, but for its stopped children
+abbrev pub members_ended : ℕ → List Member → List Member
+members_ended t members = slice_set (members_woken t members) t (ended (member_at (members_woken t members) t))
+
+-- the stopped children of block t, from number i on
+abbrev pub children_in : ℕ → ℕ → List Member → List ℕ
+children_in t i [] = []
+children_in t i (member ∷ members) = child_if t i member ++ children_in t (i + 1) members
+
+-- the parent that waits, and then the stopped children
+abbrev pub freed_in : ℕ → List Member → List ℕ
+freed_in t members = listed (waiter_in members t) ++ children_in t 0 (members_ended t members)
+
+-- the block itself, if it goes on
+abbrev pub self_ready : ℕ → Life → List ℕ
+self_ready t life = if is_going life then t ∷ [] else []
+
+abbrev pub ready_after : Bool → ℕ → List Member → List ℕ
+ready_after ends t members = if ends then freed_in t members else self_ready t (member_at members t).life
+
+-- Of each member after the end of block t and the release of its children.
+abbrev pub AreReleased : ℕ → List Member → List Member → Type 0
+AreReleased t before after = (u : ℕ) → member_at after u ≡ released t (member_at before u)
+
+abbrev pub AreLeft : Bool → ℕ → List Member → List Member → Type 0
+AreLeft true t before after = AreReleased t (members_ended t before) after
+AreLeft false t before after = after ≡ before
+
+-- ---- the pool
 
 -- the pool after an area came back, if there was one
 abbrev pub pool_without : Option Lease → Pool → Pool
 pool_without None pool = pool
 pool_without (Some lease) pool = returned pool lease.class
 
-abbrev pub pool_after : Close → Option Lease → Pool → Pool
-pool_after Quantum lease pool = pool
-pool_after Yield lease pool = pool
-pool_after (Outer line) lease pool = pool
-pool_after (Refused error) lease pool = pool_without lease pool
-pool_after End lease pool = pool_without lease pool
+abbrev pub pool_after : Bool → Option Lease → Pool → Pool
+pool_after ends lease pool = if ends then pool_without lease pool else pool

@@ -2,7 +2,7 @@
 use Rattle.std.specs.Prelude.{◌≡◌, ℕ, ◌+◌, Bool, true, false, List, [], ◌∷◌, ◌++◌, map, reverse, slice_get, Option, Some, None, if◌then◌else◌}
 use Rattle.xs_base.specs.declared.header.HeaderError.{HeaderError}
 use Rattle.xs_base.specs.Frame.{refused_file}
-use Rattle.xs_base.specs.Task.{PrivateTask, child_of}
+use Rattle.xs_base.specs.Task.{PrivateTask}
 use Rattle.xs_model.specs.declared.event.Event.{Event}
 use Rattle.xs_model.specs.declared.event.Event.TheVariants.{Local}
 use Rattle.xs_model.specs.declared.event.Event.TheVariants as events
@@ -10,18 +10,18 @@ use Rattle.xs_model.specs.declared.event.Reply.{Reply}
 use Rattle.xs_model.specs.declared.event.Reply.TheVariants as replies
 use Rattle.xs_model.specs.declared.script.Block.{Block}
 use Rattle.xs_model.specs.declared.script.Command.{Command}
-use Rattle.xs_model.specs.declared.script.Command.TheVariants.{Fork, Kill}
+use Rattle.xs_model.specs.declared.script.Command.TheVariants.{Getregs}
 use Rattle.xs_model.specs.declared.script.Order.{Order}
 use Rattle.xs_model.specs.declared.script.Script.{Script}
 use Rattle.xs_model.specs.declared.stage.Stage.{Stage}
 use Rattle.xs_model.specs.declared.stage.Stage.TheVariants.{Ready, Ended}
 use Rattle.xs_model.specs.Script.{block_named, command_at, command_of, is_outer, is_yield}
-use Rattle.xs_model.specs.Line.{line_at, local_reply, local_after, next_line, traps, refusal, frame_cause}
-use Rattle.xs_model.specs.Outer.{outer_reply}
+use Rattle.xs_model.specs.Line.{line_at, local_reply, local_after, traps, refusal, frame_cause}
+use Rattle.xs_model.specs.Note.{is_count}
+use Rattle.xs_model.specs.Outer.{outer_reply, with_registers, stage_left, task_left}
 use Rattle.xs_model.specs.Due.{violation}
 use Rattle.xs_model.specs.Machine.{goes_on}
 use Rattle.xs_model.specs.State.{BlockState}
-use Rattle.xs_board.specs.declared.sending.Sent.{Sent}
 use Rattle.xs_board.specs.declared.turn.Entry.{Entry}
 use Rattle.xs_board.specs.declared.turn.Close.{Close}
 use Rattle.xs_board.specs.declared.turn.Close.TheVariants.{Quantum, Yield, Outer, Refused, End}
@@ -48,13 +48,26 @@ past_with t entries past = reverse (map (entry_event t) entries) ++ past
 
 -- ---- what a close leaves
 
--- the stage in which a turn leaves its block
-abbrev pub stage_closed : Close → Stage
-stage_closed Quantum = Ready
-stage_closed Yield = Ready
-stage_closed (Outer line) = Ready
-stage_closed (Refused error) = Ended
-stage_closed End = Ended
+-- the command of the outer line with which block t closes its turn, if it closes it so
+abbrev pub close_command : Script → ℕ → Close → Option Command
+close_command script t Quantum = None
+close_command script t Yield = None
+close_command script t (Outer line) = command_at script t line
+close_command script t (Refused error) = None
+close_command script t End = None
+
+-- the stage in which an outer line with this reply leaves its block
+abbrev pub line_stage : Script → Option Command → Reply → Stage
+line_stage script None reply = Ready
+line_stage script (Some command) reply = stage_left script command reply
+
+-- the stage in which a turn leaves its block, where the outer line with which it closes has this reply
+abbrev pub stage_closed : Script → ℕ → Close → Reply → Stage
+stage_closed script t Quantum reply = Ready
+stage_closed script t Yield reply = Ready
+stage_closed script t (Outer line) reply = line_stage script (command_at script t line) reply
+stage_closed script t (Refused error) reply = Ended
+stage_closed script t End reply = Ended
 
 -- the task that its processor hands back at the close: a refused return left it no registers
 abbrev pub task_handed : Close → PrivateTask → PrivateTask
@@ -64,42 +77,23 @@ task_handed (Outer line) task = task
 task_handed (Refused error) task = record task { file = refused_file task }
 task_handed End task = task
 
--- the task after the close: an outer line is behind it then
-abbrev pub task_closed : Close → PrivateTask → PrivateTask
-task_closed Quantum task = task
-task_closed Yield task = task
-task_closed (Outer line) task = next_line task
-task_closed (Refused error) task = record task { file = refused_file task }
-task_closed End task = task
+-- the task with what its outer line put into its buffer
+abbrev pub filled_by : Script → List BlockState → Command → Reply → PrivateTask → PrivateTask
+filled_by script blocks (Getregs name set) reply task = if is_count reply then with_registers set (slice_get blocks (block_named script name)) task else task
+filled_by script blocks other reply task = task
 
--- the block that block t bears, which has this task at its fork
-abbrev pub newborn : ℕ → PrivateTask → BlockState
-newborn t task = record { stage = Ready; task = child_of task; parent = Some t; pending = [] }
+-- the task after its outer line, where the blocks were in these states: it is behind the line, unless it waits there
+abbrev pub line_closed : Script → List BlockState → Option Command → Reply → PrivateTask → PrivateTask
+line_closed script blocks None reply task = task
+line_closed script blocks (Some command) reply task = task_left command reply (filled_by script blocks command reply task)
 
--- the block that a command forks, if it forks one
-abbrev pub forked_by : Script → Option Command → Option ℕ
-forked_by script (Some (Fork name)) = Some (block_named script name)
-forked_by script other = None
-
--- what a `kill` sends
-abbrev pub sent_by : Script → Option Command → Option Sent
-sent_by script (Some (Kill name signo)) = Some (record { target = block_named script name; signo = signo })
-sent_by script other = None
-
--- the command of the outer line with which block t closes its turn, if it closes it so
-abbrev pub close_command : Script → ℕ → Close → Option Command
-close_command script t Quantum = None
-close_command script t Yield = None
-close_command script t (Outer line) = command_at script t line
-close_command script t (Refused error) = None
-close_command script t End = None
-
--- the block that block t forks with this close, and what it sends with it
-abbrev pub forked : Script → ℕ → Close → Option ℕ
-forked script t close = forked_by script (close_command script t close)
-
-abbrev pub sent : Script → ℕ → Close → Option Sent
-sent script t close = sent_by script (close_command script t close)
+-- the task after the close
+abbrev pub task_closed : Script → List BlockState → ℕ → Close → Reply → PrivateTask → PrivateTask
+task_closed script blocks t Quantum reply task = task
+task_closed script blocks t Yield reply task = task
+task_closed script blocks t (Outer line) reply task = line_closed script blocks (command_at script t line) reply task
+task_closed script blocks t (Refused error) reply task = record task { file = refused_file task }
+task_closed script blocks t End reply task = task
 
 -- what an outer line answers, where the blocks are in these states
 abbrev pub line_answer : Script → List BlockState → ℕ → Option Command → Reply

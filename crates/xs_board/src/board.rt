@@ -9,17 +9,17 @@ ghost use Rattle.xs_model.specs.Note as notes;
 ghost use Rattle.xs_model.specs.Replay.{entry};
 ghost use Rattle.xs_model.specs.Script.{IsValid, IsBuilt, is_user};
 ghost use Rattle.xs_model.specs.State.{none_lives};
-ghost use Rattle.xs_board.specs.Board.{past_of, machine_in, ready_of, stage_in, private_in, private_with, private_after, private_closed, begun, answer_in, turn_on, IsBoard, KeepsOthers, KeepsOrBears, KeepsTurns, WasBorn};
+ghost use Rattle.xs_board.specs.Board.{past_of, machine_in, ready_of, stage_in, private_in, private_with, private_after, private_closed, begun, answer_in, turn_on, IsBoard, KeepsOthers, OthersKept, KeepsTurns};
 ghost use Rattle.xs_board.specs.Home.{IsHome};
 ghost use Rattle.xs_board.specs.Taken.{HasOther, IfTurn, OnNothing, OnDone, IsTurnOf};
-ghost use Rattle.xs_board.specs.Turn.{forked, turn_events, AreLines, stage_closed};
+ghost use Rattle.xs_board.specs.Turn.{turn_events, AreLines, stage_closed};
 
-use crate::forking::{forked, move_on, perform};
+use crate::deed::find_deed;
+use crate::doing::perform;
 use crate::laws::machine_laws;
-use crate::mailbox::Mailbox;
-use crate::opening::{born_blocks, count_born, first_mailboxes, first_tasks, users};
+use crate::member::Member;
+use crate::opening::{born_blocks, first_members, first_tasks, users};
 use crate::putting::put_back;
-use crate::sending::{find_sent, send};
 use crate::telling::{tell, tell_turn};
 use crate::turn::{Close, Entries, Taken, Turn, start_how};
 use std::alloc::{AllocError, Global};
@@ -40,8 +40,8 @@ pub struct Board {
     ready: VecDeque<u32>,
     /// How many blocks live.
     living: u32,
-    /// The mailbox of each block.
-    mailboxes: Vec<Mailbox>,
+    /// What each block does, its parent and its signals.
+    members: Vec<Member>,
     pool: AreaPool,
 }
 
@@ -57,12 +57,12 @@ impl Model for Board {
 
     ghost invariant = { λ b.
         IsBoard (record { script = b.script; history = b.events.items; home = b.tasks.items; pool = b.pool; room = vec_capacity b.events })
-        × IsKeptBeside (record { script = b.script; history = b.events.items; home = b.tasks.items; pool = b.pool; room = vec_capacity b.events }) b.ready.items (deque_capacity b.ready) b.living b.mailboxes.items };
+        × IsKeptBeside (record { script = b.script; history = b.events.items; home = b.tasks.items; pool = b.pool; room = vec_capacity b.events }) b.ready.items (deque_capacity b.ready) b.living b.members.items };
 }
 
 impl Board {
     /// The board of a script before the first event. It takes the whole room of a run: that of the most events that a run has,
-    /// both memories of each user task, the pool of save areas, the ready list and the mailboxes. Fails for want of memory alone,
+    /// both memories of each user task, the pool of save areas, the ready list and the signals of each block. Fails for want of memory alone,
     /// and then the script is dropped.
     pub fn open(alloc: Global, script: Script) -> Result<Board, AllocError>
         requires valid { IsValid script }
@@ -76,15 +76,15 @@ impl Board {
         let mut pool = AreaPool::open(alloc, &script.layout, users(blocks), script.large)?;
         let tasks = first_tasks(alloc, &script.layout, blocks, &mut pool)?;
         let ready = born_blocks(alloc, blocks)?;
-        let mailboxes = first_mailboxes(alloc, blocks)?;
-        let living = count_born(blocks);
+        let members = first_members(alloc, blocks)?;
+        let living = ready.len() as u32;
         Ok(Board {
             script,
             events,
             tasks,
             ready,
             living,
-            mailboxes,
+            members,
             pool,
         })
     }
@@ -140,7 +140,7 @@ impl Board {
             unreachable!()
         };
         let how = start_how(kind, mark, task.last, name, cpu);
-        let signal = self.mailboxes[name as usize].take_next(task.handling);
+        let signal = self.members[name as usize].take_next(task.handling);
         tell(
             &mut self.events,
             Event::Start {
@@ -158,10 +158,12 @@ impl Board {
         })
     }
 
-    /// Takes a task back after its turn, with the lines that ran and the turn's close. Their events join the history. A fork bears
-    /// its child, which is ready before its parent is; a `kill` adds its signal to those that are pending of a block that lives. At
-    /// End and after a refused return the task's area goes back to the pool and the task is dropped; else the block is the last of
-    /// the ready list. Takes no memory.
+    /// Takes a task back after its turn, with the lines that ran and the turn's close. Their events join the history, and the outer
+    /// line with which it closes is done: a fork bears its child, a `kill` adds its signal to those that are pending of a block that
+    /// lives, a `stop` holds the block while its parent lives, a `wait` blocks it while its child goes on, `getregs` and `setregs`
+    /// read and write the registers of a child that is stopped, and `cont` lets it go on. At End and after a refused return the
+    /// task's area goes back to the pool and the task is dropped. The ready list gets the parent that waited, then the children that
+    /// were freed, let go or born, and then the block itself, if it goes on. Takes no memory.
     ///
     /// The block is in this turn, and the lines and the close are the script's from the task's place on. The task stands for the
     /// private task after the lines, with the marks after a turn: a user task was switched out on the turn's processor. An outer
@@ -173,17 +175,16 @@ impl Board {
         requires last { is_user self.old.script turn.task.name ≡ true → turn.task.last ≡ Some turn.cpu }
 
         // What joins the history, which stays legal.
-        ensures history { self.new.history ≡ self.old.history ++ turn_events turn.task.name entries.now.items close (answer_in self.old turn.task.name close) }
+        ensures history { self.new.history ≡ self.old.history ++ turn_events turn.task.name entries.now.items close (answer_in self.old turn.task.name entries.now.items close) }
         ensures grows { length self.old.history < length self.new.history }
         ensures legal { IsLegal self.new.script self.new.history }
         ensures replay { past_of self.new ≡ entry self.old.script (past_of self.old) turn.cpu }
 
         // What the history tells then.
-        ensures stage { stage_in self.new turn.task.name ≡ stage_closed close }
+        ensures stage { stage_in self.new turn.task.name ≡ stage_closed self.old.script turn.task.name close (answer_in self.old turn.task.name entries.now.items close) }
         ensures private { private_in self.new turn.task.name ≡ private_closed self.old turn.task.name entries.now.items close }
         ensures free { turn_on self.new turn.cpu ≡ None }
-        ensures born { IfSome (forked self.old.script turn.task.name close) (λ child. WasBorn turn.task.name (private_with self.old turn.task.name entries.now.items) child self.old self.new) }
-        ensures others { KeepsOrBears turn.task.name (private_with self.old turn.task.name entries.now.items) close self.old self.new }
+        ensures others { OthersKept turn.task.name self.old self.new }
         ensures turns { KeepsTurns turn.cpu self.old self.new }
 
         // What stays.
@@ -192,31 +193,23 @@ impl Board {
         machine_laws();
         let Turn { task, .. } = turn;
         let mut task = task;
-        let child = forked(&self.script, task.name, task.place, close);
-        let sent = find_sent(&self.script, task.name, task.place, close);
-        let answer = send(&mut self.mailboxes, sent);
-        tell_turn(
-            &mut self.events,
-            task.name,
-            entries.as_slice(),
-            close,
-            answer,
-        );
-        perform(
+        let name = task.name;
+        let deed = find_deed(&self.script, name, task.place, close);
+        let answer = perform(
             &self.script.layout,
             &mut self.tasks,
+            &mut self.members,
             &mut self.ready,
             &mut self.living,
-            &mut self.mailboxes,
-            &task,
-            child,
+            &mut task,
+            deed,
         );
-        move_on(&mut task, close);
+        tell_turn(&mut self.events, name, entries.as_slice(), close, answer);
         put_back(
             &mut self.tasks,
             &mut self.ready,
             &mut self.living,
-            &mut self.mailboxes,
+            &mut self.members,
             &mut self.pool,
             task,
             close,

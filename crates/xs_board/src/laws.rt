@@ -14,7 +14,8 @@ ghost use Rattle.xs_board.specs.Turn.{AreLines, HaveRun, IsEntry, IsOuterLine, I
 
 use xs_model::{
     a_fork_bears, blocks_known, built_is_plain, few_events, lines_found, machine_known,
-    never_stuck, ready_once, risers_known, signals_known, steps_known, turns_known, two_numbers,
+    named_known, never_stuck, ready_once, risers_known, signals_known, steps_known, task_stays,
+    turns_known, two_numbers, waits_known,
 };
 
 /// The lines of a turn as they run: none has run at its beginning; one more runs, and the turn goes on; it was the last, by the
@@ -45,5 +46,8 @@ pub fn machine_laws()
     steps_known();
     blocks_known();
     risers_known();
+    named_known();
+    waits_known();
     signals_known();
+    task_stays();
 }

@@ -1,17 +1,21 @@
-//! The board: the history that the processors write together, the tasks that are home, the ready list and the pool of save areas.
-//! A processor takes a task from it and brings it back with the lines that ran. The crate's contract is that the history is
-//! legal: each event is a step of the private machine of `xs_model`, and each task that is home stands for that machine's
-//! private task. It stands on scripts and the machine in `xs_model`, on tasks in `xs_task` and on
-//! the pool of `xs_pool`.
+//! The board: the history that the processors write together, the tasks that are home, what each block does, the ready list and
+//! the pool of save areas. A processor takes a task from it, with the signal that is due, and brings it back with the lines that
+//! ran. What reaches another block happens at that commit: a fork, a signal that is sent, and tracing, in which a child stops, its
+//! parent waits for it, reads and writes its registers and lets it go on. The crate's contract is that the history is legal: each
+//! event is a step of the private machine of `xs_model`, and each task that is home stands for that machine's private task. It
+//! stands on scripts and the machine in `xs_model`, on tasks in `xs_task`, on register sets in `xs_regset` and on the pool of
+//! `xs_pool`.
 #![tactic(auto)]
 
 mod board;
-mod forking;
+mod deed;
+mod doing;
 mod laws;
-mod mailbox;
+mod member;
 mod opening;
+mod pending;
 mod putting;
-mod sending;
+mod registers;
 mod telling;
 mod turn;
 

@@ -6,11 +6,12 @@ ghost use Rattle.xs_base.specs.Task.{root_task};
 ghost use Rattle.xs_model.specs.Script.{is_user_kind};
 ghost use Rattle.xs_pool.specs.Pool.{leased};
 ghost use Rattle.xs_board.specs.Home.{IsUserHome, IsThreadHome};
-ghost use Rattle.xs_board.specs.Opening as opening;
-ghost use Rattle.xs_board.specs.Opening.{first_mailbox, one_user, one_born, users_in, born_if, born_in, born_from, IsFirstTask, AreFirst, pool_first};
+ghost use Rattle.xs_model.specs.State.{opening_stage};
+ghost use Rattle.xs_board.specs.Member.{life_of};
+ghost use Rattle.xs_board.specs.Opening.{first_member, one_user, users_in, born_if, born_from, IsFirstTask, AreFirst, pool_first};
 ghost use Rattle.xs_base.specs.declared.class.Class.TheVariants as classes;
 
-use crate::mailbox::Mailbox;
+use crate::member::{Life, Member};
 use std::alloc::{AllocError, Global};
 use std::collections::VecDeque;
 use xs_area::Class;
@@ -42,28 +43,6 @@ fn one_if_user(kind: BlockKind) -> u32
     }
 }
 
-/// How many of the blocks are born before the first event.
-pub fn count_born(blocks: &[Block]) -> u32
-    requires { length blocks.now ≤ 64 }
-    ensures { result ≡ born_in blocks.now }
-{
-    let mut born: u32 = 0;
-    'each: for block in blocks {
-        born += one_if_born(block.kind);
-    }
-    born
-}
-
-/// 1 for a block that is born before the first event.
-fn one_if_born(kind: BlockKind) -> u32
-    ensures { result ≡ one_born kind }
-{
-    match kind {
-        BlockKind::Child => 0,
-        _ => 1,
-    }
-}
-
 /// The numbers of the blocks that are born before the first event, in a queue that has room for those of all blocks.
 pub fn born_blocks(alloc: Global, blocks: &[Block]) -> Result<VecDeque<u32>, AllocError>
     requires { length blocks.now ≤ 64 }
@@ -91,24 +70,24 @@ fn add_born(born: &mut VecDeque<u32>, kind: BlockKind, number: u32)
     }
 }
 
-/// The mailbox of each block before the first event.
-pub fn first_mailboxes(alloc: Global, blocks: &[Block]) -> Result<Vec<Mailbox>, AllocError>
-    ensures { IfOk result (λ mailboxes. mailboxes.items ≡ map first_mailbox blocks.now) }
+/// What is kept of each block beside its task before the first event.
+pub fn first_members(alloc: Global, blocks: &[Block]) -> Result<Vec<Member>, AllocError>
+    ensures { IfOk result (λ members. members.items ≡ map first_member blocks.now) }
 {
-    let mut mailboxes = Vec::with_capacity(alloc, blocks.len())?;
+    let mut members = Vec::with_capacity(alloc, blocks.len())?;
     'each: for block in blocks {
-        mailboxes.push_reserved(Mailbox::new(alloc, is_born(block.kind))?);
+        members.push_reserved(Member::new(alloc, first_life(block.kind))?);
     }
-    Ok(mailboxes)
+    Ok(members)
 }
 
-/// Whether a block is born before the first event.
-fn is_born(kind: BlockKind) -> bool
-    ensures { result ≡ opening.is_born kind }
+/// What a block does before the first event: a child isn't born.
+fn first_life(kind: BlockKind) -> Life
+    ensures { result ≡ life_of (opening_stage kind) }
 {
     match kind {
-        BlockKind::Child => false,
-        _ => true,
+        BlockKind::Child => Life::Unborn,
+        _ => Life::Going,
     }
 }
 

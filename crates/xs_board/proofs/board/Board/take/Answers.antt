@@ -14,12 +14,12 @@ use Rattle.xs_model.specs.Due.{how_of}
 use Rattle.xs_model.specs.Held.{held}
 use Rattle.xs_model.specs.Note.{is_at}
 use Rattle.xs_model.specs.Script.{is_user, is_user_kind}
-use Rattle.xs_model.specs.State.{stage_at}
+use Rattle.xs_model.specs.State.{stage_at, task_of_state}
 use Rattle.xs_base.specs.declared.words.Signo.{Signo}
 use Rattle.std.specs.Prelude.{Option}
-use Rattle.xs_board.specs.Board.{Board, begun, signal_in, IsKeptBeside, IsTaskOf, past_of, private_in, task_of_state}
+use Rattle.xs_board.specs.Board.{Board, begun, signal_in, IsKeptBeside, IsTaskOf, past_of, private_in}
 use Rattle.xs_board.specs.Taken.{is_user_how}
-use Rattle.xs_board.proofs.Asking.{box_known, thread_quiet, nil_of_len, nobody_lives, somebody_lives, first_ready, ready_known, ready_lives, ready_home, may_take, other_has, user_how, skip_held, is_at_some}
+use Rattle.xs_board.proofs.Asking.{member_known, thread_quiet, nil_of_len, nobody_lives, somebody_lives, first_ready, ready_known, ready_lives, ready_home, may_take, other_has, user_how, skip_held, is_at_some}
 use Rattle.xs_board.proofs.Taking.{MayTake, start_fits, taken_legal, taken_replay, taken_stage, taken_private, taken_others, taken_busy, taken_turns, board_taken, beside_taken}
 use Rattle.xs_board.proofs.board.Board.take.Goals as goal
 use Rattle.xs_board.proofs.board.Board.take.Goals.{then-self-eq0, else-self-eq0}
@@ -35,7 +35,7 @@ returns-in_default-clause-nothing c =
     let empty = nil_of_len c.self.inside.ready.items none in
     elim c.if-self-eq0.branch [
       | then-self-eq0 w ↦ rw w.result-is tt
-      | else-self-eq0 w ↦ rw (w.result-is, ← c.self.view_is) (sym c.self.invariant.1.queue ∙ empty, somebody_lives (before c) c.self.inside.ready.items (deque_capacity c.self.inside.ready) c.self.inside.living c.self.inside.mailboxes.items c.self.invariant.1 w.if-self-eq0.false)
+      | else-self-eq0 w ↦ rw (w.result-is, ← c.self.view_is) (sym c.self.invariant.1.queue ∙ empty, somebody_lives (before c) c.self.inside.ready.items (deque_capacity c.self.inside.ready) c.self.inside.living c.self.inside.members.items c.self.invariant.1 w.if-self-eq0.false)
     ]
 
 pub returns-in_default-clause-idle : goal.returns-in_default-clause-idle
@@ -46,40 +46,40 @@ returns-in_default-clause-idle c =
       | then-self-eq0 w ↦ rw w.result-is tt
       | else-self-eq0 w ↦ rw (w.result-is, ← c.self.view_is)
           (other_has c.machine_laws.ensures (before c) c.args.cpu c.self.invariant.0 (sym c.self.invariant.1.queue ∙ empty)
-          (somebody_lives (before c) c.self.inside.ready.items (deque_capacity c.self.inside.ready) c.self.inside.living c.self.inside.mailboxes.items c.self.invariant.1 w.if-self-eq0.false)
+          (somebody_lives (before c) c.self.inside.ready.items (deque_capacity c.self.inside.ready) c.self.inside.living c.self.inside.members.items c.self.invariant.1 w.if-self-eq0.false)
           (rw (← c.self.view_is) at c.requires.free))
     ]
 
 pub returns-in_default-clause-done : goal.returns-in_default-clause-done
 returns-in_default-clause-done c =
     elim c.if-self-eq0.branch [
-      | then-self-eq0 w ↦ rw (w.result-is, ← c.self.view_is) (nobody_lives (before c) c.self.inside.ready.items (deque_capacity c.self.inside.ready) c.self.inside.living c.self.inside.mailboxes.items c.self.invariant.1 w.if-self-eq0.true)
+      | then-self-eq0 w ↦ rw (w.result-is, ← c.self.view_is) (nobody_lives (before c) c.self.inside.ready.items (deque_capacity c.self.inside.ready) c.self.inside.living c.self.inside.members.items c.self.invariant.1 w.if-self-eq0.true)
       | else-self-eq0 w ↦ rw w.result-is tt
     ]
 
 pub bounds-as_slice-name : goal.bounds-as_slice-name
 bounds-as_slice-name c =
     let board : Board = record { script = c.self.inside.script; history = c.self.inside.events.items; home = c.self.inside.tasks.items; pool = c.self.inside.pool; room = vec_capacity c.self.inside.events } in
-    rw c.as_slice.ensures (ready_known c.machine_laws.ensures.machine board c.in-Some.name (first_ready c.machine_laws.ensures.first board c.self.inside.ready.items (deque_capacity c.self.inside.ready) c.self.inside.living c.in-Some.name c.self.inside.mailboxes.items c.pop_front.new.self.items c.self.invariant.0 c.self.invariant.1 c.in-Some.ensures.items))
+    rw c.as_slice.ensures (ready_known c.machine_laws.ensures.machine board c.in-Some.name (first_ready c.machine_laws.ensures.first board c.self.inside.ready.items (deque_capacity c.self.inside.ready) c.self.inside.living c.in-Some.name c.self.inside.members.items c.pop_front.new.self.items c.self.invariant.0 c.self.invariant.1 c.in-Some.ensures.items))
 
 pub bounds-as_slice-name-in-Some : goal.bounds-as_slice-name-in-Some
 bounds-as_slice-name-in-Some c =
     let board : Board = record { script = c.self.inside.script; history = c.self.inside.events.items; home = c.self.inside.tasks.items; pool = c.self.inside.pool; room = vec_capacity c.self.inside.events } in
-    rw c.as_slice.ensures (ready_known c.machine_laws.ensures.machine board c.in-Some.name (first_ready c.machine_laws.ensures.first board c.self.inside.ready.items (deque_capacity c.self.inside.ready) c.self.inside.living c.in-Some.name c.self.inside.mailboxes.items c.pop_front.new.self.items c.self.invariant.0 c.self.invariant.1 c.in-Some.ensures.items))
+    rw c.as_slice.ensures (ready_known c.machine_laws.ensures.machine board c.in-Some.name (first_ready c.machine_laws.ensures.first board c.self.inside.ready.items (deque_capacity c.self.inside.ready) c.self.inside.living c.in-Some.name c.self.inside.members.items c.pop_front.new.self.items c.self.invariant.0 c.self.invariant.1 c.in-Some.ensures.items))
 
 -- ---- the first ready block
 
 pub index_mut-requires : goal.index_mut-requires
 index_mut-requires c =
     let board : Board = record { script = c.self.inside.script; history = c.self.inside.events.items; home = c.self.inside.tasks.items; pool = c.self.inside.pool; room = vec_capacity c.self.inside.events } in
-    let known = ready_known c.machine_laws.ensures.machine board c.in-Some.name (first_ready c.machine_laws.ensures.first board c.self.inside.ready.items (deque_capacity c.self.inside.ready) c.self.inside.living c.in-Some.name c.self.inside.mailboxes.items c.pop_front.new.self.items c.self.invariant.0 c.self.invariant.1 c.in-Some.ensures.items) in
+    let known = ready_known c.machine_laws.ensures.machine board c.in-Some.name (first_ready c.machine_laws.ensures.first board c.self.inside.ready.items (deque_capacity c.self.inside.ready) c.self.inside.living c.in-Some.name c.self.inside.members.items c.pop_front.new.self.items c.self.invariant.0 c.self.invariant.1 c.in-Some.ensures.items) in
     let count = c.self.invariant.0.count in
     omega arith
 
 pub unreachable-requires : goal.unreachable-requires
 unreachable-requires c =
     let board : Board = record { script = c.self.inside.script; history = c.self.inside.events.items; home = c.self.inside.tasks.items; pool = c.self.inside.pool; room = vec_capacity c.self.inside.events } in
-    let ready = first_ready c.machine_laws.ensures.first board c.self.inside.ready.items (deque_capacity c.self.inside.ready) c.self.inside.living c.in-Some.name c.self.inside.mailboxes.items c.pop_front.new.self.items c.self.invariant.0 c.self.invariant.1 c.in-Some.ensures.items in
+    let ready = first_ready c.machine_laws.ensures.first board c.self.inside.ready.items (deque_capacity c.self.inside.ready) c.self.inside.living c.in-Some.name c.self.inside.members.items c.pop_front.new.self.items c.self.invariant.0 c.self.invariant.1 c.in-Some.ensures.items in
     let known = ready_known c.machine_laws.ensures.machine board c.in-Some.name ready in
     let count = c.self.invariant.0.count in
     let home = ready_home c.machine_laws.ensures.machine board c.in-Some.name c.self.invariant.0 ready in
@@ -88,7 +88,7 @@ unreachable-requires c =
 pub tell-requires : goal.tell-requires
 tell-requires c =
     let board : Board = record { script = c.self.inside.script; history = c.self.inside.events.items; home = c.self.inside.tasks.items; pool = c.self.inside.pool; room = vec_capacity c.self.inside.events } in
-    let both = may_take c.machine_laws.ensures board c.self.inside.ready.items (deque_capacity c.self.inside.ready) c.self.inside.living c.in-Some.name c.self.inside.mailboxes.items c.pop_front.new.self.items c.args.cpu c.index-as_slice-name.result c.index_mut.result.now c.in-Some-take.task c.args.mark c.start_how-how.result c.index_mut-2.result.now c.take_next-signal.result
+    let both = may_take c.machine_laws.ensures board c.self.inside.ready.items (deque_capacity c.self.inside.ready) c.self.inside.living c.in-Some.name c.self.inside.members.items c.pop_front.new.self.items c.args.cpu c.index-as_slice-name.result c.index_mut.result.now c.in-Some-take.task c.args.mark c.start_how-how.result c.index_mut-2.result.now c.take_next-signal.result
     c.self.invariant.0 c.self.invariant.1 c.in-Some.ensures.items (sym c.take.ensures.value ∙ c.in-Some-take.is) c.index_mut.ensures.value (c.index-as_slice-name.is ∙ ap (λ (blocks : List Block). get_or blocks c.in-Some.name c.index-as_slice-name.result) c.as_slice.ensures)
     (rw (← c.self.view_is) at c.requires.processor) (rw (← c.self.view_is) at c.requires.free) (rw (← c.self.view_is) at c.requires.mark)
     (c.start_how-how.ensures ∙ ap (λ (b : Block). how_of (is_user_kind b.kind) (is_at c.args.mark c.in-Some.name && is_at c.in-Some-take.task.last c.args.cpu)) (sym c.index-as_slice-name.is))
@@ -118,7 +118,7 @@ history c = c.tell.new.events.items
 -- the block may start, with its task
 both : (c : goal.After-tell) → MayTake (old c) (t c) c.args.cpu (rest c) (how c) (signal c) × IsTaskOf (old c) (t c) c.in-Some-take.task
 both c =
-    may_take c.machine_laws.ensures (old c) c.self.inside.ready.items (deque_capacity c.self.inside.ready) c.self.inside.living c.in-Some.name c.self.inside.mailboxes.items c.pop_front.new.self.items c.args.cpu c.index-as_slice-name.result c.index_mut.result.now c.in-Some-take.task c.args.mark c.start_how-how.result c.index_mut-2.result.now c.take_next-signal.result
+    may_take c.machine_laws.ensures (old c) c.self.inside.ready.items (deque_capacity c.self.inside.ready) c.self.inside.living c.in-Some.name c.self.inside.members.items c.pop_front.new.self.items c.args.cpu c.index-as_slice-name.result c.index_mut.result.now c.in-Some-take.task c.args.mark c.start_how-how.result c.index_mut-2.result.now c.take_next-signal.result
     c.self.invariant.0 c.self.invariant.1 c.in-Some.ensures.items (sym c.take.ensures.value ∙ c.in-Some-take.is) c.index_mut.ensures.value (c.index-as_slice-name.is ∙ ap (λ (blocks : List Block). get_or blocks c.in-Some.name c.index-as_slice-name.result) c.as_slice.ensures)
     (rw (← c.self.view_is) at c.requires.processor) (rw (← c.self.view_is) at c.requires.free) (rw (← c.self.view_is) at c.requires.mark)
     (c.start_how-how.ensures ∙ ap (λ (b : Block). how_of (is_user_kind b.kind) (is_at c.args.mark c.in-Some.name && is_at c.in-Some-take.task.last c.args.cpu)) (sym c.index-as_slice-name.is))
@@ -137,10 +137,10 @@ invariant_of-self-2 c =
           (length-set c.self.inside.tasks.items (t c) c.take.new.self)
           (λ (u : ℕ) (other : u ≡ t c → ⊥). get_or-set_other c.self.inside.tasks.items (t c) u c.take.new.self None other)
           c.tell.ensures.capacity,
-      beside_taken c.machine_laws.ensures (old c) (t c) c.args.cpu (rest c) (how c) (signal c) (both c).0 (history c) (told c) home (vec_capacity c.tell.new.events) (deque_capacity c.pop_front.new.self) c.self.inside.living c.self.inside.mailboxes.items c.take_next-signal.new.self
-          (subst (λ (list : List ℕ). IsKeptBeside (old c) list (deque_capacity c.pop_front.new.self) c.self.inside.living c.self.inside.mailboxes.items) c.in-Some.ensures.items
-          (subst (λ (capacity : ℕ). IsKeptBeside (old c) c.self.inside.ready.items capacity c.self.inside.living c.self.inside.mailboxes.items) (sym c.pop_front.ensures.capacity) c.self.invariant.1))
-          (c.take_next-signal.ensures.rest ∙ box_known c.machine_laws.ensures (old c) c.self.inside.ready.items (deque_capacity c.self.inside.ready) c.self.inside.living (t c) c.args.cpu c.self.inside.mailboxes.items c.index_mut-2.result.now c.in-Some-take.task (signal c) c.self.invariant.0 c.self.invariant.1 (both c).1 (both c).0.ready c.index_mut-2.ensures.value (both c).0.signal_is),
+      beside_taken c.machine_laws.ensures (old c) (t c) c.args.cpu (rest c) (how c) (signal c) (both c).0 (history c) (told c) home (vec_capacity c.tell.new.events) (deque_capacity c.pop_front.new.self) c.self.inside.living c.self.inside.members.items c.take_next-signal.new.self
+          (subst (λ (list : List ℕ). IsKeptBeside (old c) list (deque_capacity c.pop_front.new.self) c.self.inside.living c.self.inside.members.items) c.in-Some.ensures.items
+          (subst (λ (capacity : ℕ). IsKeptBeside (old c) c.self.inside.ready.items capacity c.self.inside.living c.self.inside.members.items) (sym c.pop_front.ensures.capacity) c.self.invariant.1))
+          (c.take_next-signal.ensures.rest ∙ member_known c.machine_laws.ensures (old c) c.self.inside.ready.items (deque_capacity c.self.inside.ready) c.self.inside.living (t c) c.args.cpu c.self.inside.members.items c.index_mut-2.result.now c.in-Some-take.task (signal c) c.self.invariant.0 c.self.invariant.1 (both c).1 (both c).0.ready c.index_mut-2.ensures.value (both c).0.signal_is),
     )
 
 pub returns-clause-turn : goal.returns-clause-turn
