@@ -15,17 +15,17 @@ use Rattle.xs_model.specs.declared.script.Script.{Script}
 use Rattle.xs_model.specs.declared.stage.Stage.TheVariants as stages
 use Rattle.xs_model.specs.Counts as told
 use Rattle.xs_model.specs.Counts.{in_section}
-use Rattle.xs_model.specs.Laws.{HadNoTurn}
+use Rattle.xs_model.specs.Laws.{KeepsBlock, TurnsKnown}
 use Rattle.xs_model.specs.Runs.{NeverIdle}
 use Rattle.xs_model.specs.Machine.{machine}
 use Rattle.xs_model.specs.Note.{cpu_of, notes_of, mark, mark_after, last, Starts}
 use Rattle.xs_model.specs.Replay.{runner}
 use Rattle.xs_model.specs.Script.{is_user}
-use Rattle.xs_model.specs.State.{BlockState, stage_at, stage_of, turn_cpu, is_on_cpu}
+use Rattle.xs_model.specs.State.{BlockState, stage_at, stage_of, task_at, task_of_state, turn_cpu, turn_of, is_on_cpu}
 use Rattle.xs_switch.specs.Pkru.{given_pkru}
 use Rattle.xs_task.specs.declared.task.Task.{Task}
 use Rattle.xs_board.specs.declared.turn.Turn.{Turn}
-use Rattle.xs_board.specs.Board.{Board, past_of, machine_in, private_in, stage_in, turn_on, task_of_state, but_signals, KeepsOthers, KeepsTurns}
+use Rattle.xs_board.specs.Board.{Board, past_of, machine_in, private_in, stage_in, turn_on, KeepsTurns}
 use Rattle.xs_board.specs.Board as boards
 use Rattle.xs_board.specs.Taken.{is_user_how}
 use Rattle.xs_board.specs.Turn.{line_of}
@@ -37,31 +37,31 @@ use Rattle.xs_machine.proofs.ScriptLemmas.{handler_stands}
 
 -- ---- boards
 
--- pending signals aside, a block has its task, its stage and its file
-task_but : (block : Option BlockState) → task_of_state (but_signals block) ≡ task_of_state block
-task_but None = refl
-task_but (Some block) = refl
+-- a block that has a file is there
+file_there : (block : Option BlockState) (file : File) → told.file_of block ≡ Some file → file ≡ (task_of_state block).file
+file_there None file is = absurd (cc)
+file_there (Some block) file is = cc
 
-stage_but : (block : Option BlockState) → stage_of (but_signals block) ≡ stage_of block
-stage_but None = refl
-stage_but (Some block) = refl
+-- and so is one that is in a turn
+turn_there : (block : Option BlockState) (c ran : ℕ) → stage_of block ≡ stages.Turn c ran → told.file_of block ≡ Some (task_of_state block).file
+turn_there None c ran is = absurd (cc)
+turn_there (Some block) c ran is = refl
 
-file_but : (block : Option BlockState) → told.file_of (but_signals block) ≡ told.file_of block
-file_but None = refl
-file_but (Some block) = refl
+-- Each block but one stays in its turn, and a last processor that it has it had before, with the same private task.
+abbrev pub LeavesBlocks : Script → ℕ → Board → Board → Type 0
+LeavesBlocks script t old new = (u : ℕ) → (u ≡ t → ⊥) → KeepsBlock script (past_of old) (past_of new) u
 
--- The block is the same one, pending signals aside.
-abbrev pub SameBlock : Board → Board → ℕ → Type 0
-SameBlock old new u = but_signals (slice_get (machine_in new).blocks u) ≡ but_signals (slice_get (machine_in old).blocks u)
+module _ (script : Script) (t : ℕ) (old new : Board) (old_is : old.script ≡ script) (new_is : new.script ≡ script) (leaves : LeavesBlocks script t old new) where
+  pub private_kept : (d u : ℕ) → (u ≡ t → ⊥) → last script (past_of new) u ≡ Some d → private_in new u ≡ private_in old u
+  private_kept d u ne home =
+      ap (λ (s : Script). task_at (machine s (past_of new)).blocks u) new_is
+      ∙ ((leaves u ne).held d home).1
+      ∙ sym (ap (λ (s : Script). task_at (machine s (past_of old)).blocks u) old_is)
 
-pub private_same : (old new : Board) (u : ℕ) → SameBlock old new u → private_in new u ≡ private_in old u
-private_same old new u same = sym (task_but (slice_get (machine_in new).blocks u)) ∙ ap task_of_state same ∙ task_but (slice_get (machine_in old).blocks u)
-
-stage_same : (old new : Board) (u : ℕ) → SameBlock old new u → stage_in new u ≡ stage_in old u
-stage_same old new u same = sym (stage_but (slice_get (machine_in new).blocks u)) ∙ ap stage_of same ∙ stage_but (slice_get (machine_in old).blocks u)
-
-file_same : (old new : Board) (u : ℕ) → SameBlock old new u → told.file_of (slice_get (machine_in new).blocks u) ≡ told.file_of (slice_get (machine_in old).blocks u)
-file_same old new u same = sym (file_but (slice_get (machine_in new).blocks u)) ∙ ap told.file_of same ∙ file_but (slice_get (machine_in old).blocks u)
+  pub stage_kept : (d u : ℕ) → (u ≡ t → ⊥) → stage_in old u ≡ stages.Turn d 0 → stage_in new u ≡ stages.Turn d 0
+  stage_kept d u ne there =
+      ap (λ (s : Script). stage_at (machine s (past_of new)).blocks u) new_is
+      ∙ (leaves u ne).turn d 0 (ap (λ (s : Script). stage_at (machine s (past_of old)).blocks u) (sym old_is) ∙ there)
 
 -- the block that is found in a turn on a processor is in one there
 runner_found : (cpu i t : ℕ) (blocks : List BlockState) → runner cpu i blocks ≡ Some t → (k : ℕ) × (t ≡ i + k) × (is_on_cpu cpu (turn_cpu (stage_at blocks k)) ≡ true)
@@ -97,15 +97,7 @@ remains_none script past d file is some = let none : told.remains script past d 
 
 -- ---- other processors
 
--- Every other block that had a turn is in the state in which it was, pending signals aside.
-abbrev pub KeepsSeen : Script → ℕ → Board → Board → Type 0
-KeepsSeen script t old new = (u : ℕ) → (u ≡ t → ⊥) → (HadNoTurn script (past_of old) u → ⊥) → SameBlock old new u
-
--- a block with a last processor had a turn
-pub had_turn : (script : Script) (past : List Event) (d u : ℕ) → last script past u ≡ Some d → HadNoTurn script past u → ⊥
-had_turn script past d u home none = let no : Some d ≡ None = sym home ∙ none.last in absurd (cc no)
-
-module _ (script : Script) (i t : ℕ) (old new : Board) (cont : Continues script t i (past_of old) (past_of new)) (keep : KeepsSeen script t old new) (turns : KeepsTurns i old new)
+module _ (script : Script) (i t : ℕ) (old new : Board) (known : TurnsKnown) (old_run : IsRun script old) (new_run : IsRun script new) (cont : Continues script t i (past_of old) (past_of new)) (leaves : LeavesBlocks script t old new) (turns : KeepsTurns i old new)
     (apart : (d u : ℕ) → (d ≡ i → ⊥) → stage_in old u ≡ stages.Turn d 0 → turn_on old d ≡ Some u → u ≡ t → ⊥) where
   pub told_other : (d : ℕ) (bank : banks.Bank) → (d ≡ i → ⊥) → IsTold script old d bank → IsTold script new d bank
   told_other d bank other was = record {
@@ -117,16 +109,20 @@ module _ (script : Script) (i t : ℕ) (old new : Board) (cont : Continues scrip
   held_other d turn cpu bank other was =
       let u = turn.task.name in
       let ne : u ≡ t → ⊥ = apart d u other was.stage was.busy in
-      let same = keep u ne (had_turn script (past_of old) d u was.home) in
+      let stage = stage_kept script t old new old_run.script_is new_run.script_is leaves d u ne was.stage in
+      let there : turn_of (machine script (past_of new)).blocks u ≡ Some d = ap turn_cpu (ap (λ (s : Script). stage_at (machine s (past_of new)).blocks u) (sym new_run.script_is) ∙ stage) in
+      let two = known script (past_of new) d u new_run.valid new_run.legal there in
+      let private = private_kept script t old new old_run.script_is new_run.script_is leaves d u ne two.1 in
+      let file = turn_there (slice_get (machine_in old).blocks u) d 0 was.stage ∙ ap (λ (p : PrivateTask). Some p.file) (sym private) ∙ sym (turn_there (slice_get (machine_in new).blocks u) d 0 stage) in
       record {
         cpu_is = was.cpu_is;
-        stage = stage_same old new u same ∙ was.stage;
+        stage = stage;
         busy = turns d other ∙ was.busy;
-        here = cont.cpu u ne ∙ was.here;
-        home = cont.last_is u ne ∙ was.home;
-        latest = cont.files d u other ∙ was.latest ∙ sym (file_same old new u same);
+        here = two.0;
+        home = two.1;
+        latest = cont.files d u other ∙ was.latest ∙ file;
         fresh = cont.section u ne ∙ was.fresh;
-        on = rw (private_same old new u same) was.on;
+        on = rw private was.on;
         flag = was.flag;
         own = λ user. cont.mark_is d other ∙ was.own user;
       }
@@ -142,10 +138,8 @@ module _ (script : Script) (i t : ℕ) (old new : Board) (cont : Continues scrip
     set_up = was.set_up;
     mark_is = was.mark_is ∙ sym (cont.mark_is d other);
     holds = λ u is last. elim (cases_eq u t) [
-      | inl same ↦ absurd (let e : Some d ≡ Some i = sym (rw same at last) ∙ cont.home in other (cc))
-      | inr ne ↦
-          let there = sym (cont.last_is u ne) ∙ last in
-          rw (private_same old new u (keep u ne (had_turn script (past_of old) d u there))) (was.holds u (sym (cont.mark_is d other) ∙ is) there)
+      | inl same ↦ absurd (other (cont.home d (rw same at last)))
+      | inr ne ↦ rw (private_kept script t old new old_run.script_is new_run.script_is leaves d u ne last) (was.holds u (sym (cont.mark_is d other) ∙ is) ((leaves u ne).held d last).0)
     ];
   }
 
@@ -158,12 +152,9 @@ module _ (script : Script) (i t : ℕ) (old new : Board) (cont : Continues scrip
 -- ---- the processor itself
 
 -- what a block's file is, where the latest event of the block on the processor was its latest
-file_known : (script : Script) (new : Board) (i t : ℕ) (block : BlockState) (file : File) → told.file_after script (past_of new) i t ≡ told.file_of (slice_get (machine_in new).blocks t)
-    → slice_get (machine_in new).blocks t ≡ Some block → mark script (past_of new) i ≡ Some t → told.remains script (past_of new) i ≡ Some file → file ≡ (private_in new t).file
-file_known script new i t block file latest here is some =
-    let e : Some file ≡ Some block.task.file = sym some ∙ remains_at script (past_of new) i t is ∙ latest ∙ ap told.file_of here in
-    let f : file ≡ block.task.file = cc in
-    f ∙ ap (λ (b : Option BlockState). (task_of_state b).file) (sym here)
+file_known : (script : Script) (new : Board) (i t : ℕ) (file : File) → told.file_after script (past_of new) i t ≡ told.file_of (slice_get (machine_in new).blocks t)
+    → mark script (past_of new) i ≡ Some t → told.remains script (past_of new) i ≡ Some file → file ≡ (private_in new t).file
+file_known script new i t file latest is some = file_there (slice_get (machine_in new).blocks t) file (sym latest ∙ sym (remains_at script (past_of new) i t is) ∙ some)
 
 -- a kernel thread is no mark
 no_mark : (script : Script) (past : List Event) (i t u : ℕ) → is_user script t ≡ false → mark script past i ≡ Some u → u ≡ t → ⊥
@@ -174,9 +165,9 @@ held_same old new p q file armed same held = rw same (record { file = rw file he
 
 -- ---- a turn comes back
 
-module _ {B : Type 0} (script : Script) (i t : ℕ) (old new : Board) (p : PrivateTask) (task : Task) (cpu : Cpu B) (before bank : banks.Bank) (block : BlockState)
+module _ {B : Type 0} (script : Script) (i t : ℕ) (old new : Board) (p : PrivateTask) (task : Task) (cpu : Cpu B) (before bank : banks.Bank)
     (left : HasLeft script t i (past_of old) (past_of new) before p task cpu bank)
-    (keep : KeepsSeen script t old new) (here : slice_get (machine_in new).blocks t ≡ Some block) (same_file : (private_in new t).file ≡ p.file) (same_class : (private_in new t).large ≡ p.large)
+    (old_is : old.script ≡ script) (new_is : new.script ≡ script) (leaves : LeavesBlocks script t old new) (same_file : (private_in new t).file ≡ p.file) (same_class : (private_in new t).large ≡ p.large)
     (latest : told.file_after script (past_of new) i t ≡ told.file_of (slice_get (machine_in new).blocks t))
     (was : IsTold script old i before)
     (held : (u : ℕ) → mark script (past_of old) i ≡ Some u → last script (past_of old) u ≡ Some i → Holds before (private_in old u)) where
@@ -185,7 +176,7 @@ module _ {B : Type 0} (script : Script) (i t : ℕ) (old new : Board) (p : Priva
     | inl user ↦
         let own = left.own user u is in
         let mine : mark script (past_of new) i ≡ Some t = is ∙ ap Some own.0 in
-        let f : file ≡ p.file = file_known script new i t block file latest here mine some ∙ same_file in
+        let f : file ≡ p.file = file_known script new i t file latest mine some ∙ same_file in
         rw f own.1.file
     | inr kernel ↦
         let alien = left.alien kernel u is in
@@ -202,8 +193,7 @@ module _ {B : Type 0} (script : Script) (i t : ℕ) (old new : Board) (p : Priva
     | inr kernel ↦
         let alien = left.alien kernel u is in
         let ne = no_mark script (past_of new) i t u kernel is in
-        let there = sym (left.follows.last_is u ne) ∙ last in
-        held_same before bank (private_in old u) (private_in new u) alien.1 alien.2 (private_same old new u (keep u ne (had_turn script (past_of old) i u there))) (held u alien.0 there)
+        held_same before bank (private_in old u) (private_in new u) alien.1 alien.2 (private_kept script t old new old_is new_is leaves i u ne last) (held u alien.0 ((leaves u ne).held i last).0)
   ]
 
   file_told : (m : Option ℕ) → mark script (past_of new) i ≡ m → (file : File) → told.remains script (past_of new) i ≡ Some file → AreSameButPkru file bank.file
@@ -229,12 +219,12 @@ given_file file old new is same = elim (cases_Bool (pkru_of old.file == start_pk
 given_armed : (old new : banks.Bank) → new ≡ given_pkru old start_pkru → new.armed ≡ old.armed
 given_armed old new is = elim (cases_Bool (pkru_of old.file == start_pkru)) [ inl has ↦ rw (is, has) refl | inr other ↦ rw (is, other) refl ]
 
-module _ {B : Type 0} (script : Script) (i : ℕ) (old new : Board) (turn begun_turn : Turn) (cpu new_cpu : Cpu B) (before bank : banks.Bank) (block : BlockState)
+module _ {B : Type 0} (script : Script) (i : ℕ) (old new : Board) (turn begun_turn : Turn) (cpu new_cpu : Cpu B) (before bank : banks.Bank)
     (at : IsAt script old i None cpu before)
     (past : past_of new ≡ events.Start turn.task.name i turn.how turn.signal ∷ past_of old)
     (user : is_user_how turn.how ≡ is_user script turn.task.name) (may : MayBegin cpu.layout turn before (private_in old turn.task.name))
     (begun : Begun turn begun_turn cpu new_cpu before bank)
-    (keep : KeepsOthers turn.task.name old new) (here : slice_get (machine_in new).blocks turn.task.name ≡ Some block) (script_is : new.script ≡ script) (private : private_in new turn.task.name ≡ boards.begun turn.signal (private_in old turn.task.name)) where
+    (old_is : old.script ≡ script) (script_is : new.script ≡ script) (leaves : LeavesBlocks script turn.task.name old new) (private : private_in new turn.task.name ≡ boards.begun turn.signal (private_in old turn.task.name)) where
   t : ℕ
   t = turn.task.name
 
@@ -245,7 +235,7 @@ module _ {B : Type 0} (script : Script) (i : ℕ) (old new : Board) (turn begun_
   start_home = rw (eq-eqb turn.task.name turn.task.name refl) refl
 
   pub start_continues : Continues script turn.task.name i (past_of old) (past_of new)
-  start_continues = rw past (one_event script (past_of old) (events.Start turn.task.name i turn.how turn.signal) turn.task.name i refl refl refl start_home)
+  start_continues = rw past (one_event script (past_of old) (events.Start turn.task.name i turn.how turn.signal) turn.task.name i refl refl (λ d home. let e : Some i ≡ Some d = sym start_home ∙ home in cc))
 
   mark_new : mark script (past_of new) i ≡ mark_after (is_user script turn.task.name) turn.task.name (Starts i) (mark script (past_of old) i)
   mark_new = rw past (mark_here script (past_of old) (events.Start turn.task.name i turn.how turn.signal) turn.task.name i refl refl)
@@ -270,7 +260,7 @@ module _ {B : Type 0} (script : Script) (i : ℕ) (old new : Board) (turn begun_
 
   file_begun : (u : ℕ) (file : File) → mark script (past_of new) i ≡ Some u → told.remains script (past_of new) i ≡ Some file → AreSameButPkru file bank.file
   file_begun u file is some = elim (cases_Bool (is_user script turn.task.name)) [
-    | inl known ↦ rw (file_known script new i turn.task.name block file latest here (own_mark known) some) (held_new known).file
+    | inl known ↦ rw (file_known script new i turn.task.name file latest (own_mark known) some) (held_new known).file
     | inr kernel ↦
         let ne = no_mark script (past_of new) i turn.task.name u kernel is in
         let was = sym (old_mark kernel) ∙ is in
@@ -288,8 +278,8 @@ module _ {B : Type 0} (script : Script) (i : ℕ) (old new : Board) (turn begun_
     | inr kernel ↦
         let ne = no_mark script (past_of new) i turn.task.name u kernel is in
         let same = begun.kernel (user ∙ kernel) in
-        let held = at.processor.holds u (sym (old_mark kernel) ∙ is) (sym (start_continues.last_is u ne) ∙ last) in
-        rw (private_same old new u (ap but_signals (keep u ne))) (record { file = given_file (private_in old u).file before bank same held.file; armed = given_armed before bank same ∙ held.armed })
+        let held = at.processor.holds u (sym (old_mark kernel) ∙ is) ((leaves u ne).held i last).0 in
+        rw (private_kept script turn.task.name old new old_is script_is leaves i u ne last) (record { file = given_file (private_in old u).file before bank same held.file; armed = given_armed before bank same ∙ held.armed })
   ]
 
   begun_mark : (b : Bool) → is_user script turn.task.name ≡ b → new_cpu.mark ≡ mark script (past_of new) i
@@ -319,7 +309,7 @@ module _ {B : Type 0} (script : Script) (i : ℕ) (old new : Board) (turn begun_
       stage = ap (stage_in new) begun.name ∙ stage;
       busy = busy ∙ ap Some (sym begun.name);
       here = ap (cpu_of (notes_of script (past_of new))) begun.name ∙ start_continues.here;
-      home = ap (last script (past_of new)) begun.name ∙ start_continues.home;
+      home = ap (last script (past_of new)) begun.name ∙ ap (λ (told_events : List Event). last script told_events turn.task.name) past ∙ start_home;
       latest = ap (told.file_after script (past_of new) i) begun.name ∙ latest ∙ ap (λ u. told.file_of (slice_get (machine_in new).blocks u)) (sym begun.name);
       fresh = ap (in_section script (past_of new)) begun.name ∙ ap (λ ps. in_section script ps turn.task.name) past ∙ section_here script (past_of old) (events.Start turn.task.name i turn.how turn.signal) turn.task.name i refl refl;
       on = on_begun;
@@ -336,11 +326,9 @@ continues_same script t i past here home = record {
   mark_is = λ d apart. refl;
   files = λ d u apart. refl;
   others = λ d u apart. refl;
-  last_is = λ u apart. refl;
-  cpu = λ u apart. refl;
   section = λ u apart. refl;
   here = here;
-  home = home;
+  home = λ d is. let e : Some i ≡ Some d = sym home ∙ is in cc;
 }
 
 pub start_running : {B : Type 0} (script : Script) (board : Board) (i : ℕ) (turn : Turn) (cpu : Cpu B) (bank : banks.Bank) → IsRun script board → NeverIdle → IsAt script board i (Some turn) cpu bank

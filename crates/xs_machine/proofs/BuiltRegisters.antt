@@ -9,9 +9,8 @@ use Rattle.std.specs.List.{list_all, list_any}
 use Rattle.xs_base.specs.declared.component.Row.{Row}
 use Rattle.xs_base.specs.declared.component.Place.{Place}
 use Rattle.xs_base.specs.Bytes.{splice, zeros}
-use Rattle.xs_base.specs.File.{File, IsFile, is_mxcsr, part, with_part, with_pkru, read_place, write_place}
+use Rattle.xs_base.specs.File.{File, IsFile, is_mxcsr, part, with_part, with_pkru, write_place}
 use Rattle.xs_base.proofs.ComponentLemmas.{length_zeros, zero_at, pkru_size}
-use Rattle.xs_base.proofs.FileLemmas.{part_here}
 use Rattle.xs_base.specs.Register.{IsNamed, IsRegister, place_at, place_of}
 use Rattle.xs_base.specs.Sets.{has}
 use Rattle.xs_base.proofs.Registers.{each_register, named_place}
@@ -88,12 +87,6 @@ pub pkru_written : (file : File) (reg bytes : List ℕ) → IsFile file → IsBu
 pkru_written file reg bytes good built nine len small =
     rw (pkru_place reg built nine) (ap (λ (bs : List ℕ). with_part file 9 bs)
     (pkru_spliced bytes (part file 9) len small (good.sizes 9 (omega arith) ∙ pkru_size) (λ k. good.clean 9 (4 + k) (le-ltb (4 + k) 4 (omega arith)))))
-
--- what is read as PKRU is the register's bytes
-pub pkru_lane : (file : File) (reg : List ℕ) (value : ℕ) → IsFile file → IsBuiltName reg → is_pkru (place_of reg) ≡ true → with_pkru file value ≡ file → to_le_bytes w32 value ≡ read_place file (place_of reg)
-pkru_lane file reg value good built nine own =
-    let here : part file 9 ≡ to_le_bytes w32 value ++ zeros 4 = ap (λ (f : File). part f 9) (sym own) ∙ part_here file 9 (to_le_bytes w32 value ++ zeros 4) (omega (arith, good.count)) in
-    rw (pkru_place reg built nine, here) refl
 
 -- ---- values
 

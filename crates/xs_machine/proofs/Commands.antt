@@ -11,7 +11,7 @@ use Rattle.xs_base.specs.declared.component.Place.{Place}
 use Rattle.xs_base.specs.Bytes.{splice}
 use Rattle.xs_base.specs.File.{File, IsFile, is_mxcsr, part, with_part, write_place}
 use Rattle.xs_base.specs.Register.{IsRegister, place_of}
-use Rattle.xs_base.specs.Task.{PrivateTask, IsPrivateTask}
+use Rattle.xs_base.specs.Task.{PrivateTask, IsPrivateTask, frame_length, buffer_length}
 use Rattle.xs_base.specs.Trail.{read_numbers, write_numbers}
 use Rattle.xs_base.proofs.FileLemmas.{part_here, part_other, with_control, write_is_file}
 use Rattle.xs_base.proofs.ByteRangeLemmas.{AreBytes, splice_are}
@@ -203,7 +203,7 @@ module _ (rows : List Row) (task : Task) (old new : banks.Bank) (reg bytes : Lis
     | inr other ↦ rw (after, other) (record { file = holds.file; armed = holds.armed })
   ]
 
--- ---- the memory of the frame
+-- ---- the two memories
 
 -- Bytes from a place on lie within so many.
 pub fits_within : (size at len : ℕ) → fits_memory size at len ≡ true → (at + len ≤ size) × (len ≤ 64)
@@ -212,33 +212,29 @@ fits_within size at len fits =
     let low = and_parts (nat_le 1 len) (nat_le len 64) high.0 in
     (leb-true (at + len) size high.1, leb-true len 64 low.1)
 
--- The memory of the frame of the task in the bank has other bytes.
-module _ (rows : List Row) (task new_task : Task) (bank : banks.Bank) (at : ℕ) (bytes : List ℕ) (known : IsCommand rows (commands.Poke at bytes))
-    (others : new_task ≡ record task { frame = new_task.frame }) (written : new_task.frame.items ≡ splice at bytes task.frame.items) (len : length new_task.frame.items ≡ length task.frame.items)
+-- The memories of the task in the bank have other bytes.
+module _ (rows : List Row) (task new_task : Task) (bank : banks.Bank) (frame buffer : List ℕ)
+    (others : new_task ≡ record task { frame = new_task.frame; buffer = new_task.buffer }) (frame_is : new_task.frame.items ≡ frame) (buffer_is : new_task.buffer.items ≡ buffer)
+    (frame_size : length new_task.frame.items ≡ frame_length) (buffer_size : length new_task.buffer.items ≡ buffer_length) (frame_bytes : AreBytes frame) (buffer_bytes : AreBytes buffer)
     (p : PrivateTask) (on : IsUserOn rows task bank (next_line p)) where
-  frame_was : p.frame ≡ task.frame.items
-  frame_was = ap (λ (q : PrivateTask). q.frame) on.running.form
-
   lease_is : new_task.lease ≡ task.lease
   lease_is = ap (λ (x : Task). x.lease) others
 
   flag_is : new_task.need_load ≡ task.need_load
   flag_is = ap (λ (x : Task). x.need_load) others
 
-  buffer_is : new_task.buffer.items ≡ task.buffer.items
-  buffer_is = ap (λ (x : Task). x.buffer.items) others
-
-  poked_form : local_after p (commands.Poke at bytes) ≡ private_of new_task p.file p.marks
-  poked_form =
-      ap (λ (q : PrivateTask). record q { frame = splice at bytes p.frame }) on.running.form
-      ∙ ap (λ (f : List ℕ). record (private_of task p.file p.marks) { frame = f }) (ap (splice at bytes) frame_was ∙ sym written)
+  memories_form : record (next_line p) { frame = frame; buffer = buffer } ≡ private_of new_task p.file p.marks
+  memories_form =
+      ap (λ (q : PrivateTask). record q { frame = frame; buffer = buffer }) on.running.form
+      ∙ ap (λ (f : List ℕ). record (private_of task p.file p.marks) { frame = f; buffer = buffer }) (sym frame_is)
+      ∙ ap (λ (b : List ℕ). record (private_of task p.file p.marks) { frame = new_task.frame.items; buffer = b }) (sym buffer_is)
       ∙ sym (ap (λ (x : Task). private_of x p.file p.marks) others)
 
-  pub poke_on : IsUserOn rows new_task bank (local_after p (commands.Poke at bytes))
-  poke_on = record {
+  memories_on : IsUserOn rows new_task bank (record (next_line p) { frame = frame; buffer = buffer })
+  memories_on = record {
     whole = record {
-      frame = len ∙ on.whole.frame;
-      buffer = ap length buffer_is ∙ on.whole.buffer;
+      frame = frame_size;
+      buffer = buffer_size;
       some = λ none. on.whole.some (sym lease_is ∙ none);
       area = λ lease is. on.whole.area lease (sym lease_is ∙ is);
     };
@@ -247,14 +243,38 @@ module _ (rows : List Row) (task new_task : Task) (bank : banks.Bank) (at : ℕ)
       valid = record {
         file = on.running.valid.file;
         tiles_are = on.running.valid.tiles_are;
-        frame_size = ap length (ap (splice at bytes) frame_was ∙ sym written) ∙ len ∙ on.whole.frame;
-        frame_bytes = splice_are at bytes p.frame (byte_at bytes known.1) on.running.valid.frame_bytes;
-        buffer_size = on.running.valid.buffer_size;
-        buffer_bytes = on.running.valid.buffer_bytes;
+        frame_size = sym (ap length frame_is) ∙ frame_size;
+        frame_bytes = frame_bytes;
+        buffer_size = sym (ap length buffer_is) ∙ buffer_size;
+        buffer_bytes = buffer_bytes;
       };
-      form = poked_form;
+      form = memories_form;
       pkru = on.running.pkru;
       saved = λ off lease is. on.running.saved (sym flag_is ∙ off) lease (sym lease_is ∙ is);
       whole = λ off. on.running.whole (sym flag_is ∙ off);
     };
   }
+
+-- Bytes of the frame are written, or bytes of the buffer.
+module _ (rows : List Row) (task new_task : Task) (bank : banks.Bank) (at : ℕ) (bytes : List ℕ) (p : PrivateTask) (on : IsUserOn rows task bank (next_line p)) where
+  frame_was : task.frame.items ≡ p.frame
+  frame_was = sym (ap (λ (q : PrivateTask). q.frame) on.running.form)
+
+  buffer_was : task.buffer.items ≡ p.buffer
+  buffer_was = sym (ap (λ (q : PrivateTask). q.buffer) on.running.form)
+
+  pub poke_on : IsCommand rows (commands.Poke at bytes) → new_task ≡ record task { frame = new_task.frame } → new_task.frame.items ≡ splice at bytes task.frame.items → length new_task.frame.items ≡ length task.frame.items
+      → IsUserOn rows new_task bank (local_after p (commands.Poke at bytes))
+  poke_on known others written len =
+      let kept = ap (λ (x : Task). x.buffer) others in
+      memories_on rows task new_task bank (splice at bytes p.frame) p.buffer
+      (others ∙ ap (λ b. record task { frame = new_task.frame; buffer = b }) (sym kept)) (written ∙ ap (splice at bytes) frame_was) (ap (λ b. b.items) kept ∙ buffer_was)
+      (len ∙ on.whole.frame) (ap (λ b. length b.items) kept ∙ on.whole.buffer) (splice_are at bytes p.frame (byte_at bytes known.1) on.running.valid.frame_bytes) on.running.valid.buffer_bytes p on
+
+  pub bpoke_on : IsCommand rows (commands.Bpoke at bytes) → new_task ≡ record task { buffer = new_task.buffer } → new_task.buffer.items ≡ splice at bytes task.buffer.items → length new_task.buffer.items ≡ length task.buffer.items
+      → IsUserOn rows new_task bank (local_after p (commands.Bpoke at bytes))
+  bpoke_on known others written len =
+      let kept = ap (λ (x : Task). x.frame) others in
+      memories_on rows task new_task bank p.frame (splice at bytes p.buffer)
+      (others ∙ ap (λ f. record task { frame = f; buffer = new_task.buffer }) (sym kept)) (ap (λ f. f.items) kept ∙ frame_was) (written ∙ ap (splice at bytes) buffer_was)
+      (ap (λ f. length f.items) kept ∙ on.whole.frame) (len ∙ on.whole.buffer) on.running.valid.frame_bytes (splice_are at bytes p.buffer (byte_at bytes known.1) on.running.valid.buffer_bytes) p on

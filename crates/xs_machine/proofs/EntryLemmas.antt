@@ -1,41 +1,47 @@
 -- An entry of the schedule: what its turn leaves.
-use Rattle.std.proofs.Common.{◌≡◌, ℕ, Bool, true, false, List, [], ◌∷◌, ◌++◌, ◌<◌, length, reverse, Option, Some, None, slice_get, refl, sym, ap, ◌∙◌, inl, inr, subst}
+use Rattle.std.proofs.Common.{◌≡◌, ℕ, Bool, true, false, List, [], ◌∷◌, ◌++◌, ◌<◌, length, reverse, Option, Some, None, if◌then◌else◌, slice_get, refl, sym, ap, ◌∙◌, subst}
 use Rattle.std.proofs.lemmas.Bool.{ne_eqb}
 use Rattle.std.proofs.lemmas.List.{reverse-append}
 use Rattle.xs_base.specs.declared.component.Row.{Row}
 use Rattle.xs_base.specs.declared.words.How.TheVariants as hows
+use Rattle.xs_base.specs.declared.words.Set.{Set}
+use Rattle.xs_base.specs.Frame.{refused_file}
 use Rattle.xs_base.specs.Task.{PrivateTask, parked, root_task}
 use Rattle.xs_bank.specs.declared.cpu.Cpu.{Cpu}
 use Rattle.xs_bank.specs.Bank as banks
 use Rattle.xs_model.specs.declared.event.Event.{Event}
 use Rattle.xs_model.specs.declared.event.Event.TheVariants as events
+use Rattle.xs_model.specs.declared.event.Reply.{Reply}
+use Rattle.xs_model.specs.declared.script.Command.{Command}
+use Rattle.xs_model.specs.declared.script.Command.TheVariants as commands
 use Rattle.xs_model.specs.declared.script.Script.{Script}
 use Rattle.xs_model.specs.declared.stage.Stage.TheVariants as stages
 use Rattle.xs_model.specs.Counts as told
 use Rattle.xs_model.specs.History.{IsLegal}
-use Rattle.xs_model.specs.Laws.{HadNoTurn, ThreadsQuiet}
+use Rattle.xs_model.specs.Laws.{KeepsBlock, OthersKeep, ThreadsQuiet, TurnsKnown}
+use Rattle.xs_model.specs.Line.{next_line}
 use Rattle.xs_model.specs.Runs.{NeverIdle}
 use Rattle.xs_model.specs.Machine.{IsLegalPast, machine}
-use Rattle.xs_model.specs.Note.{last}
-use Rattle.xs_model.specs.Script.{IsValid, is_user}
-use Rattle.xs_model.specs.State.{BlockState, stage_at, stage_of, turn_cpu, is_on_cpu}
+use Rattle.xs_model.specs.Note.{is_count, last}
+use Rattle.xs_model.specs.Outer.{is_blocked, task_left, with_registers}
+use Rattle.xs_model.specs.Script.{IsValid, block_named, command_at, is_user}
+use Rattle.xs_model.specs.State.{BlockState, stage_at, task_of_state, turn_cpu, is_on_cpu}
 use Rattle.xs_task.specs.declared.task.Task.{Task}
 use Rattle.xs_board.specs.declared.turn.Close.{Close}
 use Rattle.xs_board.specs.declared.turn.Close.TheVariants as closes
 use Rattle.xs_board.specs.declared.turn.Entry.{Entry}
 use Rattle.xs_board.specs.declared.turn.Turn.{Turn}
-use Rattle.xs_board.specs.Board.{Board, past_of, machine_in, stage_in, private_in, private_with, private_after, private_closed, task_of_state, answer_in, but_signals, turn_on, KeepsOthers, KeepsOrBears, KeepsTurns}
+use Rattle.xs_board.specs.Board.{Board, past_of, machine_in, stage_in, private_in, private_with, private_after, private_closed, answer_in, blocks_with, turn_on, OthersKept, KeepsTurns}
 use Rattle.xs_board.specs.Board as boards
 use Rattle.xs_board.specs.Home.{IsHome}
 use Rattle.xs_board.specs.Taken.{is_user_how, IsTurnOf}
-use Rattle.xs_board.specs.Turn.{AreLines, task_after, task_closed, task_handed, turn_events, stage_closed}
+use Rattle.xs_board.specs.Turn.{AreLines, filled_by, line_closed, task_after, task_closed, task_handed, turn_events}
 use Rattle.xs_machine.specs.Line.{KeepsCpu}
 use Rattle.xs_machine.specs.Processors.{KeepsProcessor}
 use Rattle.xs_machine.specs.Running.{IsRun, IsAt, LeavesOthers, MayBegin, Begun}
 use Rattle.xs_machine.specs.Turn.{Continues, HasLeft, SomeRunning, past_after}
-use Rattle.xs_machine.proofs.BoardLemmas.{KeepsSeen, on_cpu, came_home, leaves_others, start_continues, begun_at, start_running}
+use Rattle.xs_machine.proofs.BoardLemmas.{LeavesBlocks, on_cpu, came_home, leaves_others, start_continues, begun_at, start_running}
 use Rattle.xs_machine.proofs.ScriptLemmas.{turn_known}
-use Rattle.xs_machine.proofs.Stages.{InTurn, in_turn}
 
 -- ---- the processor stays
 
@@ -81,38 +87,66 @@ known_home script board turn cpu bank run at count name is =
     let known = turn_known script (past_of board) turn.task.name turn.cpu 0 count stage in
     subst (λ (u : ℕ). u < length script.blocks) (sym is) known
 
--- a block whose stage isn't that of no block is there
-block_there : (o : Option BlockState) (close : Close) → stage_of o ≡ stage_closed close → (block : BlockState) × (o ≡ Some block)
-block_there None closes.Quantum is = absurd (cc)
-block_there None closes.Yield is = absurd (cc)
-block_there None (closes.Outer line) is = absurd (cc)
-block_there None (closes.Refused error) is = absurd (cc)
-block_there None closes.End is = absurd (cc)
-block_there (Some block) close is = (block, refl)
+-- what a close leaves of a private task's registers is what was handed over
+record KeepsRegisters (new old : PrivateTask) : Type 0 where
+  file : new.file ≡ old.file
+  large : new.large ≡ old.large
 
--- what a close leaves of a private task is what was handed over, its place aside
-closed_file : (close : Close) (p : PrivateTask) → (task_closed close p).file ≡ (task_handed close p).file
-closed_file closes.Quantum p = refl
-closed_file closes.Yield p = refl
-closed_file (closes.Outer line) p = refl
-closed_file (closes.Refused error) p = refl
-closed_file closes.End p = refl
+same_registers : (p : PrivateTask) → KeepsRegisters p p
+same_registers p = record { file = refl; large = refl }
 
-closed_class : (close : Close) (p : PrivateTask) → (task_closed close p).large ≡ (task_handed close p).large
-closed_class closes.Quantum p = refl
-closed_class closes.Yield p = refl
-closed_class (closes.Outer line) p = refl
-closed_class (closes.Refused error) p = refl
-closed_class closes.End p = refl
+-- also where it puts a register set into its buffer, and where it waits
+left_registers : (command : Command) (reply : Reply) (p : PrivateTask) → KeepsRegisters (task_left command reply p) p
+left_registers (commands.Wait name) reply p = by_blocked (is_blocked reply)
+  where
+    by_blocked : (b : Bool) → KeepsRegisters (if b then p else next_line p) p
+    by_blocked true = record { file = refl; large = refl }
+    by_blocked false = record { file = refl; large = refl }
+left_registers other reply p = record { file = refl; large = refl }
+
+with_same : (set : Set) (child : Option BlockState) (p : PrivateTask) → KeepsRegisters (with_registers set child p) p
+with_same set None p = same_registers p
+with_same set (Some child) p = record { file = refl; large = refl }
+
+filled_registers : (script : Script) (blocks : List BlockState) (command : Command) (reply : Reply) (p : PrivateTask) → KeepsRegisters (filled_by script blocks command reply p) p
+filled_registers script blocks (commands.Getregs name set) reply p = by_count (is_count reply)
+  where
+    by_count : (b : Bool) → KeepsRegisters (if b then with_registers set (slice_get blocks (block_named script name)) p else p) p
+    by_count true = with_same set (slice_get blocks (block_named script name)) p
+    by_count false = same_registers p
+filled_registers script blocks other reply p = same_registers p
+
+line_registers : (script : Script) (blocks : List BlockState) (command : Option Command) (reply : Reply) (p : PrivateTask) → KeepsRegisters (line_closed script blocks command reply p) p
+line_registers script blocks None reply p = same_registers p
+line_registers script blocks (Some command) reply p =
+    let filled = filled_registers script blocks command reply p in
+    let left = left_registers command reply (filled_by script blocks command reply p) in
+    record { file = left.file ∙ filled.file; large = left.large ∙ filled.large }
+
+closed_registers : (script : Script) (blocks : List BlockState) (t : ℕ) (close : Close) (reply : Reply) (p : PrivateTask) → KeepsRegisters (task_closed script blocks t close reply p) (task_handed close p)
+closed_registers script blocks t closes.Quantum reply p = same_registers p
+closed_registers script blocks t closes.Yield reply p = same_registers p
+closed_registers script blocks t (closes.Outer line) reply p = line_registers script blocks (command_at script t line) reply p
+closed_registers script blocks t (closes.Refused error) reply p = same_registers (record p { file = refused_file p })
+closed_registers script blocks t closes.End reply p = same_registers p
 
 -- a turn is on one processor
 two_cpus : (d i : ℕ) → stages.Turn d 0 ≡ stages.Turn i 0 → d ≡ i
 two_cpus d i same = cc
 
+-- a board that goes on is one of the same run
+run_more : (script : Script) (old new : Board) → IsRun script old → new.script ≡ old.script → IsLegal new.script new.history → IsRun script new
+run_more script old new run same legal = record {
+  valid = run.valid;
+  built = run.built;
+  script_is = same ∙ run.script_is;
+  legal = subst (λ (s : Script). IsLegal s new.history) (same ∙ run.script_is) legal;
+}
+
 module _ {B : Type 0} (script : Script) (old : Board) (turn : Turn) (task : Task) (cpu new_cpu : Cpu B) (bank new_bank : banks.Bank) (items : List Entry) (close : Close)
     (run : IsRun script old) (at : IsAt script old turn.cpu (Some turn) cpu bank)
     (lines : AreLines script turn.task.name (private_in old turn.task.name) 0 items close)
-    (left : HasLeft script turn.task.name turn.cpu (past_of old) (past_after turn.task.name items close (answer_in old turn.task.name close) (past_of old)) bank (task_handed close (task_after script turn.task.name (private_in old turn.task.name) items)) task new_cpu new_bank) where
+    (left : HasLeft script turn.task.name turn.cpu (past_of old) (past_after turn.task.name items close (answer_in old turn.task.name items close) (past_of old)) bank (task_handed close (task_after script turn.task.name (private_in old turn.task.name) items)) task new_cpu new_bank) where
   -- what the board asks of a turn that comes back
   pub stage_home : stage_in old task.name ≡ stages.Turn turn.cpu 0
   stage_home = ap (stage_in old) left.name ∙ at.turn.stage
@@ -130,54 +164,47 @@ module _ {B : Type 0} (script : Script) (old : Board) (turn : Turn) (task : Task
   pub last_home : is_user old.script task.name ≡ true → task.last ≡ Some turn.cpu
   last_home user = left.last_is (ap (is_user script) (sym left.name) ∙ ap (λ (s : Script). is_user s task.name) (sym run.script_is) ∙ user)
 
-  module _ (new : Board) (script_same : new.script ≡ old.script) (history : new.history ≡ old.history ++ turn_events task.name items close (answer_in old task.name close)) (legal : IsLegal new.script new.history)
-      (stage : stage_in new task.name ≡ stage_closed close) (private : private_in new task.name ≡ private_closed old task.name items close) (free : turn_on new turn.cpu ≡ None)
-      (others : KeepsOrBears task.name (private_with old task.name items) close old new) (turns : KeepsTurns turn.cpu old new) where
+  module _ (new : Board) (script_same : new.script ≡ old.script) (history : new.history ≡ old.history ++ turn_events task.name items close (answer_in old task.name items close)) (legal : IsLegal new.script new.history)
+      (private : private_in new task.name ≡ private_closed old task.name items close) (free : turn_on new turn.cpu ≡ None)
+      (others : OthersKept task.name old new) (turns : KeepsTurns turn.cpu old new) where
     -- what the board then is
     script_new : new.script ≡ script
     script_new = script_same ∙ run.script_is
 
-    past_new : past_of new ≡ past_after turn.task.name items close (answer_in old turn.task.name close) (past_of old)
+    past_new : past_of new ≡ past_after turn.task.name items close (answer_in old turn.task.name items close) (past_of old)
     past_new =
         ap (λ (told_events : List Event). reverse told_events) history
-        ∙ reverse-append old.history (turn_events task.name items close (answer_in old task.name close))
-        ∙ ap (λ (u : ℕ). reverse (turn_events u items close (answer_in old u close)) ++ past_of old) left.name
+        ∙ reverse-append old.history (turn_events task.name items close (answer_in old task.name items close))
+        ∙ ap (λ (u : ℕ). reverse (turn_events u items close (answer_in old u items close)) ++ past_of old) left.name
 
     left_new : HasLeft script turn.task.name turn.cpu (past_of old) (past_of new) bank (task_handed close (task_after script turn.task.name (private_in old turn.task.name) items)) task new_cpu new_bank
     left_new = subst (λ (past : List Event). HasLeft script turn.task.name turn.cpu (past_of old) past bank (task_handed close (task_after script turn.task.name (private_in old turn.task.name) items)) task new_cpu new_bank) (sym past_new) left
 
-    keep : KeepsSeen script turn.task.name old new
-    keep u ne seen = elim (others u (λ e. ne (e ∙ left.name))) [
-      | inl same ↦ same
-      | inr born ↦ absurd (seen (subst (λ (s : Script). HadNoTurn s (past_of old) u) run.script_is born.1.fresh))
-    ]
+    leaves : LeavesBlocks script turn.task.name old new
+    leaves u ne = subst (λ (s : Script). KeepsBlock s (past_of old) (past_of new) u) run.script_is (others u (λ e. ne (e ∙ left.name)))
 
-    -- the block's private task and its state
-    private_new : private_in new turn.task.name ≡ parked (task_closed close (task_after script turn.task.name (private_in old turn.task.name) items))
-    private_new =
-        ap (private_in new) (sym left.name) ∙ private
-        ∙ ap (λ (s : Script). parked (task_closed close (task_after s task.name (private_in old task.name) items))) run.script_is
-        ∙ ap (λ (u : ℕ). parked (task_closed close (task_after script u (private_in old u) items))) left.name
+    -- the registers of its private task
+    private_new : private_in new turn.task.name ≡ private_closed old turn.task.name items close
+    private_new = ap (private_in new) (sym left.name) ∙ private ∙ ap (λ (u : ℕ). private_closed old u items close) left.name
 
-    block_new : (block : BlockState) × (slice_get (machine_in new).blocks turn.task.name ≡ Some block)
-    block_new = block_there (slice_get (machine_in new).blocks turn.task.name) close (ap (stage_in new) (sym left.name) ∙ stage)
+    registers_new : KeepsRegisters (private_in new turn.task.name) (task_handed close (task_after script turn.task.name (private_in old turn.task.name) items))
+    registers_new =
+        let closed = closed_registers old.script (blocks_with old turn.task.name items) turn.task.name close (answer_in old turn.task.name items close) (private_with old turn.task.name items) in
+        let handed = ap (λ (s : Script). task_handed close (task_after s turn.task.name (private_in old turn.task.name) items)) run.script_is in
+        record {
+          file = ap (λ (p : PrivateTask). p.file) private_new ∙ closed.file ∙ ap (λ (p : PrivateTask). p.file) handed;
+          large = ap (λ (p : PrivateTask). p.large) private_new ∙ closed.large ∙ ap (λ (p : PrivateTask). p.large) handed;
+        }
 
     -- it is still one of a run
     pub run_home : IsRun script new
-    run_home = record {
-      valid = run.valid;
-      built = run.built;
-      script_is = script_new;
-      legal = subst (λ (s : Script). IsLegal s new.history) script_new legal;
-    }
+    run_home = run_more script old new run script_same legal
 
     -- the processor without its turn
     pub at_home : IsAt script new turn.cpu None new_cpu new_bank
     at_home =
-        came_home script turn.cpu turn.task.name old new (task_handed close (task_after script turn.task.name (private_in old turn.task.name) items)) task new_cpu bank new_bank block_new.0
-        left_new keep block_new.1
-        (ap (λ (p : PrivateTask). p.file) private_new ∙ closed_file close (task_after script turn.task.name (private_in old turn.task.name) items))
-        (ap (λ (p : PrivateTask). p.large) private_new ∙ closed_class close (task_after script turn.task.name (private_in old turn.task.name) items))
+        came_home script turn.cpu turn.task.name old new (task_handed close (task_after script turn.task.name (private_in old turn.task.name) items)) task new_cpu bank new_bank
+        left_new run.script_is script_new leaves registers_new.file registers_new.large
         (left_new.latest ∙ ap (λ (s : Script). told.file_of (slice_get (machine s (past_of new)).blocks turn.task.name)) (sym script_new))
         at.told_is at.processor.holds free
 
@@ -185,8 +212,8 @@ module _ {B : Type 0} (script : Script) (old : Board) (turn : Turn) (task : Task
     apart : (d u : ℕ) → (d ≡ turn.cpu → ⊥) → stage_in old u ≡ stages.Turn d 0 → turn_on old d ≡ Some u → u ≡ turn.task.name → ⊥
     apart d u other there busy same = other (two_cpus d turn.cpu (sym there ∙ ap (stage_in old) same ∙ at.turn.stage))
 
-    pub others_home : (C : Type 0) → LeavesOthers C script turn.cpu old new
-    others_home C = leaves_others script turn.cpu turn.task.name old new left_new.follows keep turns apart C
+    pub others_home : TurnsKnown → (C : Type 0) → LeavesOthers C script turn.cpu old new
+    others_home known C = leaves_others script turn.cpu turn.task.name old new known run run_home left_new.follows leaves turns apart C
 
 -- ---- a turn begins
 
@@ -226,27 +253,29 @@ module _ {B : Type 0} (script : Script) (old : Board) (i : ℕ) (turn : Turn) (c
   }
 
   module _ (new : Board) (begun_turn : Turn) (new_cpu : Cpu B) (new_bank : banks.Bank) (begun : Begun turn begun_turn cpu new_cpu bank new_bank)
-      (script_same : new.script ≡ old.script) (history : new.history ≡ old.history ++ events.Start turn.task.name i turn.how turn.signal ∷ [])
+      (keeps : OthersKeep) (script_same : new.script ≡ old.script) (history : new.history ≡ old.history ++ events.Start turn.task.name i turn.how turn.signal ∷ []) (legal : IsLegal new.script new.history)
       (stage : stage_in new turn.task.name ≡ stages.Turn i 0) (private : private_in new turn.task.name ≡ boards.begun turn.signal (private_in old turn.task.name)) (busy : turn_on new i ≡ Some turn.task.name)
-      (others : KeepsOthers turn.task.name old new) (turns : KeepsTurns i old new) where
+      (turns : KeepsTurns i old new) where
     -- the Start joins the past
     past_begun : past_of new ≡ events.Start turn.task.name i turn.how turn.signal ∷ past_of old
     past_begun = ap (λ (told_events : List Event). reverse told_events) history ∙ reverse-append old.history (events.Start turn.task.name i turn.how turn.signal ∷ [])
 
-    here : InTurn (machine_in new).blocks turn.task.name i 0
-    here = in_turn (machine_in new).blocks turn.task.name i 0 stage
+    run_begun : IsRun script new
+    run_begun = run_more script old new run script_same legal
+
+    leaves_begun : LeavesBlocks script turn.task.name old new
+    leaves_begun u ne =
+        let legal_start : IsLegalPast script (events.Start turn.task.name i turn.how turn.signal ∷ past_of old) = subst (IsLegalPast script) past_begun run_begun.legal in
+        subst (λ (past : List Event). KeepsBlock script (past_of old) past u) (sym past_begun) (keeps script (past_of old) (events.Start turn.task.name i turn.how turn.signal) u run.valid legal_start (λ e. ne (sym e)))
 
     -- the processor with its turn
     pub at_begun : IsAt script new i (Some begun_turn) new_cpu new_bank
     at_begun =
-        begun_at script i old new turn begun_turn cpu new_cpu bank new_bank here.block at past_begun user_how may_begin begun others here.is
-        (script_same ∙ run.script_is) private stage busy is.cpu_is
+        begun_at script i old new turn begun_turn cpu new_cpu bank new_bank at past_begun user_how may_begin begun run.script_is run_begun.script_is leaves_begun private stage busy is.cpu_is
 
     -- nothing is told of others by the Start
     continues : Continues script turn.task.name i (past_of old) (past_of new)
-    continues =
-        start_continues script i old new turn begun_turn cpu new_cpu bank new_bank here.block at past_begun user_how may_begin begun others here.is
-        (script_same ∙ run.script_is) private
+    continues = start_continues script i old new turn begun_turn cpu new_cpu bank new_bank at past_begun user_how may_begin begun run.script_is run_begun.script_is leaves_begun private
 
     -- no other processor's turn is of this block, which was ready
     apart_begun : (d u : ℕ) → (d ≡ i → ⊥) → stage_in old u ≡ stages.Turn d 0 → turn_on old d ≡ Some u → u ≡ turn.task.name → ⊥
@@ -254,5 +283,5 @@ module _ {B : Type 0} (script : Script) (old : Board) (i : ℕ) (turn : Turn) (c
         let on = on_cpu d turn.task.name new (turns d other ∙ was ∙ ap Some same) in
         not_there d i other (ap (λ s. is_on_cpu d (turn_cpu s)) (sym stage) ∙ on)
 
-    pub others_begun : (C : Type 0) → LeavesOthers C script i old new
-    others_begun C = leaves_others script i turn.task.name old new continues (λ u ne seen. ap but_signals (others u ne)) turns apart_begun C
+    pub others_begun : TurnsKnown → (C : Type 0) → LeavesOthers C script i old new
+    others_begun known C = leaves_others script i turn.task.name old new known run run_begun continues leaves_begun turns apart_begun C

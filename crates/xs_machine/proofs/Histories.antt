@@ -1,12 +1,13 @@
--- What an event of a block on a processor tells of other blocks and of other processors: nothing.
-use Rattle.std.proofs.Common.{◌≡◌, ℕ, Bool, true, false, ◌&&◌, ◌==◌, List, [], ◌∷◌, slice_get, Option, Some, refl, sym, ◌∙◌}
+-- What an event of a block on a processor tells of other processors, and of other blocks but for their last processors: nothing.
+use Rattle.std.proofs.Common.{◌≡◌, ℕ, Bool, true, false, ◌&&◌, ◌==◌, List, [], ◌∷◌, slice_get, Option, Some, None, if◌then◌else◌, refl, sym, ◌∙◌}
 use Rattle.std.proofs.lemmas.Bool.{ne_eqb, eq-eqb}
 use Rattle.xs_model.specs.declared.event.Event.{Event}
 use Rattle.xs_model.specs.declared.script.Script.{Script}
 use Rattle.xs_model.specs.Counts as told
 use Rattle.xs_model.specs.Counts.{in_section, is_event_on, is_section_act, counted_by}
+use Rattle.xs_model.specs.Held.{is_start}
 use Rattle.xs_model.specs.Machine.{machine}
-use Rattle.xs_model.specs.Note.{Act, Starts, Section, Grows, Sets, Plain, task_of, act_of, notes_of, is_at, start_cpu, cpu_of, mark, mark_after, last, last_after}
+use Rattle.xs_model.specs.Note.{Act, Starts, Section, Grows, Sets, Plain, task_of, act_of, set_act, notes_of, is_at, start_cpu, cpu_of, mark, mark_after, last, last_after}
 use Rattle.xs_model.specs.Script.{is_user}
 use Rattle.xs_machine.specs.Turn.{Continues}
 
@@ -22,20 +23,39 @@ at_self c = eq-eqb c c refl
 pub at_other : (c d : ℕ) → (d ≡ c → ⊥) → is_at (Some c) d ≡ false
 at_other c d apart = ne_eqb c d (λ e. apart (sym e))
 
--- The act neither moves a task to another area nor sets registers from outside.
-abbrev pub is_quiet : Act → Bool
-is_quiet (Starts c) = true
-is_quiet Section = true
-is_quiet Grows = false
-is_quiet (Sets u) = false
-is_quiet Plain = true
+-- ---- acts within a turn
 
-quiet_last : (act : Act) (t u : ℕ) (older : Option ℕ) → is_quiet act ≡ true → (u ≡ t → ⊥) → last_after t act u older ≡ older
-quiet_last (Starts c) t u older quiet apart = rw (ne_eqb t u (λ e. apart (sym e))) refl
-quiet_last Section t u older quiet apart = refl
-quiet_last Grows t u older quiet apart = absurd (cc)
-quiet_last (Sets v) t u older quiet apart = absurd (cc)
-quiet_last Plain t u older quiet apart = refl
+-- After an act that starts no turn, a last processor is the one that it was.
+drops : (gone : Bool) (older : Option ℕ) (d : ℕ) → (if gone then None else older) ≡ Some d → older ≡ Some d
+drops true older d is = absurd (cc)
+drops false older d is = is
+
+pub last_within : (act : Act) (task t d : ℕ) (older : Option ℕ) → is_start act ≡ false → last_after task act t older ≡ Some d → older ≡ Some d
+last_within (Starts c) task t d older within is = absurd (cc)
+last_within Section task t d older within is = is
+last_within Grows task t d older within is = drops (task == t) older d is
+last_within (Sets u) task t d older within is = drops (u == t) older d is
+last_within Plain task t d older within is = is
+
+-- An act that closes a turn: last processors aside, it is as plain as the others.
+pub record IsClosing (act : Act) : Type 0 where
+  pub within : is_start act ≡ false
+  pub cpu : (older : Option ℕ) → start_cpu act older ≡ older
+  pub section : is_section_act act ≡ false
+  pub mark_is : (user : Bool) (t : ℕ) (older : Option ℕ) → mark_after user t act older ≡ mark_after user t Plain older
+
+pub plain_closes : IsClosing Plain
+plain_closes = record { within = refl; cpu = λ older. refl; section = refl; mark_is = λ user t older. refl }
+
+sets_mark : (u : ℕ) (user : Bool) (t : ℕ) (older : Option ℕ) → mark_after user t (Sets u) older ≡ mark_after user t Plain older
+sets_mark u true t older = refl
+sets_mark u false t older = refl
+
+-- That of an outer line is one, whatever it is and answers.
+pub outer_closes : (target : Option ℕ) (accepted : Bool) → IsClosing (set_act target accepted)
+outer_closes None accepted = plain_closes
+outer_closes (Some u) true = record { within = refl; cpu = λ older. refl; section = refl; mark_is = sets_mark u }
+outer_closes (Some u) false = plain_closes
 
 -- ---- an event of block t that is on processor c
 
@@ -68,14 +88,12 @@ module _ (script : Script) (past : List Event) (event : Event) (t c : ℕ) (is :
   pub file_here : told.file_after script (event ∷ past) c t ≡ told.file_of (slice_get (machine script (event ∷ past)).blocks t)
   file_here = rw (own, on) refl
 
-  pub one_event : is_quiet (act_of script event) ≡ true → last script (event ∷ past) t ≡ Some c → Continues script t c past (event ∷ past)
-  one_event quiet home = record {
+  pub one_event : ((d : ℕ) → last script (event ∷ past) t ≡ Some d → d ≡ c) → Continues script t c past (event ∷ past)
+  one_event home = record {
     counts = λ d apart. rw (off d apart) refl;
     mark_is = λ d apart. rw (off d apart) refl;
     files = λ d u apart. rw (off d apart, and_no (task_of event == u)) refl;
     others = λ d u apart. rw (other u apart) refl;
-    last_is = λ u apart. quiet_last (act_of script event) (task_of event) u (last script past u) quiet (λ e. apart (e ∙ is));
-    cpu = λ u apart. rw (other u apart) refl;
     section = λ u apart. rw (other u apart) refl;
     here = rw own at;
     home = home;
@@ -88,8 +106,6 @@ then_on script t c old past new a b = record {
   mark_is = λ d apart. b.mark_is d apart ∙ a.mark_is d apart;
   files = λ d u apart. b.files d u apart ∙ a.files d u apart;
   others = λ d u apart. b.others d u apart ∙ a.others d u apart;
-  last_is = λ u apart. b.last_is u apart ∙ a.last_is u apart;
-  cpu = λ u apart. b.cpu u apart ∙ a.cpu u apart;
   section = λ u apart. b.section u apart ∙ a.section u apart;
   here = b.here;
   home = b.home;

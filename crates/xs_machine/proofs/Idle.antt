@@ -38,13 +38,6 @@ entries_from script past [] n c within here = absurd (omega arith)
 entries_from script past (d ∷ cs) zero c within here = rw here refl
 entries_from script past (d ∷ cs) (suc n) c within here = entries_from script past cs n c (omega arith) here
 
--- behind the last entry none is left
-pub entries_over : (script : Script) (past : List Event) (cs : List ℕ) (n : ℕ) → n ≡ length cs → entries script past (drop n cs) ≡ past
-entries_over script past [] zero over = refl
-entries_over script past [] (suc n) over = absurd (omega arith)
-entries_over script past (d ∷ cs) zero over = absurd (omega arith)
-entries_over script past (d ∷ cs) (suc n) over = entries_over script past cs n (omega arith)
-
 -- an entry leaves processors without one
 pub schedule_kept : (script : Script) (n c : ℕ) (old new : Board) → n < length (schedule_of script.cpus script.sched) → c ≡ processor_at script n → KeepsTurns c old new → KeepsToSchedule script old → KeepsToSchedule script new
 schedule_kept script n c old new within here turns keeps d without =

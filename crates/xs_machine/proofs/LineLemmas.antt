@@ -17,9 +17,9 @@ use Rattle.xs_model.specs.declared.script.Command.{Command}
 use Rattle.xs_model.specs.declared.script.Order.{Order}
 use Rattle.xs_model.specs.declared.script.Script.{Script}
 use Rattle.xs_model.specs.Due.{violation}
-use Rattle.xs_model.specs.Line.{frame_cause, local_after}
+use Rattle.xs_model.specs.Line.{frame_cause, local_after, traps}
 use Rattle.xs_model.specs.Machine.{goes_on, machine}
-use Rattle.xs_model.specs.Script.{IsBuiltCommand, command_at, is_outer, is_user, is_yield}
+use Rattle.xs_model.specs.Script.{command_at, is_outer, is_user, is_yield}
 use Rattle.xs_task.specs.declared.task.Task.{Task}
 use Rattle.xs_board.specs.declared.turn.Close.{Close}
 use Rattle.xs_board.specs.declared.turn.Close.TheVariants.{Quantum, Yield, Outer, Refused, End}
@@ -27,8 +27,7 @@ use Rattle.xs_board.specs.declared.turn.Entry.{Entry}
 use Rattle.xs_board.specs.Turn.{AreLines, HaveRun, IsEntry, closed_by, entry_event, line_of, past_with, task_after, task_handed}
 use Rattle.xs_machine.specs.Line.{CameBack, IsOn, RanLine, StandsAt, WasRefused}
 use Rattle.xs_machine.specs.Turn.{AfterLine, AreOver, AreRunning, IsTurning, past_after}
-use Rattle.xs_machine.proofs.ScriptLemmas.{built_free, turn_known}
-use Rattle.xs_machine.proofs.Stages.{IsSent}
+use Rattle.xs_machine.proofs.ScriptLemmas.{turn_known}
 use Rattle.xs_machine.proofs.TurnLemmas.{line_turned, end_turned, outer_turned, refused_turned}
 
 -- ---- pasts
@@ -117,10 +116,10 @@ module _ {B : Type 0} (script : Script) (t c : ℕ) (first : List Event) (before
   }
 
   -- an outer line is left to the board
-  pub outer_over : (line : ℕ) (command : Command) → command_at script t line ≡ Some command → IsSent command → AreLines script t start 0 entries (Outer line) → AreOver script t c first before start entries (Outer line) task1 cpu1 bank1
-  outer_over line command found sent lines = record {
+  pub outer_over : (line : ℕ) → AreLines script t start 0 entries (Outer line) → AreOver script t c first before start entries (Outer line) task1 cpu1 bank1
+  outer_over line lines = record {
     lines = lines;
-    turning = λ reply. rw (past_outer t line entries reply first, are.run.task_is) (outer_turned script t c first (past_with t entries first) before (length entries) p task cpu bank are.turning task1 cpu1 bank1 back line reply command found sent);
+    turning = λ reply. rw (past_outer t line entries reply first, are.run.task_is) (outer_turned script t c first (past_with t entries first) before (length entries) p task cpu bank are.turning task1 cpu1 bank1 back line reply);
   }
 
   -- a return was refused
@@ -203,12 +202,12 @@ module _ {B : Type 0} (script : Script) (t c : ℕ) (first : List Event) (before
     pub line_here : (order : Order) → ((q : PrivateTask) → StandsAt user task1 q → line_of script task1.name q ≡ Some order) → line_of script t p ≡ Some order
     line_here order at = rw name_here at (at p stands_here)
 
-    pub entry_here : (order : Order) (reply : Reply) (task2 : Task) (cpu2 : Cpu B) (bank2 : banks.Bank) → line_of script t p ≡ Some order → IsBuiltCommand order.command → is_outer order.command ≡ false
+    pub entry_here : (order : Order) (reply : Reply) (task2 : Task) (cpu2 : Cpu B) (bank2 : banks.Bank) → line_of script t p ≡ Some order → traps p order.command ≡ false → is_outer order.command ≡ false
         → RanLine user order.command reply task1 task2 cpu1 cpu2 bank1 bank2 → IsEntry script t p (record { line = order.number; reply = reply }) order
-    entry_here order reply task2 cpu2 bank2 at built inner done = record {
+    entry_here order reply task2 cpu2 bank2 at free inner done = record {
       at = at;
       inner = inner;
-      free = built_free p order.command built;
+      free = free;
       whole = done.whole p on_here;
       line = refl;
       reply = done.reply_is p on_here;

@@ -20,15 +20,16 @@ use Rattle.xs_model.specs.declared.event.Reply.{Reply}
 use Rattle.xs_model.specs.declared.event.Reply.TheVariants as replies
 use Rattle.xs_model.specs.declared.script.Command.{Command}
 use Rattle.xs_model.specs.declared.script.Command.TheVariants as commands
+use Rattle.xs_model.specs.declared.script.Script.{Script}
 use Rattle.xs_model.specs.Counts.{exec_of, numbers_of}
-use Rattle.xs_model.specs.Line.{local_after, next_line, refusal, return_cause, return_reply}
+use Rattle.xs_model.specs.Line.{local_after, local_reply, next_line, refusal, return_cause, return_reply}
 use Rattle.xs_model.specs.Note.{is_section}
 use Rattle.xs_model.specs.Script.{IsCommand, IsBuiltName, is_return}
 use Rattle.xs_switch.specs.Running.{CanSave, IsRunning}
 use Rattle.xs_task.specs.declared.task.Task.{Task}
 use Rattle.xs_task.specs.TaskArea.{IsTask}
 use Rattle.xs_machine.specs.Line.{IsUserOn, KeepsCpu, Ran, RanLine, WasRefused, after_get, after_set, restored_reply}
-use Rattle.xs_machine.proofs.Commands.{advanced, poke_on, set_on, set_holds, set_rows, set_counts, read_on, read_holds, get_rows, get_counts}
+use Rattle.xs_machine.proofs.Commands.{advanced, poke_on, bpoke_on, set_on, set_holds, set_rows, set_counts, read_on, read_holds, get_rows, get_counts}
 
 -- A register is set.
 pub set_ran : {B : Type 0} (cpu : Cpu B) (bank : B) (task : Task) (old new : banks.Bank) (reg bytes : List ℕ)
@@ -89,40 +90,58 @@ section_ran {B} cpu new_cpu task new_task old new byte lease set_up whole task_i
       still = λ no. absurd (cc);
     }
 
--- Bytes of the frame are read.
-pub peek_ran : {B : Type 0} (cpu : Cpu B) (task : Task) (bank : banks.Bank) (at len : ℕ) (bytes : List ℕ)
-    → WasSetUp cpu.layout bank cpu.initial → task.need_load ≡ false → bytes ≡ slice_range task.frame.items at (at + len)
-    → Ran true (commands.Peek at len) (replies.Bytes bytes) task task cpu cpu bank bank
-peek_ran cpu task bank at len bytes set_up loaded lane = record {
+-- A command that leaves the processor: no section, and nothing is counted.
+still_ran : {B : Type 0} (cpu : Cpu B) (task new_task : Task) (bank : banks.Bank) (command : Command) (reply : Reply)
+    → is_section (Some command) ≡ false → ((script : Script) → numbers_of script (Some command) reply ≡ None)
+    → WasSetUp cpu.layout bank cpu.initial → new_task.name ≡ task.name → new_task.need_load ≡ false
+    → ((p : PrivateTask) → IsUserOn cpu.layout task bank (next_line p) → IsUserOn cpu.layout new_task bank (local_after p command))
+    → ((p : PrivateTask) → IsUserOn cpu.layout task bank (next_line p) → reply ≡ local_reply p command)
+    → ((p : PrivateTask) → ((local_after p command).file ≡ p.file) × ((local_after p command).large ≡ p.large))
+    → Ran true command reply task new_task cpu cpu bank bank
+still_ran cpu task new_task bank command reply plain silent set_up name loaded on lane same = record {
   set_up = set_up;
   cpu = refl;
-  mark = refl;
-  name = refl;
-  loaded = λ _. loaded;
-  on = λ p on. on;
-  reply_is = λ p on. ap replies.Bytes (lane ∙ ap (λ (f : List ℕ). slice_range f at (at + len)) (sym (ap (λ (q : PrivateTask). q.frame) on.running.form)));
-  holds = λ _ plain p on held. record { file = held.file; armed = held.armed };
-  counts = λ script. refl;
+  mark = rw plain refl;
+  name = name;
+  loaded = λ _. loaded ∙ sym plain;
+  on = on;
+  reply_is = lane;
+  holds = λ _ _ p on held. record { file = rw (same p).0 held.file; armed = rw ((same p).0, (same p).1) held.armed };
+  counts = λ script. rw (silent script, plain) refl;
   still = λ no. absurd (cc);
 }
 
--- Bytes of the frame are written.
+-- Bytes of the frame are read, or bytes of the buffer.
+pub peek_ran : {B : Type 0} (cpu : Cpu B) (task : Task) (bank : banks.Bank) (at len : ℕ) (bytes : List ℕ)
+    → WasSetUp cpu.layout bank cpu.initial → task.need_load ≡ false → bytes ≡ slice_range task.frame.items at (at + len)
+    → Ran true (commands.Peek at len) (replies.Bytes bytes) task task cpu cpu bank bank
+peek_ran cpu task bank at len bytes set_up loaded lane =
+    still_ran cpu task task bank (commands.Peek at len) (replies.Bytes bytes) refl (λ script. refl) set_up refl loaded (λ p on. on)
+    (λ p on. ap replies.Bytes (lane ∙ ap (λ (f : List ℕ). slice_range f at (at + len)) (sym (ap (λ (q : PrivateTask). q.frame) on.running.form)))) (λ p. (refl, refl))
+
+pub bpeek_ran : {B : Type 0} (cpu : Cpu B) (task : Task) (bank : banks.Bank) (at len : ℕ) (bytes : List ℕ)
+    → WasSetUp cpu.layout bank cpu.initial → task.need_load ≡ false → bytes ≡ slice_range task.buffer.items at (at + len)
+    → Ran true (commands.Bpeek at len) (replies.Bytes bytes) task task cpu cpu bank bank
+bpeek_ran cpu task bank at len bytes set_up loaded lane =
+    still_ran cpu task task bank (commands.Bpeek at len) (replies.Bytes bytes) refl (λ script. refl) set_up refl loaded (λ p on. on)
+    (λ p on. ap replies.Bytes (lane ∙ ap (λ (b : List ℕ). slice_range b at (at + len)) (sym (ap (λ (q : PrivateTask). q.buffer) on.running.form)))) (λ p. (refl, refl))
+
+-- Bytes of the frame are written, or bytes of the buffer.
 pub poke_ran : {B : Type 0} (cpu : Cpu B) (task new_task : Task) (bank : banks.Bank) (at : ℕ) (bytes : List ℕ)
     → WasSetUp cpu.layout bank cpu.initial → IsCommand cpu.layout (commands.Poke at bytes) → task.need_load ≡ false
     → new_task ≡ record task { frame = new_task.frame } → new_task.frame.items ≡ splice at bytes task.frame.items → length new_task.frame.items ≡ length task.frame.items
     → Ran true (commands.Poke at bytes) replies.Done task new_task cpu cpu bank bank
-poke_ran cpu task new_task bank at bytes set_up known loaded others written len = record {
-  set_up = set_up;
-  cpu = refl;
-  mark = refl;
-  name = ap (λ (x : Task). x.name) others;
-  loaded = λ _. ap (λ (x : Task). x.need_load) others ∙ loaded;
-  on = λ p on. poke_on cpu.layout task new_task bank at bytes known others written len p on;
-  reply_is = λ p on. refl;
-  holds = λ _ plain p on held. record { file = held.file; armed = held.armed };
-  counts = λ script. refl;
-  still = λ no. absurd (cc);
-}
+poke_ran cpu task new_task bank at bytes set_up known loaded others written len =
+    still_ran cpu task new_task bank (commands.Poke at bytes) replies.Done refl (λ script. refl) set_up (ap (λ (x : Task). x.name) others) (ap (λ (x : Task). x.need_load) others ∙ loaded)
+    (λ p on. poke_on cpu.layout task new_task bank at bytes p on known others written len) (λ p on. refl) (λ p. (refl, refl))
+
+pub bpoke_ran : {B : Type 0} (cpu : Cpu B) (task new_task : Task) (bank : banks.Bank) (at : ℕ) (bytes : List ℕ)
+    → WasSetUp cpu.layout bank cpu.initial → IsCommand cpu.layout (commands.Bpoke at bytes) → task.need_load ≡ false
+    → new_task ≡ record task { buffer = new_task.buffer } → new_task.buffer.items ≡ splice at bytes task.buffer.items → length new_task.buffer.items ≡ length task.buffer.items
+    → Ran true (commands.Bpoke at bytes) replies.Done task new_task cpu cpu bank bank
+bpoke_ran cpu task new_task bank at bytes set_up known loaded others written len =
+    still_ran cpu task new_task bank (commands.Bpoke at bytes) replies.Done refl (λ script. refl) set_up (ap (λ (x : Task). x.name) others) (ap (λ (x : Task). x.need_load) others ∙ loaded)
+    (λ p on. bpoke_on cpu.layout task new_task bank at bytes p on known others written len) (λ p on. refl) (λ p. (refl, refl))
 
 -- ---- a line
 
@@ -148,10 +167,6 @@ behind_ran user command reply task new_task cpu new_cpu old new stays ran = reco
 }
 
 -- ---- a return from a handler
-
-pub return_line : (command : Command) → is_return command ≡ true → command ≡ commands.Sigreturn
-return_line commands.Sigreturn returns = refl
-return_line other returns = absurd (cc)
 
 back_is : (p : PrivateTask) → p.handling ≡ true → local_after p commands.Sigreturn ≡ after_return p (return_of p)
 back_is p inside = rw inside refl

@@ -1,9 +1,7 @@
 -- The schedule of a script.
-use Rattle.std.proofs.Common.{◌≡◌, ℕ, ◌<◌, List, [], ◌∷◌, ◌++◌, length, get_or, refl, sym, ◌∙◌, arith, zero-add}
+use Rattle.std.proofs.Common.{◌≡◌, ℕ, ◌<◌, List, [], length, get_or, sym, ◌∙◌, arith, zero-add}
 use Rattle.std.proofs.lemmas.List.FromFn.{length-range_with_len, get_or-range_with_len}
-use Rattle.xs_model.specs.declared.event.Event.{Event}
-use Rattle.xs_model.specs.declared.script.Script.{Script}
-use Rattle.xs_model.specs.Replay.{entry, entries, schedule_of}
+use Rattle.xs_model.specs.Replay.{schedule_of}
 
 -- without a schedule there is an entry for each processor, in order
 pub length_plain : (cpus : ℕ) (sched : List ℕ) → sched ≡ [] → cpus ≡ length (schedule_of cpus sched)
@@ -13,8 +11,3 @@ pub at_plain : (cpus : ℕ) (sched : List ℕ) (at : ℕ) → sched ≡ [] → a
 at_plain cpus sched at none lt =
     let fewer : at < cpus = omega (arith, length_plain cpus sched none) in
     rw none (sym (get_or-range_with_len 0 cpus at 0 fewer ∙ zero-add at))
-
--- one entry more
-pub entries_more : (script : Script) (past : List Event) (cs : List ℕ) (c : ℕ) → entries script past (cs ++ c ∷ []) ≡ entry script (entries script past cs) c
-entries_more script past [] c = refl
-entries_more script past (d ∷ cs) c = entries_more script (entry script past d) cs c

@@ -1,10 +1,8 @@
 -- The lines of a script that is valid and built.
 use Rattle.std.proofs.Common.{◌≡◌, ℕ, zero, suc, ◌+◌, ◌<◌, ◌^◌, Bool, true, false, not, ◌&&◌, ◌==◌, nat_lt, List, [], ◌∷◌, ◌++◌, length, map, Option, Some, None, if◌then◌else◌, slice_get, refl, sym, ap, ◌∙◌, subst, arith}
-use Rattle.std.proofs.lemmas.Bool.{and_parts, ne_eqb}
+use Rattle.std.proofs.lemmas.Bool.{and_parts}
 use Rattle.std.specs.List.{list_all, AllByRecursion}
 use Rattle.xs_base.specs.Frame.{Return, Full, LegacyOnly, Refused, return_of, after_return}
-use Rattle.xs_base.specs.Layout.{has_row}
-use Rattle.xs_base.specs.Register.{place_of}
 use Rattle.xs_base.specs.Task.{PrivateTask}
 use Rattle.xs_model.specs.declared.event.Event.{Event}
 use Rattle.xs_model.specs.declared.event.Event.TheVariants as events
@@ -17,13 +15,11 @@ use Rattle.xs_model.specs.declared.script.Order.{Order}
 use Rattle.xs_model.specs.declared.script.Script.{Script}
 use Rattle.xs_model.specs.declared.stage.Stage.TheVariants as stages
 use Rattle.xs_model.specs.Due.{block_event, due, place_event}
-use Rattle.xs_model.specs.Line.{line_at, local_after, next_line, return_cause, traps, refusal}
+use Rattle.xs_model.specs.Line.{line_at, local_after, next_line, return_cause, refusal}
 use Rattle.xs_model.specs.Machine.{machine}
 use Rattle.xs_model.specs.Script.{AreBuilt, AreRising, order_numbers, IsBody, IsValid, IsBuilt, IsCommand, IsBuiltCommand, fits_kind, is_handler, is_handler_from, is_kernel_command, is_outer, is_return, is_user, is_user_kind}
-use Rattle.xs_model.specs.State.{BlockState, Machine, stage_at, stage_of}
-use Rattle.xs_board.specs.Board.{task_of_state}
+use Rattle.xs_model.specs.State.{BlockState, Machine, stage_at, stage_of, task_of_state}
 use Rattle.xs_board.specs.Turn.{line_of, line_in}
-use Rattle.xs_machine.proofs.BuiltRegisters.{built_place, built_not_config, built_not_tiles}
 use Rattle.xs_machine.proofs.Histories.{and_no}
 use Rattle.xs_machine.proofs.Stages.{in_turn, script_stays}
 
@@ -138,16 +134,9 @@ over_return p true is (Refused error) whole on = cc whole
 over_return p false is r whole on = let no : true ≡ false = sym on ∙ is in cc no
 
 stays_inside : (p : PrivateTask) (command : Command) → IsBuiltCommand command → refusal p command ≡ None → (local_after p command).handling ≡ true → StaysInside p command
-stays_inside p (commands.Set reg bytes) built whole on = record { inside = on; stays = refl; place = refl }
-stays_inside p (commands.Get reg) built whole on = record { inside = on; stays = refl; place = refl }
-stays_inside p (commands.Ksec byte) built whole on = record { inside = on; stays = refl; place = refl }
-stays_inside p commands.Yield built whole on = record { inside = on; stays = refl; place = refl }
-stays_inside p (commands.Peek at len) built whole on = record { inside = on; stays = refl; place = refl }
-stays_inside p (commands.Poke at bytes) built whole on = record { inside = on; stays = refl; place = refl }
+stays_inside p (commands.Perm feature) built whole on = absurd built
 stays_inside p commands.Sigreturn built whole on = absurd (over_return p p.handling refl (return_of p) whole on)
-stays_inside p (commands.Fork name) built whole on = record { inside = on; stays = refl; place = refl }
-stays_inside p (commands.Kill name signo) built whole on = record { inside = on; stays = refl; place = refl }
-stays_inside p other built whole on = absurd built
+stays_inside p other built whole on = record { inside = on; stays = refl; place = refl }
 
 -- The handler of a block in a turn has a line at the task's place, since the block has a next event.
 handler_due : (m : Machine) (t c ran : ℕ) (block : Option BlockState) (lines : Option Block) (event : Event) → block_event m t block lines ≡ Some event → stage_of block ≡ stages.Turn c ran
@@ -215,10 +204,3 @@ module _ (script : Script) (valid : IsValid script) (built : IsBuilt script) (t 
       let last : line_in (Some (line_found script t p order is).lines) (local_after p order.command) ≡ None = rw (line_found script t p order is).known at none in
       let next : slice_get (line_found script t p order is).lines.handler (local_after p order.command).place ≡ None = rw inside at last in
       handler_follows (line_found script t p order is).lines.handler p.place order fits.returns at moved.stays (ap (slice_get (line_found script t p order is).lines.handler) (sym moved.place) ∙ next)
-
--- ---- a built local line runs in its own task
-
-pub built_free : (p : PrivateTask) (command : Command) → IsBuiltCommand command → traps p command ≡ false
-built_free p (commands.Set reg bytes) built = rw (ne_eqb (place_of reg).comp.0 18 (built_not_tiles (place_of reg) (built_place reg built)), ne_eqb (place_of reg).comp.0 17 (built_not_config (place_of reg) (built_place reg built))) (and_no (has_row p.file.rows 18 && not p.large))
-built_free p (commands.Get reg) built = rw (ne_eqb (place_of reg).comp.0 18 (built_not_tiles (place_of reg) (built_place reg built))) (and_no (has_row p.file.rows 18 && not p.large))
-built_free p other built = refl

@@ -20,19 +20,20 @@ use Rattle.xs_model.specs.Counts.{in_section, exec_of, numbers_of, reloads, save
 use Rattle.xs_model.specs.Due.{violation}
 use Rattle.xs_model.specs.Line.{local_after, frame_cause, is_frame_cause}
 use Rattle.xs_model.specs.Machine.{goes_on}
-use Rattle.xs_model.specs.Note.{Section, Plain, act_of, task_of, cpu_of, notes_of, is_count, is_section, set_act, set_target, mark, mark_after, last, last_after, start_cpu}
+use Rattle.xs_model.specs.Held.{is_start}
+use Rattle.xs_model.specs.Note.{Section, Plain, act_of, task_of, cpu_of, notes_of, is_count, is_section, set_target, mark, mark_after, last, start_cpu}
 use Rattle.xs_model.specs.Script.{command_at, is_user, is_return}
 use Rattle.xs_task.specs.declared.task.Task.{Task}
 use Rattle.xs_machine.specs.Line.{IsOn, CameBack, KeepsCpu, RanLine, WasRefused}
 use Rattle.xs_machine.specs.Turn.{IsTurning}
-use Rattle.xs_machine.proofs.Histories.{one_event, then_on, counts_here, mark_here, section_here, file_here, is_quiet}
-use Rattle.xs_machine.proofs.Stages.{IsSent, line_stage, line_ends, end_ends, kill_ends, outer_ends, sent_plain}
+use Rattle.xs_machine.proofs.Histories.{IsClosing, plain_closes, outer_closes, last_within, one_event, then_on, counts_here, mark_here, section_here, file_here}
+use Rattle.xs_machine.proofs.Stages.{line_stage, line_ends, end_ends, kill_ends, outer_ends}
 
 -- ---- acts
 
-quiet_by : (section : Bool) → is_quiet (if section then Section else Plain) ≡ true
-quiet_by true = refl
-quiet_by false = refl
+within_by : (section : Bool) → is_start (if section then Section else Plain) ≡ false
+within_by true = refl
+within_by false = refl
 
 section_by : (section : Bool) → is_section_act (if section then Section else Plain) ≡ section
 section_by true = refl
@@ -41,10 +42,6 @@ section_by false = refl
 start_by : (section : Bool) (older : Option ℕ) → start_cpu (if section then Section else Plain) older ≡ older
 start_by true older = refl
 start_by false older = refl
-
-last_by : (section : Bool) (t : ℕ) (older : Option ℕ) → last_after t (if section then Section else Plain) t older ≡ older
-last_by true t older = refl
-last_by false t older = refl
 
 not_off : (b : Bool) → not b ≡ false → b ≡ true
 not_off true off = refl
@@ -151,8 +148,8 @@ module _ {B : Type 0} (script : Script) (t c : ℕ) (first past : List Event) (b
     cpu_at : start_cpu (act_of script (events.Local t line reply)) (cpu_of (notes_of script past) t) ≡ Some c
     cpu_at = ap (λ a. start_cpu a (cpu_of (notes_of script past) t)) act ∙ start_by (is_section (Some command)) (cpu_of (notes_of script past) t) ∙ turn.follows.here
 
-    home : last script (events.Local t line reply ∷ past) t ≡ Some c
-    home = ap (λ a. last_after t a t (last script past t)) act ∙ last_by (is_section (Some command)) t (last script past t) ∙ turn.follows.home
+    home : (d : ℕ) → last script (events.Local t line reply ∷ past) t ≡ Some d → d ≡ c
+    home d is = turn.follows.home d (last_within (act_of script (events.Local t line reply)) t t d (last script past t) (ap is_start act ∙ within_by (is_section (Some command))) is)
 
     section_new : in_section script (events.Local t line reply ∷ past) t ≡ is_section (Some command)
     section_new = section_here script past (events.Local t line reply) t c refl cpu_at ∙ ap is_section_act act ∙ section_by (is_section (Some command))
@@ -190,7 +187,7 @@ module _ {B : Type 0} (script : Script) (t c : ℕ) (first past : List Event) (b
 
     pub line_turned : IsTurning script t c first (events.Local t line reply ∷ past) before (not (goes_on script command ran)) (ran + 1) (local_after p command) task2 cpu2 bank2
     line_turned = record {
-      follows = then_on script t c first past (events.Local t line reply ∷ past) turn.follows (one_event script past (events.Local t line reply) t c refl cpu_at (ap is_quiet act ∙ quiet_by (is_section (Some command))) home);
+      follows = then_on script t c first past (events.Local t line reply ∷ past) turn.follows (one_event script past (events.Local t line reply) t c refl cpu_at home);
       stage = λ goes. line_stage script past t c ran line reply command found (turn.stage refl) (not_off (goes_on script command ran) goes);
       number = ap (λ (x : Cpu B). x.number) done.cpu ∙ ap (λ (x : Cpu B). x.number) back.cpu ∙ turn.number;
       layout = ap (λ (x : Cpu B). x.layout) done.cpu ∙ cpu1_layout;
@@ -212,25 +209,25 @@ module _ {B : Type 0} (script : Script) (t c : ℕ) (first past : List Event) (b
 
   -- ---- an event that closes the turn
 
-  module _ (event : Event) (is : task_of event ≡ t) (plain : act_of script event ≡ Plain) (ends : ends_turn script past event ≡ true) (loads : Bool)
+  module _ (event : Event) (is : task_of event ≡ t) (closes : IsClosing (act_of script event)) (ends : ends_turn script past event ≡ true) (loads : Bool)
       (counted : (n : Counts) → counted_by script past event n ≡ save_if (saves script past event) (load_if loads (load_if (reloads script past t) n)))
       (q : PrivateTask) (task2 : Task) (cpu2 : Cpu B) (bank2 : banks.Bank) (closed : IsClosed (is_user script t) loads q task1 task2 cpu1 cpu2 bank1 bank2) where
     close_at : start_cpu (act_of script event) (cpu_of (notes_of script past) t) ≡ Some c
-    close_at = ap (λ a. start_cpu a (cpu_of (notes_of script past) t)) plain ∙ turn.follows.here
+    close_at = closes.cpu (cpu_of (notes_of script past) t) ∙ turn.follows.here
 
-    close_home : last script (event ∷ past) t ≡ Some c
-    close_home = ap (λ a. last_after (task_of event) a t (last script past t)) plain ∙ turn.follows.home
+    close_home : (d : ℕ) → last script (event ∷ past) t ≡ Some d → d ≡ c
+    close_home d home = turn.follows.home d (last_within (act_of script event) (task_of event) t d (last script past t) closes.within home)
 
     close_section : in_section script (event ∷ past) t ≡ false
-    close_section = section_here script past event t c is close_at ∙ ap is_section_act plain
+    close_section = section_here script past event t c is close_at ∙ closes.section
 
     close_mark : mark script (event ∷ past) c ≡ mark_after (is_user script t) t Plain (mark script past c)
-    close_mark = mark_here script past event t c is close_at ∙ ap (λ a. mark_after (is_user script t) t a (mark script past c)) plain
+    close_mark = mark_here script past event t c is close_at ∙ closes.mark_is (is_user script t) t (mark script past c)
 
     close_saves : saves script past event ≡ (is_user script t && (false || true))
     close_saves =
         ap (λ u. is_user script u && (is_section_act (act_of script event) || ends_turn script past event)) is
-        ∙ ap (λ a. is_user script t && (is_section_act a || ends_turn script past event)) plain
+        ∙ ap (λ section. is_user script t && (section || ends_turn script past event)) closes.section
         ∙ ap (λ e. is_user script t && (false || e)) ends
 
     close_counts : told.counts_of script (event ∷ past) c ≡ save_if (true && is_user script t && not task2.need_load) (counts_of bank2)
@@ -244,7 +241,7 @@ module _ {B : Type 0} (script : Script) (t c : ℕ) (first past : List Event) (b
 
     close_turned : IsTurning script t c first (event ∷ past) before true 0 q task2 cpu2 bank2
     close_turned = record {
-      follows = then_on script t c first past (event ∷ past) turn.follows (one_event script past event t c is close_at (ap is_quiet plain) close_home);
+      follows = then_on script t c first past (event ∷ past) turn.follows (one_event script past event t c is close_at close_home);
       stage = λ no. absurd (cc);
       number = ap (λ (x : Cpu B). x.number) closed.cpu ∙ ap (λ (x : Cpu B). x.number) back.cpu ∙ turn.number;
       layout = ap (λ (x : Cpu B). x.layout) closed.cpu ∙ cpu1_layout;
@@ -280,13 +277,11 @@ module _ {B : Type 0} (script : Script) (t c : ℕ) (first past : List Event) (b
 
   -- the end of the body
   pub end_turned : IsTurning script t c first (events.End t ∷ past) before true 0 p task1 cpu1 bank1
-  end_turned = close_turned (events.End t) refl refl (end_ends script past t c ran (turn.stage refl)) false (λ n. refl) p task1 cpu1 bank1 closed_here
+  end_turned = close_turned (events.End t) refl plain_closes (end_ends script past t) false (λ n. refl) p task1 cpu1 bank1 closed_here
 
-  -- an outer line
-  pub outer_turned : (line : ℕ) (reply : Reply) (command : Command) → command_at script t line ≡ Some command → IsSent command → IsTurning script t c first (events.Outer t line reply ∷ past) before true 0 p task1 cpu1 bank1
-  outer_turned line reply command found sent =
-      let plain : act_of script (events.Outer t line reply) ≡ Plain = ap (λ (k : Option Command). set_act (set_target script k) (is_count reply)) found ∙ sent_plain script command (is_count reply) sent in
-      close_turned (events.Outer t line reply) refl plain (outer_ends script past t c ran line reply command found sent (turn.stage refl)) false (λ n. refl) p task1 cpu1 bank1 closed_here
+  -- an outer line, whatever it answers
+  pub outer_turned : (line : ℕ) (reply : Reply) → IsTurning script t c first (events.Outer t line reply ∷ past) before true 0 p task1 cpu1 bank1
+  outer_turned line reply = close_turned (events.Outer t line reply) refl (outer_closes (set_target script (command_at script t line)) (is_count reply)) (outer_ends script past t line reply) false (λ n. refl) p task1 cpu1 bank1 closed_here
 
   -- a return that is refused
   pub refused_turned : (command : Command) (error : HeaderError) (task2 : Task) (cpu2 : Cpu B) (bank2 : banks.Bank) → WasRefused (is_user script t) command error task1 task2 cpu1 cpu2 bank1 bank2
@@ -304,4 +299,4 @@ module _ {B : Type 0} (script : Script) (t c : ℕ) (first past : List Event) (b
         still = λ kernel. let no : true ≡ false = sym refused.known ∙ kernel in absurd (cc no);
         counts = refused.counts ∙ ap (λ b. load_if b (counts_of bank1)) (sym (is_cause error));
       } in
-      close_turned (events.Kill t violation (frame_cause error)) refl refl (kill_ends script past t c ran violation (frame_cause error) (turn.stage refl)) (is_frame_cause (frame_cause error)) (λ n. refl) (record p { file = refused_file p }) task2 cpu2 bank2 closed
+      close_turned (events.Kill t violation (frame_cause error)) refl plain_closes (kill_ends script past t violation (frame_cause error)) (is_frame_cause (frame_cause error)) (λ n. refl) (record p { file = refused_file p }) task2 cpu2 bank2 closed

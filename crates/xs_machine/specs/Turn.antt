@@ -24,18 +24,16 @@ use Rattle.xs_board.specs.Home.{IsHome}
 use Rattle.xs_board.specs.Turn.{AreLines, HaveRun, line_of, past_with, task_after, task_handed, turn_events}
 use Rattle.xs_machine.specs.Line.{IsOn}
 
--- The new past is the old one and events of block t on processor c. Nothing is told by them of another processor, or of another
--- block; block t had its latest Start there, which is its last processor.
+-- The new past is the old one and events of block t on processor c. By them nothing is told of another processor, and no section or
+-- file of another block. Block t had its latest Start there, and has no other last processor.
 pub record Continues (script : Script) (t c : ℕ) (old new : List Event) : Type 0 where
   pub counts : (d : ℕ) → (d ≡ c → ⊥) → told.counts_of script new d ≡ told.counts_of script old d
   pub mark_is : (d : ℕ) → (d ≡ c → ⊥) → mark script new d ≡ mark script old d
   pub files : (d u : ℕ) → (d ≡ c → ⊥) → told.file_after script new d u ≡ told.file_after script old d u
   pub others : (d u : ℕ) → (u ≡ t → ⊥) → told.file_after script new d u ≡ told.file_after script old d u
-  pub last_is : (u : ℕ) → (u ≡ t → ⊥) → last script new u ≡ last script old u
-  pub cpu : (u : ℕ) → (u ≡ t → ⊥) → cpu_of (notes_of script new) u ≡ cpu_of (notes_of script old) u
   pub section : (u : ℕ) → (u ≡ t → ⊥) → in_section script new u ≡ in_section script old u
   pub here : cpu_of (notes_of script new) t ≡ Some c
-  pub home : last script new t ≡ Some c
+  pub home : (d : ℕ) → last script new t ≡ Some d → d ≡ c
 
 -- Block t is in a turn on processor c, and the past went on from `first`, when the bank was `before`. The task is that private task.
 -- Where the turn is over, its registers wait for their save. The processor has the mark and the bank the counts that the past gives

@@ -131,6 +131,11 @@ fn run_user_command<B: Bank>(cpu: &mut Cpu<B>, task: &mut Task, command: &Comman
             task.poke(Mem::Frame, *at, bytes);
             Reply::Done
         }
+        Command::Bpeek { at, len } => Reply::Bytes(task.peek(Mem::Buffer, *at, *len)),
+        Command::Bpoke { at, bytes } => {
+            task.poke(Mem::Buffer, *at, bytes);
+            Reply::Done
+        }
         _ => unreachable!(),
     }
 }

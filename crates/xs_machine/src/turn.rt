@@ -13,7 +13,7 @@ use crate::lines::{come_back, run_local};
 use crate::script::{close_after, is_outer, is_user, line_of};
 use xs_bank::{Bank, Cpu};
 use xs_board::{Close, Entries, Entry, lines_follow};
-use xs_model::{Script, lines_found, machine_known, signals_known};
+use xs_model::{Script, built_is_plain, lines_found, machine_known, named_known};
 use xs_switch::switch_out;
 use xs_task::Task;
 
@@ -56,7 +56,8 @@ fn run_line<B: Bank>(
     lines_found();
     machine_known();
     lines_follow();
-    signals_known();
+    named_known();
+    built_is_plain();
     let ran = entries.len() as u32;
     let user = is_user(script, task.name);
     come_back(cpu, task, user);

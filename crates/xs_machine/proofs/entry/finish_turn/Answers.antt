@@ -19,7 +19,7 @@ leave-requires-clause-turning g c =
     let start = private_in old t in
     let running = start_running script old turn.cpu turn c.args.cpu.now bank c.requires.run c.never_idle.ensures.next c.requires.at in
     let over = c.run_lines-close.ensures.over t turn.cpu (past_of old) bank start running in
-    let reply = answer_in old t c.run_lines-close.result in
+    let reply = answer_in old t c.run_lines-close.new.entries.items c.run_lines-close.result in
     record {
       t = t;
       c = turn.cpu;
@@ -40,7 +40,7 @@ leave-requires-clause-known g c =
     let start = private_in old t in
     let running = start_running script old turn.cpu turn c.args.cpu.now bank c.requires.run c.never_idle.ensures.next c.requires.at in
     let over = c.run_lines-close.ensures.over t turn.cpu (past_of old) bank start running in
-    known_home script old turn c.args.cpu.now bank c.requires.run c.requires.at (c.machine_known.ensures.known script (past_of old)).2 c.run_lines-close.new.task.name (over.turning (answer_in old t c.run_lines-close.result)).name
+    known_home script old turn c.args.cpu.now bank c.requires.run c.requires.at (c.machine_known.ensures.known script (past_of old)).2 c.run_lines-close.new.task.name (over.turning (answer_in old t c.run_lines-close.new.entries.items c.run_lines-close.result)).name
 
 pub commit-requires-clause-turn : goal.commit-requires-clause-turn
 commit-requires-clause-turn g c =
@@ -55,7 +55,7 @@ commit-requires-clause-turn g c =
     let items = c.run_lines-close.new.entries.items in
     let close = c.run_lines-close.result in
     let private = task_handed close (task_after script t start items) in
-    let reply = answer_in old t close in
+    let reply = answer_in old t items close in
     let left = c.leave.ensures.left t turn.cpu (past_of old) (past_after t items close reply (past_of old)) bank private (over.turning reply) in
     stage_home script old turn c.leave.new.task c.args.cpu.now c.leave.new.cpu bank (g.B.Bank.state c.leave.new.cpu.bank) items close c.requires.run c.requires.at over.lines left
 
@@ -72,7 +72,7 @@ commit-requires-clause-lines g c =
     let items = c.run_lines-close.new.entries.items in
     let close = c.run_lines-close.result in
     let private = task_handed close (task_after script t start items) in
-    let reply = answer_in old t close in
+    let reply = answer_in old t items close in
     let left = c.leave.ensures.left t turn.cpu (past_of old) (past_after t items close reply (past_of old)) bank private (over.turning reply) in
     lines_home script old turn c.leave.new.task c.args.cpu.now c.leave.new.cpu bank (g.B.Bank.state c.leave.new.cpu.bank) items close c.requires.run c.requires.at over.lines left
 
@@ -89,7 +89,7 @@ commit-requires-clause-task g c =
     let items = c.run_lines-close.new.entries.items in
     let close = c.run_lines-close.result in
     let private = task_handed close (task_after script t start items) in
-    let reply = answer_in old t close in
+    let reply = answer_in old t items close in
     let left = c.leave.ensures.left t turn.cpu (past_of old) (past_after t items close reply (past_of old)) bank private (over.turning reply) in
     task_home script old turn c.leave.new.task c.args.cpu.now c.leave.new.cpu bank (g.B.Bank.state c.leave.new.cpu.bank) items close c.requires.run c.requires.at over.lines left
 
@@ -106,7 +106,7 @@ commit-requires-clause-last g c =
     let items = c.run_lines-close.new.entries.items in
     let close = c.run_lines-close.result in
     let private = task_handed close (task_after script t start items) in
-    let reply = answer_in old t close in
+    let reply = answer_in old t items close in
     let left = c.leave.ensures.left t turn.cpu (past_of old) (past_after t items close reply (past_of old)) bank private (over.turning reply) in
     last_home script old turn c.leave.new.task c.args.cpu.now c.leave.new.cpu bank (g.B.Bank.state c.leave.new.cpu.bank) items close c.requires.run c.requires.at over.lines left
 
@@ -123,10 +123,10 @@ returns-clause-run g c =
     let items = c.run_lines-close.new.entries.items in
     let close = c.run_lines-close.result in
     let private = task_handed close (task_after script t start items) in
-    let reply = answer_in old t close in
+    let reply = answer_in old t items close in
     let left = c.leave.ensures.left t turn.cpu (past_of old) (past_after t items close reply (past_of old)) bank private (over.turning reply) in
     let e = c.commit.ensures in
-    run_home script old turn c.leave.new.task c.args.cpu.now c.leave.new.cpu bank (g.B.Bank.state c.leave.new.cpu.bank) items close c.requires.run c.requires.at over.lines left c.commit.new.self e.script e.history e.legal e.stage e.private e.free e.others e.turns
+    run_home script old turn c.leave.new.task c.args.cpu.now c.leave.new.cpu bank (g.B.Bank.state c.leave.new.cpu.bank) items close c.requires.run c.requires.at over.lines left c.commit.new.self e.script e.history e.legal e.private e.free e.others e.turns
 
 pub returns-clause-at : goal.returns-clause-at
 returns-clause-at g c =
@@ -141,10 +141,10 @@ returns-clause-at g c =
     let items = c.run_lines-close.new.entries.items in
     let close = c.run_lines-close.result in
     let private = task_handed close (task_after script t start items) in
-    let reply = answer_in old t close in
+    let reply = answer_in old t items close in
     let left = c.leave.ensures.left t turn.cpu (past_of old) (past_after t items close reply (past_of old)) bank private (over.turning reply) in
     let e = c.commit.ensures in
-    at_home script old turn c.leave.new.task c.args.cpu.now c.leave.new.cpu bank (g.B.Bank.state c.leave.new.cpu.bank) items close c.requires.run c.requires.at over.lines left c.commit.new.self e.script e.history e.legal e.stage e.private e.free e.others e.turns
+    at_home script old turn c.leave.new.task c.args.cpu.now c.leave.new.cpu bank (g.B.Bank.state c.leave.new.cpu.bank) items close c.requires.run c.requires.at over.lines left c.commit.new.self e.script e.history e.legal e.private e.free e.others e.turns
 
 pub returns-clause-others : goal.returns-clause-others
 returns-clause-others g c =
@@ -159,10 +159,10 @@ returns-clause-others g c =
     let items = c.run_lines-close.new.entries.items in
     let close = c.run_lines-close.result in
     let private = task_handed close (task_after script t start items) in
-    let reply = answer_in old t close in
+    let reply = answer_in old t items close in
     let left = c.leave.ensures.left t turn.cpu (past_of old) (past_after t items close reply (past_of old)) bank private (over.turning reply) in
     let e = c.commit.ensures in
-    others_home script old turn c.leave.new.task c.args.cpu.now c.leave.new.cpu bank (g.B.Bank.state c.leave.new.cpu.bank) items close c.requires.run c.requires.at over.lines left c.commit.new.self e.script e.history e.legal e.stage e.private e.free e.others e.turns g.row.B.Denot
+    others_home script old turn c.leave.new.task c.args.cpu.now c.leave.new.cpu bank (g.B.Bank.state c.leave.new.cpu.bank) items close c.requires.run c.requires.at over.lines left c.commit.new.self e.script e.history e.legal e.private e.free e.others e.turns c.turns_known.ensures.known g.row.B.Denot
 
 pub returns-clause-kept : goal.returns-clause-kept
 returns-clause-kept g c =

@@ -22,7 +22,7 @@ returns-in-Turn-clause-at g c =
     let bank = g.B.Bank.state c.args.cpu.now.bank in
     let at = subst (λ (slot : Option Turn). IsAt script old c.args.number slot c.args.cpu.now bank) (sym c.in-None.ensures.value) c.requires.at in
     let e = c.in-Turn.ensures in
-    at_begun script old c.args.number c.in-Turn.turn c.args.cpu.now bank c.requires.run c.signals_known.ensures.threads at e.turn e.skip c.take-in-None.new.self c.begin_turn.result c.begin_turn.new.cpu (g.B.Bank.state c.begin_turn.new.cpu.bank) c.begin_turn.ensures e.script e.history e.stage e.private e.busy e.others e.turns
+    at_begun script old c.args.number c.in-Turn.turn c.args.cpu.now bank c.requires.run c.signals_known.ensures.threads at e.turn e.skip c.take-in-None.new.self c.begin_turn.result c.begin_turn.new.cpu (g.B.Bank.state c.begin_turn.new.cpu.bank) c.begin_turn.ensures c.task_stays.ensures.keeps e.script e.history e.legal e.stage e.private e.busy e.turns
 
 pub returns-in-Turn-clause-others : goal.returns-in-Turn-clause-others
 returns-in-Turn-clause-others g c =
@@ -31,4 +31,4 @@ returns-in-Turn-clause-others g c =
     let bank = g.B.Bank.state c.args.cpu.now.bank in
     let at = subst (λ (slot : Option Turn). IsAt script old c.args.number slot c.args.cpu.now bank) (sym c.in-None.ensures.value) c.requires.at in
     let e = c.in-Turn.ensures in
-    others_begun script old c.args.number c.in-Turn.turn c.args.cpu.now bank c.requires.run c.signals_known.ensures.threads at e.turn e.skip c.take-in-None.new.self c.begin_turn.result c.begin_turn.new.cpu (g.B.Bank.state c.begin_turn.new.cpu.bank) c.begin_turn.ensures e.script e.history e.stage e.private e.busy e.others e.turns g.row.B.Denot
+    others_begun script old c.args.number c.in-Turn.turn c.args.cpu.now bank c.requires.run c.signals_known.ensures.threads at e.turn e.skip c.take-in-None.new.self c.begin_turn.result c.begin_turn.new.cpu (g.B.Bank.state c.begin_turn.new.cpu.bank) c.begin_turn.ensures c.task_stays.ensures.keeps e.script e.history e.legal e.stage e.private e.busy e.turns c.turns_known.ensures.known g.row.B.Denot

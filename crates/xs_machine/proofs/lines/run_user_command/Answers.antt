@@ -2,10 +2,10 @@
 use Rattle.std.proofs.Common.{ℕ, List, length, ap, ◌∙◌, arith}
 use Rattle.xs_base.specs.File.{read_place}
 use Rattle.xs_base.specs.Register.{place_of}
-use Rattle.xs_base.specs.Task.{frame_length}
+use Rattle.xs_base.specs.Task.{frame_length, buffer_length}
 use Rattle.xs_machine.specs.Line.{after_get, after_set}
 use Rattle.xs_machine.proofs.Commands.{fits_within}
-use Rattle.xs_machine.proofs.RanLemmas.{set_ran, get_ran, section_ran, peek_ran, poke_ran}
+use Rattle.xs_machine.proofs.RanLemmas.{set_ran, get_ran, section_ran, peek_ran, bpeek_ran, poke_ran, bpoke_ran}
 use Rattle.xs_machine.proofs.lines.run_user_command.Goals as goal
 
 pub write_register-requires-clause-known : goal.write_register-requires-clause-known
@@ -58,3 +58,27 @@ returns-in-Poke g c =
     let known = rw c.in-Poke.is at c.requires.known in
     let e = c.poke.ensures in
     rw c.in-Poke.is (poke_ran c.args.cpu.now c.args.task.now c.poke.new.self (g.B.Bank.state c.args.cpu.now.bank) c.in-Poke.at c.in-Poke.bytes c.requires.set_up known c.requires.loaded e.others e.written e.len)
+
+pub peek-requires-in-Bpeek-clause-inside : goal.peek-requires-in-Bpeek-clause-inside
+peek-requires-in-Bpeek-clause-inside g c =
+    let known = rw c.in-Bpeek.is at c.requires.known in
+    omega (arith, (fits_within buffer_length c.in-Bpeek.at c.in-Bpeek.len known).0, c.requires.on.1.whole.buffer)
+
+pub peek-requires-in-Bpeek-clause-few : goal.peek-requires-in-Bpeek-clause-few
+peek-requires-in-Bpeek-clause-few g c =
+    let known = rw c.in-Bpeek.is at c.requires.known in
+    (fits_within buffer_length c.in-Bpeek.at c.in-Bpeek.len known).1
+
+pub poke-requires-in-Bpoke : goal.poke-requires-in-Bpoke
+poke-requires-in-Bpoke g c =
+    let known = rw c.in-Bpoke.is at c.requires.known in
+    omega (arith, (fits_within buffer_length c.in-Bpoke.at (length c.in-Bpoke.bytes) known.0).0, c.requires.on.1.whole.buffer)
+
+pub returns-in-Bpeek : goal.returns-in-Bpeek
+returns-in-Bpeek g c = rw c.in-Bpeek.is (bpeek_ran c.args.cpu.now c.args.task.now (g.B.Bank.state c.args.cpu.now.bank) c.in-Bpeek.at c.in-Bpeek.len c.peek-in-Bpeek.result c.requires.set_up c.requires.loaded c.peek-in-Bpeek.ensures)
+
+pub returns-in-Bpoke : goal.returns-in-Bpoke
+returns-in-Bpoke g c =
+    let known = rw c.in-Bpoke.is at c.requires.known in
+    let e = c.poke-in-Bpoke.ensures in
+    rw c.in-Bpoke.is (bpoke_ran c.args.cpu.now c.args.task.now c.poke-in-Bpoke.new.self (g.B.Bank.state c.args.cpu.now.bank) c.in-Bpoke.at c.in-Bpoke.bytes c.requires.set_up known c.requires.loaded e.others e.written e.len)

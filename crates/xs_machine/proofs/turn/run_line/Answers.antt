@@ -4,7 +4,6 @@ use Rattle.xs_model.specs.Script.{is_user}
 use Rattle.xs_board.specs.declared.turn.Entry.{Entry}
 use Rattle.xs_machine.proofs.LineLemmas.{block_known, back_here, place_here, layout_here, on_here, outside_here, handles_here, none_here, line_here, entry_here, handler_over, body_over, outer_over, refused_over, after_line, if_longer}
 use Rattle.xs_machine.proofs.ScriptLemmas.{line_found, known_line, built_line, kernel_line, place_fits, line_follows}
-use Rattle.xs_machine.proofs.Stages.{sent_line}
 use Rattle.xs_machine.proofs.EntryLemmas.{keeps_more, keeps_cpu}
 use Rattle.xs_machine.proofs.turn.run_line.Goals as goal
 
@@ -45,12 +44,9 @@ returns-then-is_outer-clause-after g c = λ t cpu first before start p are.
     let same : user ≡ is_user script t = c.is_user-user.ensures ∙ ap (is_user script) are.turning.name in
     let back = back_here script t cpu first before start items p c.args.task.now c.args.cpu.now bank are c.come_back.new.task c.come_back.new.cpu bank1 user same c.come_back.ensures in
     let at = line_here script t cpu first before start items p c.args.task.now c.args.cpu.now bank are c.come_back.new.task c.come_back.new.cpu bank1 user same c.come_back.ensures order c.in-Some.ensures in
-    let l = line_found script t p order at in
-    let found = c.lines_found.ensures script t l.lines p order c.requires.valid l.known l.at in
     let outer = sym c.is_outer.ensures ∙ c.if-is_outer.true in
     outer_over script t cpu first before start items p c.args.task.now c.come_back.new.task c.args.cpu.now c.come_back.new.cpu bank bank1 are back
-    order.number order.command found (sent_line order.command (built_line script c.requires.valid c.requires.built t p order at) outer)
-    (c.lines_follow.ensures.outer script t start items p (length items) order.number order are.run (record { at = at; number = refl; outer = outer }))
+    order.number (c.lines_follow.ensures.outer script t start items p (length items) order.number order are.run (record { at = at; number = refl; outer = outer }))
 
 pub returns-then-is_outer-clause-kept : goal.returns-then-is_outer-clause-kept
 returns-then-is_outer-clause-kept g c = keeps_cpu c.args.cpu.now c.come_back.new.cpu c.come_back.ensures.cpu
@@ -115,7 +111,7 @@ run_local-requires-clause-inside g c = λ returns.
     let same : user ≡ is_user script r.t = c.is_user-user.ensures ∙ ap (is_user script) r.running.turning.name in
     let at = line_here script r.t r.c r.first r.before r.start items r.private c.args.task.now c.args.cpu.now bank r.running c.come_back.new.task c.come_back.new.cpu bank1 user same c.come_back.ensures order c.in-Some.ensures in
     let l = line_found script r.t r.private order at in
-    let inside = c.signals_known.ensures.inside script r.t l.lines r.private order c.requires.valid l.known l.at returns in
+    let inside = c.named_known.ensures.inside script r.t l.lines r.private order c.requires.valid l.known l.at returns in
     handles_here script r.t r.c r.first r.before r.start items r.private c.args.task.now c.args.cpu.now bank r.running c.come_back.new.task c.come_back.new.cpu bank1 user same c.come_back.ensures inside
 
 pub run_local-requires-clause-fits : goal.run_local-requires-clause-fits
@@ -173,8 +169,8 @@ returns-clause-after g c = λ t cpu first before start p are.
     let bank2 = g.B.Bank.state c.run_local.new.cpu.bank in
     let reply = c.in-Ok.reply in
     let ran = c.in-Ok.ensures in
-    let built = built_line script c.requires.valid c.requires.built t p order at in
-    let entry = entry_here script t cpu first before start items p c.args.task.now c.args.cpu.now bank are c.come_back.new.task c.come_back.new.cpu bank1 user same c.come_back.ensures order reply c.run_local.new.task c.run_local.new.cpu bank2 at built (sym c.is_outer.ensures ∙ c.if-is_outer.false) ran in
+    let free = c.built_is_plain.ensures.lines p order.command (built_line script c.requires.valid c.requires.built t p order at) in
+    let entry = entry_here script t cpu first before start items p c.args.task.now c.args.cpu.now bank are c.come_back.new.task c.come_back.new.cpu bank1 user same c.come_back.ensures order reply c.run_local.new.task c.run_local.new.cpu bank2 at free (sym c.is_outer.ensures ∙ c.if-is_outer.false) ran in
     let e : Entry = record { line = order.number; reply = reply } in
     let done = rw same at ran in
     let close = rw c.len-ran.ensures.value at c.close_after.ensures in
