@@ -206,7 +206,7 @@ above_at c (b ∷ bs) zero h lt = h.0
 above_at c (b ∷ bs) (suc i) h lt = above_at c bs i h.1 (omega arith)
 
 -- a digit of the table is above the space
-above_hex_digit : (d : ℕ) → d < 16 → 32 < slice_index lower_digits d
+pub above_hex_digit : (d : ℕ) → d < 16 → 32 < slice_index lower_digits d
 above_hex_digit d lt = above_at 32 lower_digits d (above_literal 32 lower_digits refl) lt
 
 -- so are the digits of bytes
@@ -231,7 +231,7 @@ above_reply replies.Full h = above_literal 32 (codes "full") refl
 above_reply replies.Legacy h = above_literal 32 (codes "legacy") refl
 
 -- the first byte of the word of a reply, which no two kinds share
-reply_letter : Reply → ℕ
+unfoldable pub reply_letter : Reply → ℕ
 reply_letter replies.Done = 45
 reply_letter (replies.Bytes bytes) = 61
 reply_letter (replies.Count n) = 43

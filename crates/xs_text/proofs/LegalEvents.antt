@@ -1,6 +1,6 @@
 -- The events of a legal history have spellings.
-use Rattle.std.proofs.Common.{◌≡◌, ℕ, zero, suc, ◌+◌, ◌-◌, ◌<◌, ◌≤◌, ◌^◌, ◌==◌, Bool, true, false, not, ◌&&◌, nat_le, nat_lt, List, [], ◌∷◌, ◌++◌, length, get_or, take, drop, reverse, Option, Some, None, if◌then◌else◌, refl, sym, ap, subst, ◌∙◌, inl, inr, arith, length-drop}
-use Rattle.std.specs.Prelude.{slice_get, slice_range, ◌||◌}
+use Rattle.std.proofs.Common.{◌≡◌, ℕ, zero, suc, ◌+◌, ◌-◌, ◌<◌, ◌≤◌, ◌^◌, Bool, true, false, not, ◌&&◌, nat_le, nat_lt, List, [], ◌∷◌, ◌++◌, length, get_or, take, drop, reverse, Option, Some, None, if◌then◌else◌, refl, sym, ap, subst, ◌∙◌, inl, inr, arith, length-drop}
+use Rattle.std.specs.Prelude.{slice_get, slice_range}
 use Rattle.std.specs.List.{AllByRecursion}
 use Rattle.std.specs.Int.{to_le_bytes, w32}
 use Rattle.std.proofs.lemmas.Bool.{cases_Bool, and_parts}
@@ -17,8 +17,7 @@ use Rattle.xs_base.specs.declared.words.Set.TheVariants.{Xstate, Fx}
 use Rattle.xs_base.specs.Component.{component_count, component_size}
 use Rattle.xs_base.specs.File.{File, part, is_mxcsr, read_place}
 use Rattle.xs_base.specs.Frame.{Return, Full, LegacyOnly, Refused, return_of}
-use Rattle.xs_base.specs.Layout.{IsLayout}
-use Rattle.xs_base.specs.Register.{IsRegister, place_of}
+use Rattle.xs_base.specs.Register.{IsRegister}
 use Rattle.xs_base.specs.RegisterSet.{set_reply, set_size, set_byte, set_errno, set_result}
 use Rattle.xs_base.specs.Task.{PrivateTask, IsFileOf, IsPrivateTask, frame_length, buffer_length}
 use Rattle.xs_base.specs.Tile.{feature_error}
@@ -36,11 +35,11 @@ use Rattle.xs_model.specs.declared.event.Why.{Why}
 use Rattle.xs_model.specs.declared.event.Why.TheVariants as whys
 use Rattle.xs_model.specs.declared.stage.Stage.{Stage}
 use Rattle.xs_model.specs.declared.stage.Stage.TheVariants as stages
-use Rattle.xs_model.specs.Due.{due, block_event, turn_event, place_event, line_event, local_event, trap_event, start_due, block_start, large_count, how_of, signal_of, illegal, violation}
+use Rattle.xs_model.specs.Due.{due, block_event, turn_event, place_event, line_event, local_event, trap_event, block_start, large_count, how_of, signal_of, illegal, violation}
 use Rattle.xs_model.specs.Held.{held}
 use Rattle.xs_model.specs.History.{IsLegal}
-use Rattle.xs_model.specs.Line.{line_at, local_reply, return_reply, count_or_error, errno_number, traps, refusal}
-use Rattle.xs_model.specs.Machine.{IsLegalPast, IsMachineOf, IsStep, foreseen, machine}
+use Rattle.xs_model.specs.Line.{line_at, local_reply, return_reply, count_or_error, traps, refusal}
+use Rattle.xs_model.specs.Machine.{IsLegalPast, IsMachineOf, IsStep, machine}
 use Rattle.xs_model.specs.Outer.{outer_reply, child_reply, get_reply, put_reply, wait_reply, stage_reply, parent_lives, buffer_of}
 use Rattle.xs_model.specs.Script.{IsValid, IsBody, IsCommand, block_named, fits_memory, is_outer, is_user}
 use Rattle.xs_model.specs.State.{BlockState, Machine, is_parent, is_ready, is_stopped, has_turn, lives, parent_of, stage_at}

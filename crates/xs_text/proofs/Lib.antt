@@ -5,4 +5,10 @@ pub mod OneSpelling
 pub mod LegalEvents
 pub mod LastDigits
 pub mod HexDigits
+pub mod Cuts
+pub mod NumberText
+pub mod LaneText
+pub mod WordReads
+pub mod EventReads
+pub mod FirstBad
 mod WorkedLines

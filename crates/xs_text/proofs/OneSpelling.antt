@@ -30,7 +30,7 @@ above_kind (events.Kill task signo why) = above_literal 32 (codes "kill") refl
 above_kind (events.End task) = above_literal 32 (codes "end") refl
 
 -- its first byte, which no two kinds of events share
-kind_letter : Event → ℕ
+unfoldable pub kind_letter : Event → ℕ
 kind_letter (events.Start task cpu how signal) = 115
 kind_letter (events.Local task line reply) = 108
 kind_letter (events.Outer task line reply) = 111
@@ -68,7 +68,7 @@ line_is script (events.End task) = refl
 
 module _ (script : Script) (valid : IsValid script) where
   -- the name of a task
-  above_task : (task : ℕ) → task < length script.blocks → AllAbove 32 (name_of script task)
+  pub above_task : (task : ℕ) → task < length script.blocks → AllAbove 32 (name_of script task)
   above_task task h = above_name_at script.blocks task valid.names h
 
   -- Tasks with one name are one task.
@@ -85,7 +85,7 @@ module _ (script : Script) (valid : IsValid script) where
   above_more (events.End task) h = (above_task task h, tt)
 
   -- A line has no line feed.
-  above_line : (event : Event) → IsEvent script event → AllAbove 10 (event_line script event)
+  pub above_line : (event : Event) → IsEvent script event → AllAbove 10 (event_line script event)
   above_line event h =
       subst (AllAbove 10) (sym (line_is script event))
       (above_words (kind_word event) (more_words script event) (above_kind event) (above_more event h))
@@ -128,7 +128,7 @@ module _ (script : Script) (valid : IsValid script) where
       same_words a b h k cut.0 cut.1
 
   -- a history's text from its first event on
-  text_from : (event : Event) (later : List Event) → history_text script (event ∷ later) ≡ event_line script event ++ 10 ∷ history_text script later
+  pub text_from : (event : Event) (later : List Event) → history_text script (event ∷ later) ≡ event_line script event ++ 10 ∷ history_text script later
   text_from event later = append_assoc (event_line script event) (10 ∷ []) (history_text script later)
 
   -- Two histories with the same text are the same.

@@ -1,2 +1,3 @@
 -- The definitions of histories as texts.
 pub mod Text
+pub mod Reading

@@ -47,7 +47,7 @@ pub fn write_event(script: &Script, event: &Event, out: &mut Line)
 }
 
 /// The name of the task that is the block of this number.
-fn name_of(script: &Script, task: u32) -> &[u8]
+pub(crate) fn name_of(script: &Script, task: u32) -> &[u8]
     requires { task < length script.now.blocks }
     ensures name { result.now ≡ name_of script.now task }
     ensures len { length result.now ≤ 16 }
