@@ -5,6 +5,7 @@
 #![tactic(auto)]
 
 mod calls;
+mod handing;
 mod history;
 mod play;
 mod procs;
@@ -14,6 +15,8 @@ mod status;
 mod writing;
 
 pub use calls::{replay_call, top};
+pub use handing::hand_on;
 pub use procs::processors;
 pub use reading::{LIMIT, ReadError, read_up_to};
 pub use status::Status;
+pub use writing::write_all;

@@ -1,16 +1,14 @@
 //! `xstate`: runs a script of tasks on processors and writes its history.
 #![tactic(auto)]
 
-ghost use Rattle.std.specs.Prelude.{◌≡◌, [], ◌⊎◌, drop};
-ghost use Rattle.xs_io.specs.Causes.{Rose};
-ghost use Rattle.xs_io.specs.Standard.{buffered, sink_faults};
+ghost use Rattle.std.specs.Prelude.{◌≡◌, drop};
 
 use std::alloc::AllocError;
 use std::env;
-use std::io::{self, ErrorKind, Write};
+use std::io::{self, ErrorKind};
 use std::process::ExitCode;
 use xs_io::{StdSink, StdSource};
-use xs_top::{Status, processors, top};
+use xs_top::{Status, hand_on, processors, top};
 
 /// Takes the command line, standard input and standard output, and ends with the status of the top call.
 fn main(rt: HostRuntime) -> ExitCode {
@@ -53,26 +51,4 @@ fn answer_words(rt: &HostRuntime, words: &[String]) -> Status {
     let mut source = StdSource::new(rt.reader());
     let status = top(alloc, words, &mut source, &mut sink, &mut procs);
     hand_on(&mut sink, status)
-}
-
-/// Hands on what the sink holds back after a call with this status, since a sink that is dropped loses its error. Where that
-/// fails the output was not all taken, and the status is that of a failed write. After a failed write nothing more is handed on.
-/// Where reading failed or there was no memory, nothing was written, and the status stays.
-fn hand_on<W: Write + Drop>(sink: &mut StdSink<W>, status: Status) -> Status
-    // Another status than that of a failed write is the call's.
-    ensures same { (result ≡ Status.WriteFault → ⊥) → result ≡ status }
-    // That status is the call's, or the writer failed here.
-    ensures fault { result ≡ Status.WriteFault → (status ≡ Status.WriteFault) ⊎ Rose (sink_faults sink.old) (sink_faults sink.new) }
-    // Where the call wrote all that it was to write, the sink holds nothing back.
-    ensures handed { (result ≡ Status.Done) ⊎ (result ≡ Status.Killed) ⊎ (result ≡ Status.Refused) ⊎ (result ≡ Status.Usage) → buffered sink.new ≡ [] }
-    // The status of a call that wrote nothing stays.
-    ensures kept { (status ≡ Status.ReadFault) ⊎ (status ≡ Status.NoMemory) → result ≡ status }
-{
-    if status == Status::ReadFault || status == Status::NoMemory {
-        return status;
-    }
-    match sink.flush() {
-        Ok(()) => status,
-        Err(_) => Status::WriteFault,
-    }
 }

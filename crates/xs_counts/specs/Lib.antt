@@ -1,0 +1,3 @@
+-- The definitions of the program of counts: what it prints, and how its calls end.
+pub mod Text
+pub mod Answers
