@@ -55,6 +55,10 @@ pub enum LayerCall {
     CompactOf,
     /// `xs_area::copy_area`.
     CopyArea,
+    /// `xs_regset::get` of the Xstate set.
+    GetXstate,
+    /// `xs_regset::set` of the Xstate set.
+    SetXstate,
     /// A plain copy of as many bytes as the standard format has.
     Copy,
     /// A plain copy of as many bytes as the compacted format has without PKRU.
@@ -211,6 +215,8 @@ fn layer_call_of(word: &str) -> Option<LayerCall>
         "standard-of" => Some(LayerCall::StandardOf),
         "compact-of" => Some(LayerCall::CompactOf),
         "copy-area" => Some(LayerCall::CopyArea),
+        "get-xstate" => Some(LayerCall::GetXstate),
+        "set-xstate" => Some(LayerCall::SetXstate),
         "copy" => Some(LayerCall::Copy),
         "copy-compacted" => Some(LayerCall::CopyCompacted),
         "copy-small" => Some(LayerCall::CopySmall),

@@ -8,6 +8,7 @@ use crate::banks::repeat_bank_call;
 use crate::command::{BankCall, BankKind, Call, LayerCall};
 use crate::inputs::Inputs;
 use crate::lines::{repeat_line_copies, repeat_writes};
+use crate::sets::{repeat_get, repeat_set};
 use crate::signals::repeat_signal_call;
 use std::alloc::{AllocError, Global};
 use xs_area::{Area, Origin, compact_of, copy_area, read_standard, standard_of, stands, xstate_bv};
@@ -31,6 +32,8 @@ pub fn repeat(alloc: Global, call: Call, turns: u64) -> Result<Option<u64>, Allo
     match call {
         Call::Layer(LayerCall::WriteEvent) => repeat_writes(alloc, turns),
         Call::Layer(LayerCall::CopyEvent) => repeat_line_copies(alloc, turns),
+        Call::Layer(LayerCall::GetXstate) => repeat_get(alloc, turns),
+        Call::Layer(LayerCall::SetXstate) => repeat_set(alloc, turns),
         Call::Layer(call) => repeat_on_inputs(alloc, call, turns),
         Call::Bank(BankKind::Plain, call) => {
             repeat_on_bank(alloc, PlainBank::new(alloc), call, turns)

@@ -43,7 +43,7 @@ pub fn repeat_signal_call(
 }
 
 /// A task with an area of the class. None where a pool of one has none.
-fn task_with(alloc: Global, layout: &Layout, class: Class) -> Result<Option<Task>, AllocError>
+pub fn task_with(alloc: Global, layout: &Layout, class: Class) -> Result<Option<Task>, AllocError>
     ensures whole { IfOk result (λ task. IfSome task (IsTask layout.now)) }
     ensures parked { IfOk result (λ task. IfSome task (λ t. t.need_load ≡ true)) }
 {
