@@ -2,6 +2,7 @@
 import random
 
 from framing import Frame, draw_peek, draw_poke
+from tracing import change_buffer, change_order, draw_bpeek, draw_bpoke, draw_session, places_of, put_traces
 
 # The registers that are built, by their component: names and bytes.
 REGISTERS = {
@@ -16,7 +17,7 @@ REGISTERS = {
 # The extended components of `amx`: number, size, flags.
 EXTENDED = [(2, 256, 0), (5, 64, 0), (6, 512, 0), (7, 1024, 0), (9, 8, 0), (17, 64, 2), (18, 8192, 6)]
 # The first words of lines that aren't built: a changed line must not begin with one.
-UNBUILT = set("tilerelease perm bpeek bpoke stop wait getregs setregs cont".split())
+UNBUILT = set("tilerelease perm".split())
 UNBUILT_NAMES = ("tilecfg", "tmm")
 # Bytes of initial registers (FCW, MXCSR, PKRU, and zero), which name no block; and two for each of 64 blocks.
 INITIAL = set(bytes.fromhex("007f03801f5455"))
@@ -46,12 +47,12 @@ class Block:
 
 
 def draw_machine(rng):
-    """Lines of a machine, and the places of the components that it has, but TILEDATA's."""
+    """Lines of a machine, the places of the components that it has, but TILEDATA's, and where its last one ends."""
     kind = rng.choice(["amx", "amx", "avx", "rows"])
     if kind == "amx":
-        return ["machine amx"], {0: 0, 1: 160, 2: 576, 5: 1088, 6: 1152, 7: 1664, 9: 2688, 17: 2752}
+        return ["machine amx"], {0: 0, 1: 160, 2: 576, 5: 1088, 6: 1152, 7: 1664, 9: 2688, 17: 2752}, 11008
     if kind == "avx":
-        return ["machine avx"], {0: 0, 1: 160, 2: 576}
+        return ["machine avx"], {0: 0, 1: 160, 2: 576}, 832
     lines, places, at = ["machine rows", "row 0 160 0 0", "row 1 256 160 0"], {0: 0, 1: 160}, 576
     tiles = rng.random() < 0.5
     for number, size, flags in EXTENDED:
@@ -62,7 +63,7 @@ def draw_machine(rng):
         if number != 18:
             places[number] = at
         at += size
-    return lines, places
+    return lines, places, at
 
 
 def draw_bytes(rng, name, size):
@@ -86,6 +87,8 @@ def draw_line(rng, block, registers, frame, inside=False):
         return "yield" if kind < 0.5 else block.section(rng)
     if rng.random() < (0.4 if inside else 0.04):
         return rng.choice([draw_peek, draw_poke, draw_poke])(rng, frame, block.tag())
+    if rng.random() < 0.02:
+        return rng.choice([draw_bpeek, draw_bpoke])(rng, frame, block.tag())
     if kind < 0.12:
         return block.section(rng)
     if kind < 0.22:
@@ -141,9 +144,35 @@ def put_forks(rng, blocks):
             born.append(child)
 
 
+def draw_pair(rng, registers, frame, secrets):
+    """A tracer and its child, and nobody else."""
+    tracer, child = Block("task", "t", 0 if secrets else None), Block("child", "c", 1 if secrets else None)
+    for _ in range(rng.choice([1, 1, 2])):
+        child.body += [draw_line(rng, child, registers, frame) for _ in range(rng.randrange(3))] + ["stop"]
+    child.body += [draw_line(rng, child, registers, frame) for _ in range(rng.randrange(4))]
+    tracer.body = ["fork c"] + [line for group in draw_session(rng, frame, child, tracer.tag()) for line in group]
+    return [tracer, child]
+
+
+def draw_schedule(rng, cpus):
+    """Any lines of a schedule, or whole turns, of which most are on one processor."""
+    if rng.random() < 0.7:
+        return ["sched " + " ".join(str(rng.randrange(cpus)) for _ in range(rng.choice([1, 2, 3, 7, 20]))) for _ in range(rng.choice([0, 0, 1, 1, 2, 3]))]
+    most, turns = rng.randrange(cpus), rng.choice([5, 9, 14, 30])
+    return ["sched " + " ".join(f"{cpu} {cpu}" for cpu in [most if rng.random() < 0.75 else rng.randrange(cpus) for _ in range(turns)])]
+
+
+def keep_apart(rng, tracer):
+    """A schedule by which a tracer runs up to its first `cont` on processor 1, and its child before and after that on processor 0, mostly."""
+    words = [line.split(" ")[0] for line in tracer.body]
+    last = words.index("cont") if "cont" in words else len(words)
+    turns = sum(word in ("wait", "getregs", "setregs", "cont") for word in words[:last + 1])
+    return ["sched 1 1 0 0" + " 1 1" * max(1, turns + rng.choice([0, 0, 0, 0, 1, -1])) + " 0 0" * rng.choice([1, 2]) + " 1 1" * rng.choice([0, 1, 9])]
+
+
 def draw_script(rng, secrets):
-    """The lines of a script that isn't refused."""
-    machine, places = draw_machine(rng)
+    """The lines of a script that isn't refused. One in ten is a pair: a tracer and its child alone, on two processors."""
+    machine, places, full = draw_machine(rng)
     all_registers = [it for component in places if component in REGISTERS for it in REGISTERS[component]]
     registers = rng.sample(all_registers, min(len(all_registers), rng.choice([1, 2, 3, 5] if secrets else [2, 3, 5, 40])))
     if secrets and rng.random() < 0.5:
@@ -151,15 +180,20 @@ def draw_script(rng, secrets):
         registers.append(("xmm0", 16))
     if 9 in places and rng.random() < 0.6:
         registers += REGISTERS[9] * rng.choice([1, 2, len(registers)])
-    cpus = rng.choice([1, 1, 2, 2, 3, 4, 16, rng.randint(1, 16)])
-    lines = ["xstate 1"] + machine + [f"cpus {cpus}", f"quantum {rng.choice([1, 1, 2, 3, 8, rng.randint(1, 32)])}"]
-    lines.append(f"large {rng.choice([0, 0, 1, 64])}")
-    for _ in range(rng.choice([0, 0, 1, 1, 2, 3])):
-        lines.append("sched " + " ".join(str(rng.randrange(cpus)) for _ in range(rng.choice([1, 2, 3, 7, 20]))))
-    blocks = draw_blocks(rng, registers, Frame(places), secrets)
-    put_forks(rng, blocks)
-    put_kills(rng, blocks, secrets)
-    return lines + [line for block in blocks for line in block.lines()]
+    pair = rng.random() < 0.1
+    cpus = 2 if pair else rng.choice([1, 1, 2, 2, 3, 4, 16, rng.randint(1, 16)])
+    quantum = rng.choice([8, 32]) if pair else rng.choice([1, 1, 2, 3, 8, rng.randint(1, 32)])
+    lines = ["xstate 1"] + machine + [f"cpus {cpus}", f"quantum {quantum}", f"large {rng.choice([0, 0, 1, 64])}"]
+    frame = Frame(places, full, {component for component, its in REGISTERS.items() if set(its) & set(registers)})
+    if pair:
+        blocks = draw_pair(rng, registers, frame, secrets)
+        schedule = keep_apart(rng, blocks[0])
+    else:
+        blocks, schedule = draw_blocks(rng, registers, frame, secrets), draw_schedule(rng, cpus)
+        put_forks(rng, blocks)
+        put_traces(rng, blocks, frame)
+        put_kills(rng, blocks, secrets)
+    return lines + schedule + [line for block in blocks for line in block.lines()]
 
 
 def change_number(rng, line):
@@ -186,10 +220,6 @@ def change_text(rng, line):
 BLOCKS = ("task", "child", "kthread")
 
 
-def places_of(lines, *words):
-    return [i for i, line in enumerate(lines) if line.split(" ")[0] in words]
-
-
 def change_kill(rng, lines):
     """A `kill` of another block or signal, or one more at any place."""
     kills, blocks, others = places_of(lines, "kill"), places_of(lines, *BLOCKS), places_of(lines, "set", "get", "sigreturn", "end", "fork")
@@ -214,13 +244,14 @@ def change_handler(rng, lines):
     elif kind == 2 and places:
         lines.insert(rng.choice(places) + rng.choice([0, 1]), rng.choice(lines))
     elif places_of(lines, "handler"):
-        outer = [lines[at] for at in places_of(lines, "kill", "fork")] + ["kill zz 10", "fork zz"]
+        outer = [lines[at] for at in places_of(lines, "kill", "fork", "stop", "wait", "getregs", "setregs", "cont")]
+        outer += ["kill zz 10", "fork zz", "stop", "wait zz", "getregs zz fx", "setregs zz fx 0", "cont zz"]
         lines.insert(rng.choice(places_of(lines, "handler")) + 1, rng.choice(outer))
 
 
 def change_meaning(rng, lines):
     """A line that is spelled well and may still be refused: a number past its limit, a name twice, a register or bytes that don't fit."""
-    kind = rng.choice(["limit"] * 2 + ["fork"] * 3 + ["kill"] * 3 + ["handler"] * 2 + ["frame"] * 2 + ["sched", "name", "register", "bytes", "row", "pkru"])
+    kind = rng.choice(["limit"] * 2 + ["fork"] * 3 + ["kill"] * 3 + ["handler"] * 2 + ["frame"] * 2 + ["buffer"] * 2 + ["trace"] * 6 + ["sched", "name", "register", "bytes", "row", "pkru"])
     if kind == "limit":
         at = rng.choice(places_of(lines, "cpus", "quantum", "large") or [0])
         lines[at] = lines[at].split(" ")[0] + " " + rng.choice(["0", "1", "2", "16", "17", "32", "33", "64", "65", "4294967295", "4294967296"])
@@ -246,6 +277,10 @@ def change_meaning(rng, lines):
         change_kill(rng, lines)
     elif kind == "handler":
         change_handler(rng, lines)
+    elif kind == "buffer":
+        change_buffer(rng, lines)
+    elif kind == "trace":
+        change_order(rng, lines)
     elif kind == "frame":
         at = rng.choice(places_of(lines, "peek", "poke", "get", "set", "yield") or [len(lines) - 1])
         place, size = rng.choice([16324, 16325, 16387, 16388, 4294967295]), rng.choice([0, 1, 63, 64, 65])
@@ -294,7 +329,8 @@ def change_lines(rng, lines):
             "get xmm16", "get k8", "get zmm15", "set k0 00", "set mxcsr 801f0100", "get ymmh0", "ksec 0102", "ksec a", "ksec AA", "yield",
             "sched", "sched 0", "sched 16", "cpus 0", "cpus 2", "quantum 1", "task a0", "kthread a0", "child a0", "fork a0", "fork", "fork A",
             "child", "get pkru", "end", "row 2 256 576 0", "xstate 1", "handler", "sigreturn", "kill a0 10", "kill a0 9", "kill",
-            "peek 0 64", "peek 0 65", "poke 16387 00", "poke 16388 00",
+            "peek 0 64", "peek 0 65", "poke 16387 00", "poke 16388 00", "bpeek 0 64", "bpeek 0 65", "bpoke 16383 00", "bpoke 16384 00",
+            "stop", "wait a0", "getregs a0 fx", "setregs a0 xstate 16384", "setregs a0 xstate 16385", "cont a0",
         ]))
     else:
         lines = change_meaning(rng, lines)

@@ -6,15 +6,20 @@ MAGIC1, MAGIC2 = "53585046", "45585046"
 
 
 class Frame:
-    """The frame of a machine: the place of each component but TILEDATA, and the user size, that of a task without room for TILEDATA."""
+    """The frame of a machine: the place of each component but TILEDATA, the user size, that of a task without room for TILEDATA, the full size,
+    that of a register set, and the components whose registers a script uses."""
 
-    def __init__(self, places):
-        self.places = places
+    def __init__(self, places, full, chosen):
+        self.places, self.full, self.chosen = places, full, chosen
         self.size = max([576] + [at + SIZES[component] for component, at in places.items() if component > 1])
 
     def ranges(self):
         """Where registers stand, without MXCSR and its mask."""
         return [(0, 24), (32, 128)] + [(at, SIZES[component]) for component, at in self.places.items() if component]
+
+    def chosen_ranges(self):
+        """The same, of the components whose registers a script uses, or of all where it uses x87 alone."""
+        return [(at, SIZES[component]) for component, at in self.places.items() if component and component in self.chosen] or self.ranges()
 
 
 def within(rng, at, size):

@@ -76,7 +76,7 @@ class Signals(Situations):
         self.cpu, self.turn, self.handler, self.poked, self.signals, self.ended = {}, {}, {}, set(), collections.defaultdict(set), set()
         steps = {"start": self.start, "kill ": self.send, "fork": self.fork, "local": self.line, "kill": self.refuse, "end": self.end}
         for event in story.events:
-            steps[story.kind_of(event)](event, event[1])
+            steps.get(story.kind_of(event), lambda event, name: None)(event, event[1])
 
     def start(self, event, name):
         signal, handler = event[4], self.handler.get(name)
@@ -130,3 +130,108 @@ class Signals(Situations):
     def end(self, event, name):
         self.where(self.signals[name], "an end with a signal pending")
         self.ended.add(name)
+
+
+class Tracing(Situations):
+    """The situations of tracers and stopped children. Of each block: its stage and, while it waits, for whom; on which processor its latest turn
+    was and whether it ended in a section; which sets came since; whether it was let go; which lines it waits and continues with. Of each processor: the user task
+    that was started last, unless a section followed."""
+
+    def __init__(self, story):
+        super().__init__(story)
+        self.stage, self.waits, self.cpu, self.section, self.held = {}, {}, {}, {}, {}
+        self.sets, self.freed, self.blocked, self.conts = collections.defaultdict(set), set(), {}, collections.Counter()
+        steps = {"start": self.start, "local": self.local, "stop": self.stop, "wait": self.wait, "getregs": self.read, "setregs": self.write,
+                 "cont": self.go_on, "kill ": self.send, "fork": self.fork, "end": self.end, "kill": self.end}
+        for event in story.events:
+            steps[story.kind_of(event)](event, event[1])
+
+    def start(self, event, name):
+        _, _, cpu, how, signal = event
+        kept = self.cpu.get(name) == cpu and self.held.get(cpu) == name and not self.section.get(name)
+        self.where(kept and "accepted" in self.sets[name], "a load behind an accepted set, where a skip would have come")
+        self.where(how == "skip" and self.sets[name], "a skip behind refused sets")
+        self.where(signal != "-" and name in self.freed, "a delivery to a child that goes on")
+        self.where(signal != "-" and name in self.blocked, "a delivery before a wait is tried again")
+        self.where(name in self.freed and how != "kern" and self.cpu.get(name, cpu) != cpu, "a child goes on on another processor")
+        self.stage[name], self.cpu[name], self.section[name] = "turn", cpu, False
+        self.sets[name].clear()
+        self.freed.discard(name)
+        if how != "kern":
+            self.held[cpu] = name
+
+    def local(self, event, name):
+        line = self.story.line(event)
+        self.section[name] = line.startswith("ksec")
+        if self.section[name]:
+            self.held[self.cpu[name]] = None
+        self.where(line == "bpeek 512 2" and event[3] != "=0000", "marks that are read")
+
+    def fork(self, event, name):
+        self.stage[self.story.line(event).split(" ")[1]] = "ready"
+
+    def wake(self, name, what):
+        parent = self.story.parent.get(name)
+        self.where(self.stage.get(parent) == "waiting" and self.waits[parent] != name, f"{what} while the parent waits for another child")
+        if self.stage.get(parent) == "waiting" and self.waits[parent] == name:
+            self.stage[parent] = "ready"
+            self.at.add(f"{what} that makes the parent ready")
+
+    def stop(self, event, name):
+        parent = self.story.parent.get(name)
+        if event[3] == "-":
+            self.where(parent, "a stop behind the parent's end", "a stop of a root task")
+            return
+        self.at.add("a stop")
+        self.where(parent in self.story.parent, "a stop of a child's child")
+        self.where(self.stage.get(parent) == "stopped", "a stop of a child whose parent is stopped")
+        self.where(self.stage.get(parent) == "turn", "a stop while the parent has a turn on another processor")
+        self.where(name in self.story.parent.values(), "a stop of a task with children")
+        self.wake(name, "a stop")
+        self.stage[name] = "stopped"
+
+    def wait(self, event, name):
+        child = self.story.line(event).split(" ")[1]
+        self.at.add(f"a wait answers {event[3]}")
+        if event[3] == "blocked":
+            self.stage[name], self.waits[name], self.blocked[name] = "waiting", child, child
+        elif self.blocked.pop(name, None):
+            self.at.add(f"a wait that was blocked answers {event[3]}")
+
+    def read(self, event, name):
+        _, child, which = self.story.line(event).split(" ")
+        self.at.add(f"getregs {which} answers " + ("+" if event[3].startswith("+") else event[3]))
+        self.where(self.stage.get(child) == "stopped" and child not in self.cpu, "getregs before the first turn")
+
+    def write(self, event, name):
+        _, child, which, _ = self.story.line(event).split(" ")
+        self.at.add(f"setregs {which} answers " + ("+" if event[3].startswith("+") else event[3]))
+        self.sets[child].add("accepted" if event[3].startswith("+") else "refused")
+
+    def go_on(self, event, name):
+        child = self.story.line(event).split(" ")[1]
+        self.at.add(f"cont answers {event[3]}")
+        if event[3] == "+0":
+            self.conts[child] += 1
+            self.where(self.conts[child] > 1, "a cont behind another")
+            self.stage[child] = "ready"
+            self.freed.add(child)
+
+    def send(self, event, name):
+        stage = self.stage.get(self.story.line(event).split(" ")[1])
+        self.where(stage in ("stopped", "waiting"), f"a signal to a {stage} task")
+
+    def end(self, event, name):
+        what = "an end" if event[0] == "end" else "a kill"
+        stopped = [child for child, parent in self.story.parent.items() if parent == name and self.stage.get(child) == "stopped"]
+        self.where(stopped, f"{what} that frees a stopped child")
+        self.where(len(stopped) > 1, "several stopped children freed at once")
+        self.where(stopped and self.waits.get(self.story.parent.get(name)) == name and self.stage.get(self.story.parent.get(name)) == "waiting",
+                   "a waiting parent and a stopped child freed at once")
+        self.wake(name, what)
+        self.freed.update(stopped)
+        self.stage.update({child: "ready" for child in stopped})
+        self.stage[name] = "ended"
+
+
+SITUATIONS = (Reach, Signals, Tracing)
