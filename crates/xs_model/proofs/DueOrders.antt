@@ -107,6 +107,27 @@ grow_line m t ran u task (Some order) is = by_tests (is_outer order.command) (tr
 pub grow_small : (m : Machine) (t ran u : ℕ) (task : PrivateTask) (order : Option Order) → place_event m t ran task order ≡ Some (Grow u) → task.large ≡ false
 grow_small m t ran u task order is = let line = grow_line m t ran u task order is in small task line.0.command line.2
 
+-- a Grow of a line that traps tells that an area is free
+trap_free : (may free : Bool) (t u : ℕ) → Some (if not may then Kill t illegal whys.Permission else (if free then Grow t else Kill t violation whys.Area)) ≡ Some (Grow u) → free ≡ true
+trap_free false free t u is = absurd (cc)
+trap_free true true t u is = refl
+trap_free true false t u is = absurd (cc)
+
+-- so does each Grow
+pub grow_free : (m : Machine) (t ran u : ℕ) (task : PrivateTask) (order : Option Order) → place_event m t ran task order ≡ Some (Grow u) → nat_lt (large_count m.blocks) m.script.large ≡ true
+grow_free m t ran u task None is = within (nat_lt ran m.script.quantum && not task.handling) is
+  where
+    within : (b : Bool) → (if b then Some (End t) else None) ≡ Some (Grow u) → nat_lt (large_count m.blocks) m.script.large ≡ true
+    within true is = absurd (cc)
+    within false is = absurd (cc)
+grow_free m t ran u task (Some order) is = by_tests (is_outer order.command) (traps task order.command) is
+  where
+    by_tests : (outer trap : Bool) → (if outer then Some (Outer t order.number (outer_reply m.script m.blocks t order.command)) else (if trap then Some (trap_event m t task) else local_event m t ran task order (refusal task order.command))) ≡ Some (Grow u)
+        → nat_lt (large_count m.blocks) m.script.large ≡ true
+    by_tests true trap is = absurd (cc)
+    by_tests false true is = trap_free task.permitted (nat_lt (large_count m.blocks) m.script.large) t u is
+    by_tests false false is = absurd (local_no_grow m t ran u task order (refusal task order.command) is)
+
 -- ---- an outer line
 
 -- An outer event is that of the line at the place.

@@ -16,9 +16,8 @@ mod ReadyCounts
 mod ReadySteps
 mod RiserLaws
 mod DuePlaces
-mod BuiltBlocks
+mod EachBlock
 mod NameLaws
-mod BuiltSteps
 mod UnseenLaws
 mod StepLaws
 mod OuterBlocks
@@ -54,3 +53,6 @@ mod SignalLaws
 mod PendingLaws
 mod QuietLaws
 mod Unscheduled
+mod LargeTasks
+mod LargeAreas
+mod LargeUsers

@@ -15,7 +15,7 @@ use Rattle.xs_model.specs.State.{BlockState, Machine}
 use Rattle.xs_model.specs.Outer.{outer_reply}
 use Rattle.xs_model.specs.Due.{illegal, violation, large_count, trap_event, local_event, place_event, due}
 use Rattle.xs_model.proofs.DuePlaces.{due_inverse}
-use Rattle.xs_model.proofs.BuiltBlocks.{all_at}
+use Rattle.xs_model.proofs.EachBlock.{all_at}
 
 -- The order at a place, of a local event of this number.
 pub record LocalOrder (block : Block) (task : PrivateTask) (line : ℕ) : Type 0 where

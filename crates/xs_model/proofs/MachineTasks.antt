@@ -30,7 +30,7 @@ use Rattle.xs_model.proofs.LineNumbers.{lines_found}
 use Rattle.xs_model.proofs.Touched.{Touched, Stays, Wakes, Frees, Continues, Signals, Takes, Fills, Bears, Alike, reach_touches}
 use Rattle.xs_model.proofs.LegalTurns.{machine_script}
 use Rattle.xs_model.proofs.MachineShape.{many_blocks}
-use Rattle.xs_model.proofs.BuiltBlocks.{all_at, all_changed}
+use Rattle.xs_model.proofs.EachBlock.{all_at, all_changed}
 use Rattle.xs_model.proofs.LocalLines.{due_local, order_valid}
 use Rattle.xs_model.proofs.TaskSets.{set_valid}
 use Rattle.xs_model.proofs.TaskLines.{local_valid, left_valid, killed_valid}

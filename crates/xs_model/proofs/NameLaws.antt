@@ -12,7 +12,7 @@ use Rattle.xs_model.specs.declared.script.Order.{Order}
 use Rattle.xs_model.specs.declared.script.Script.{Script}
 use Rattle.xs_model.specs.Names.{block_of, is_child, has_handler, is_fork_of, is_forked, NamesBlock, AreNamedAfter, AreNamed, forked_name, forked_names, all_forked_names}
 use Rattle.xs_model.specs.Script.{AreDistinct, IsValid, block_named}
-use Rattle.xs_model.proofs.BuiltBlocks.{all_at}
+use Rattle.xs_model.proofs.EachBlock.{all_at}
 use Rattle.xs_model.proofs.LineNumbers.{in_first, in_second}
 
 -- ---- the block of a name

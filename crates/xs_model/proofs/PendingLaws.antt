@@ -21,7 +21,7 @@ use Rattle.xs_model.specs.Outer.{bear, born, insert, buffer_filled, outer_own}
 use Rattle.xs_model.specs.Machine.{later_signals, goes_on, ran_in, ran_line, own, reach, machine}
 use Rattle.xs_model.specs.Laws.{ArePending, PendingRise}
 use Rattle.xs_model.proofs.Touched.{Touched, Stays, Wakes, Frees, Continues, Signals, Takes, Fills, Bears, Alike, reach_touches}
-use Rattle.xs_model.proofs.BuiltBlocks.{all_at, all_changed}
+use Rattle.xs_model.proofs.EachBlock.{all_at, all_changed}
 
 -- ---- the order of pending signals
 

@@ -29,7 +29,7 @@ use Rattle.xs_model.proofs.LegalTurns.{machine_script}
 use Rattle.xs_model.proofs.DuePlaces.{due_inverse}
 use Rattle.xs_model.proofs.DueOrders.{outer_at}
 use Rattle.xs_model.proofs.EventTurns.{filled_stage, started_stage}
-use Rattle.xs_model.proofs.BuiltBlocks.{all_at, all_changed, all_map}
+use Rattle.xs_model.proofs.EachBlock.{all_at, all_changed, all_map}
 use Rattle.xs_model.proofs.PendingLaws.{filled_pending}
 
 -- who doesn't live has no pending signal

@@ -6,14 +6,14 @@ use Rattle.std.specs.Prelude.{Option, Some, None, slice_get}
 use Rattle.std.specs.Option.{option_map}
 use Rattle.xs_model.specs.declared.script.Command.{Command}
 use Rattle.xs_model.specs.declared.script.Script.{Script}
-use Rattle.xs_model.specs.declared.event.Event.TheVariants.{Local}
+use Rattle.xs_model.specs.declared.event.Event.TheVariants.{Local, Grow}
 use Rattle.xs_model.specs.declared.stage.Stage.{Stage}
 use Rattle.xs_model.specs.declared.stage.Stage.TheVariants.{Unborn, Ready, Turn, Stopped, Waiting, Ended}
 use Rattle.xs_model.specs.Script.{command_at}
 use Rattle.xs_model.specs.State.{BlockState, is_ready, changed}
 use Rattle.xs_model.specs.Machine.{goes_on, ran_line, own, machine}
 use Rattle.xs_model.specs.Ready.{was_waiting, was_idle, was_in_turn, risen, risers, ready_list}
-use Rattle.xs_model.specs.Effects.{StartTakes, LocalKeeps, LocalRises}
+use Rattle.xs_model.specs.Effects.{StartTakes, LocalKeeps, LocalRises, GrowRises}
 use Rattle.xs_model.proofs.LegalTurns.{machine_script}
 use Rattle.xs_model.proofs.Touched.{Alike, alike_same, Both, alike_at}
 use Rattle.xs_model.proofs.EventTurns.{changed_same, changed_other}
@@ -221,3 +221,10 @@ local_rises script past t line cpu ran reply block lines command turn at goes =
     let ends : (ran_line m.script (command_at m.script t line) block).stage ≡ Ready =
     ap (λ (c : Option Command). (ran_line m.script c block).stage) found ∙ line_ends m.script command block cpu ran turn.stage more in
     ap (λ (list : List ℕ). ready_list script past ++ list) (over_self t f m.blocks m.blocks (alike_same SameStage (λ b. refl) m.blocks) (alone_over t Ready f m.blocks block cpu ran turn.state turn.stage ends))
+
+-- a Grow makes its block ready
+pub grow_rises : GrowRises
+grow_rises script past t cpu ran block lines turn =
+    let m = machine script past in
+    let f = own m.script (Grow t) in
+    ap (λ (list : List ℕ). ready_list script past ++ list) (over_self t f m.blocks m.blocks (alike_same SameStage (λ b. refl) m.blocks) (alone_over t Ready f m.blocks block cpu ran turn.state turn.stage refl))

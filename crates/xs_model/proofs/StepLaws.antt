@@ -1,7 +1,7 @@
 -- Which events are steps, and what they make of the blocks.
-use Rattle.std.proofs.Common.{◌≡◌, ℕ, zero, suc, ◌<◌, true, false, List, [], ◌∷◌, map, refl, ap, ◌∙◌}
+use Rattle.std.proofs.Common.{◌≡◌, ℕ, zero, suc, ◌<◌, Bool, true, false, not, List, [], ◌∷◌, map, refl, ap, ◌∙◌}
 use Rattle.std.proofs.lemmas.Bool.{lt-ltb, ne_eqb}
-use Rattle.std.specs.Prelude.{Option, Some, None, slice_get, nat_lt}
+use Rattle.std.specs.Prelude.{Option, Some, None, slice_get, nat_lt, if◌then◌else◌}
 use Rattle.std.specs.Option.{option_map}
 use Rattle.xs_base.specs.Task.{PrivateTask}
 use Rattle.xs_model.specs.declared.script.Command.{Command}
@@ -10,17 +10,19 @@ use Rattle.xs_model.specs.declared.script.Block.{Block}
 use Rattle.xs_model.specs.declared.script.Script.{Script}
 use Rattle.xs_model.specs.declared.event.Reply.{Reply}
 use Rattle.xs_model.specs.declared.event.Why.{Why}
+use Rattle.xs_model.specs.declared.event.Why.TheVariants as whys
 use Rattle.xs_model.specs.declared.event.Event.{Event}
-use Rattle.xs_model.specs.declared.event.Event.TheVariants.{Start, Local, Outer, Kill, End}
+use Rattle.xs_model.specs.declared.event.Event.TheVariants.{Start, Local, Outer, Grow, Kill, End}
 use Rattle.xs_model.specs.Script.{is_outer, command_at, is_user}
 use Rattle.xs_model.specs.Line.{traps, refusal}
+use Rattle.xs_model.specs.Note.{task_of}
 use Rattle.xs_model.specs.Held.{held}
-use Rattle.xs_model.specs.State.{BlockState, turn_cpu, is_on_cpu, changed}
+use Rattle.xs_model.specs.State.{BlockState, Machine, turn_cpu, is_on_cpu, changed}
 use Rattle.xs_model.specs.Outer.{freed, outer_reply, reach_of, outer_reach, outer_own}
-use Rattle.xs_model.specs.Due.{how_of, signal_of, due, start_due}
-use Rattle.xs_model.specs.Machine.{started, ran_line, own, machine}
-use Rattle.xs_model.specs.Laws.{MachineKnown, StartIsStep, LocalIsStep, OuterIsStep, RefusalIsStep, EndIsStep, FreeTells, FreeFound}
-use Rattle.xs_model.specs.Effects.{StartedBlock, RanBlock, EndedBlock, KilledBlock, StartOthers, LocalOthers, EndOthers, KilledOthers}
+use Rattle.xs_model.specs.Due.{illegal, violation, large_count, trap_event, how_of, signal_of, due, start_due}
+use Rattle.xs_model.specs.Machine.{started, ran_line, grew, own, may_act, foreseen, machine}
+use Rattle.xs_model.specs.Laws.{MachineKnown, StartIsStep, LocalIsStep, OuterIsStep, RefusalIsStep, TrapIsStep, EndIsStep, FreeTells, FreeFound}
+use Rattle.xs_model.specs.Effects.{StartedBlock, RanBlock, EndedBlock, KilledBlock, GrewBlock, StartOthers, LocalOthers, GrowOthers, EndOthers, KilledOthers}
 use Rattle.xs_model.proofs.LegalTurns.{machine_script, machine_past, none_else}
 use Rattle.xs_model.proofs.MachineShape.{many_blocks}
 use Rattle.xs_model.proofs.EventTurns.{changed_same, changed_other}
@@ -97,6 +99,36 @@ refusal_is_step script past t cpu ran block lines order why acts turn at refused
     let quiet = both.1 in
     record { acts = acts; is_due = rw (here, known, stage, at, inner, quiet, refused) refl }
 
+-- a line that traps isn't outer
+trap_inner : (task : PrivateTask) (command : Command) → traps task command ≡ true → is_outer command ≡ false
+trap_inner task (commands.Get reg) trap = refl
+trap_inner task (commands.Set reg bytes) trap = refl
+trap_inner task other trap = absurd (cc)
+
+-- its event is one of the block
+trap_acts : (may free : Bool) (t : ℕ) → task_of (if not may then Kill t illegal whys.Permission else (if free then Grow t else Kill t violation whys.Area)) ≡ t
+trap_acts false free t = refl
+trap_acts true true t = refl
+trap_acts true false t = refl
+
+-- and is foreseen where it is due
+trap_foreseen : (m : Machine) (may free : Bool) (t : ℕ) → foreseen m (if not may then Kill t illegal whys.Permission else (if free then Grow t else Kill t violation whys.Area)) ≡ due m t
+trap_foreseen m false free t = refl
+trap_foreseen m true true t = refl
+trap_foreseen m true false t = refl
+
+-- the event of a line that traps is a step
+pub trap_is_step : TrapIsStep
+trap_is_step script past t cpu ran block lines order acts turn at trap =
+    let m = machine script past in
+    let here = turn.state in
+    let known = lines_there script past t lines turn.lines_are in
+    let stage = turn.stage in
+    let inner = trap_inner block.task order.command trap in
+    let is : due m t ≡ Some (trap_event m t block.task) = rw (here, known, stage, at, inner, trap) refl in
+    let free = nat_lt (large_count m.blocks) m.script.large in
+    record { acts = ap (may_act m.committing) (trap_acts block.task.permitted free t) ∙ acts; is_due = trap_foreseen m block.task.permitted free t ∙ is }
+
 -- ---- free processors
 
 -- a free processor has no block's turn
@@ -127,6 +159,10 @@ ran_block script past t line reply block here =
     let m = machine script past in
     changed_same t (own m.script (Local t line reply)) m.blocks ∙ ap (option_map (own m.script (Local t line reply))) here
     ∙ ap (λ (s : Script). Some (ran_line s (command_at s t line) block)) (machine_script script past)
+
+-- a Grow's own block
+pub grew_block : GrewBlock
+grew_block script past t block here = changed_same t grew (machine script past).blocks ∙ ap (option_map grew) here
 
 -- the blocks after an outer line
 pub after_outer : (script : Script) (past : List Event) (t line : ℕ) (reply : Reply) (command : Command) → command_at script t line ≡ Some command
@@ -162,6 +198,10 @@ start_others script past t cpu v how signal other = changed_other t v (started c
 -- a local line leaves the others
 pub local_others : LocalOthers
 local_others script past t line v reply other = let m = machine script past in changed_other t v (own m.script (Local t line reply)) m.blocks other
+
+-- a Grow leaves the others
+pub grow_others : GrowOthers
+grow_others script past t v other = changed_other t v grew (machine script past).blocks other
 
 -- an end frees the others
 pub end_others : EndOthers

@@ -10,7 +10,7 @@ use Rattle.xs_model.specs.declared.script.Script.{Script}
 use Rattle.xs_model.specs.declared.event.Reply.{Reply}
 use Rattle.xs_model.specs.declared.event.Why.{Why}
 use Rattle.xs_model.specs.declared.event.Event.{Event}
-use Rattle.xs_model.specs.declared.event.Event.TheVariants.{Start, Local, Outer, Kill, End}
+use Rattle.xs_model.specs.declared.event.Event.TheVariants.{Start, Local, Outer, Grow, Kill, End}
 use Rattle.xs_model.specs.declared.stage.Stage.{Stage}
 use Rattle.xs_model.specs.declared.stage.Stage.TheVariants.{Unborn, Ready, Turn, Stopped, Waiting, Ended}
 use Rattle.xs_model.specs.Script.{IsValid, block_named, command_at}
@@ -18,7 +18,7 @@ use Rattle.xs_model.specs.Line.{killed}
 use Rattle.xs_model.specs.Note.{is_count}
 use Rattle.xs_model.specs.State.{BlockState, is_stopped, stage_at, parent_of, is_parent}
 use Rattle.xs_model.specs.Outer.{is_held, is_blocked, woken, continued, freed, born, signalled, buffer_of, registers_set, buffer_filled, outer_own}
-use Rattle.xs_model.specs.Machine.{started, goes_on, ran_line, ended_with, machine, IsLegalPast}
+use Rattle.xs_model.specs.Machine.{started, goes_on, ran_line, grew, ended_with, machine, IsLegalPast}
 use Rattle.xs_model.specs.Ready.{ready_list}
 use Rattle.xs_model.specs.Laws.{IsInTurn}
 
@@ -65,9 +65,14 @@ abbrev pub KilledBlock : Type 0
 KilledBlock = (script : Script) (past : List Event) (t : ℕ) (signo : Signo) (why : Why) (block : BlockState) → slice_get (machine script past).blocks t ≡ Some block
     → slice_get (machine script (Kill t signo why ∷ past)).blocks t ≡ Some (ended_with (killed why block.task) block)
 
+-- The block of a Grow is ready again, with room for TILEDATA.
+abbrev pub GrewBlock : Type 0
+GrewBlock = (script : Script) (past : List Event) (t : ℕ) (block : BlockState) → slice_get (machine script past).blocks t ≡ Some block
+    → slice_get (machine script (Grow t ∷ past)).blocks t ≡ Some (grew block)
+
 -- ---- what it makes of the others
 
--- A Start and a local line leave them. An end and a kill wake the parent that waits, and let the stopped children go on.
+-- A Start, a local line and a Grow leave them. An end and a kill wake the parent that waits, and let the stopped children go on.
 abbrev pub StartOthers : Type 0
 StartOthers = (script : Script) (past : List Event) (t cpu other : ℕ) (how : How) (signal : Option Signo) → (t ≡ other → ⊥)
     → slice_get (machine script (Start t cpu how signal ∷ past)).blocks other ≡ slice_get (machine script past).blocks other
@@ -75,6 +80,10 @@ StartOthers = (script : Script) (past : List Event) (t cpu other : ℕ) (how : H
 abbrev pub LocalOthers : Type 0
 LocalOthers = (script : Script) (past : List Event) (t line other : ℕ) (reply : Reply) → (t ≡ other → ⊥)
     → slice_get (machine script (Local t line reply ∷ past)).blocks other ≡ slice_get (machine script past).blocks other
+
+abbrev pub GrowOthers : Type 0
+GrowOthers = (script : Script) (past : List Event) (t other : ℕ) → (t ≡ other → ⊥)
+    → slice_get (machine script (Grow t ∷ past)).blocks other ≡ slice_get (machine script past).blocks other
 
 abbrev pub EndOthers : Type 0
 EndOthers = (script : Script) (past : List Event) (t u : ℕ) (block : BlockState) → (t ≡ u → ⊥) → slice_get (machine script past).blocks u ≡ Some block
@@ -102,6 +111,11 @@ abbrev pub LocalRises : Type 0
 LocalRises = (script : Script) (past : List Event) (t line cpu ran : ℕ) (reply : Reply) (block : BlockState) (lines : Block) (command : Command)
     → IsInTurn script past t cpu ran block lines → command_at script t line ≡ Some command → goes_on script command ran ≡ false
     → ready_list script (Local t line reply ∷ past) ≡ ready_list script past ++ t ∷ []
+
+-- A Grow makes its own block ready, and no other.
+abbrev pub GrowRises : Type 0
+GrowRises = (script : Script) (past : List Event) (t cpu ran : ℕ) (block : BlockState) (lines : Block) → IsInTurn script past t cpu ran block lines
+    → ready_list script (Grow t ∷ past) ≡ ready_list script past ++ t ∷ []
 
 -- the block waits for block t
 abbrev pub is_waiting_for : ℕ → Stage → Bool

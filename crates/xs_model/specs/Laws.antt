@@ -1,8 +1,9 @@
 -- The laws of the machine, as statements. Those of whole runs are in Runs.antt.
-use Rattle.std.specs.Prelude.{◌≡◌, ℕ, ◌<◌, ◌≤◌, true, false, ◌&&◌, ◌==◌, List, [], ◌∷◌, ◌++◌, length, slice_get, Some, None}
-use Rattle.std.specs.List.{AllByRecursion}
+use Rattle.std.specs.Prelude.{◌≡◌, ℕ, ◌+◌, ◌<◌, ◌≤◌, Bool, true, false, ◌&&◌, ◌==◌, List, [], ◌∷◌, ◌++◌, length, slice_get, Some, None}
 use Rattle.xs_base.specs.declared.words.Signo.{Signo}
-use Rattle.xs_base.specs.Task.{PrivateTask}
+use Rattle.xs_base.specs.declared.component.Row.{Row}
+use Rattle.xs_base.specs.Layout.{IsLayout}
+use Rattle.xs_base.specs.Task.{PrivateTask, IsPrivateTask}
 use Rattle.xs_model.specs.declared.script.Command.{Command}
 use Rattle.xs_model.specs.declared.script.Command.TheVariants as commands
 use Rattle.xs_model.specs.declared.script.Order.{Order}
@@ -11,16 +12,16 @@ use Rattle.xs_model.specs.declared.script.Script.{Script}
 use Rattle.xs_model.specs.declared.event.Reply.{Reply}
 use Rattle.xs_model.specs.declared.event.Why.{Why}
 use Rattle.xs_model.specs.declared.event.Event.{Event}
-use Rattle.xs_model.specs.declared.event.Event.TheVariants.{Start, Local, Outer, Kill, End}
+use Rattle.xs_model.specs.declared.event.Event.TheVariants.{Start, Local, Outer, Grow, Kill, End}
 use Rattle.xs_model.specs.Names.{named_block}
-use Rattle.xs_model.specs.Script.{IsValid, IsBuilt, IsBuiltCommand, is_outer, is_return, block_named, command_at, is_user}
-use Rattle.xs_model.specs.Line.{line_at, local_reply, traps, refusal}
+use Rattle.xs_model.specs.Script.{IsValid, IsCommand, is_outer, is_return, block_named, command_at, is_user}
+use Rattle.xs_model.specs.Line.{line_at, local_reply, local_after, traps, refusal}
 use Rattle.xs_model.specs.Note.{Sets, task_of, act_of, notes_of, is_at, cpu_of, mark, last}
 use Rattle.xs_model.specs.Held.{sets_block, held}
 use Rattle.xs_model.specs.declared.stage.Stage.TheVariants.{Unborn, Ready, Turn, Waiting}
 use Rattle.xs_model.specs.State.{BlockState, is_ready, lives, is_active, stage_at, task_at, turn_of, has_turn, parent_of, none_lives}
 use Rattle.xs_model.specs.Outer.{outer_reply}
-use Rattle.xs_model.specs.Due.{violation, how_of, signal_of}
+use Rattle.xs_model.specs.Due.{violation, large_count, trap_event, how_of, signal_of}
 use Rattle.xs_model.specs.Machine.{may_act, IsStep, machine, IsLegalPast, IsMachineOf}
 use Rattle.xs_model.specs.Ready.{one_if, occurs, ready_list}
 use Rattle.xs_model.specs.Counts.{is_event_on, counts_of, remains}
@@ -165,6 +166,11 @@ MachineKnown = (script : Script) (past : List Event)
 abbrev pub TasksValid : Type 0
 TasksValid = (script : Script) (past : List Event) → IsValid script → IsLegalPast script past → IsMachineOf script (machine script past)
 
+-- A local line that doesn't trap leaves a valid private task.
+abbrev pub LinesValid : Type 0
+LinesValid = (rows : List Row) (task : PrivateTask) (command : Command) → IsLayout rows → IsPrivateTask rows task → IsCommand rows command
+    → traps task command ≡ false → IsPrivateTask rows (local_after task command)
+
 -- The Start of a ready block on a free processor is a step.
 abbrev pub StartIsStep : Type 0
 StartIsStep = (script : Script) (past : List Event) (t cpu : ℕ) (block : BlockState)
@@ -192,6 +198,13 @@ RefusalIsStep = (script : Script) (past : List Event) (t cpu ran : ℕ) (block :
     → may_act (machine script past).committing t ≡ true → IsInTurn script past t cpu ran block lines
     → line_at lines block.task ≡ Some order → refusal block.task order.command ≡ Some why
     → IsStep (machine script past) (Kill t violation why)
+
+-- The event of a line that traps is a step, however many Local events the turn has made: the task grows, or is killed.
+abbrev pub TrapIsStep : Type 0
+TrapIsStep = (script : Script) (past : List Event) (t cpu ran : ℕ) (block : BlockState) (lines : Block) (order : Order)
+    → may_act (machine script past).committing t ≡ true → IsInTurn script past t cpu ran block lines
+    → line_at lines block.task ≡ Some order → traps block.task order.command ≡ true
+    → IsStep (machine script past) (trap_event (machine script past) t block.task)
 
 -- The end of a body within the quantum is a step.
 abbrev pub EndIsStep : Type 0
@@ -234,6 +247,49 @@ abbrev pub WaitsForChild : Type 0
 WaitsForChild = (script : Script) (past : List Event) (u child : ℕ) → IsValid script → IsLegalPast script past
     → stage_at (machine script past).blocks u ≡ Waiting child → parent_of (slice_get (machine script past).blocks child) ≡ Some u
 
+-- ---- Large areas
+
+-- the event makes a task grow, or ends it
+abbrev pub is_of_areas : Event → Bool
+is_of_areas (Start t cpu how signal) = false
+is_of_areas (Local t line reply) = false
+is_of_areas (Outer t line reply) = false
+is_of_areas (Grow t) = true
+is_of_areas (Kill t signo why) = true
+is_of_areas (End t) = true
+
+-- No other event changes how many living blocks have room for TILEDATA. A Grow makes them one more, and the end of such a block
+-- one fewer.
+abbrev pub LargeStays : Type 0
+LargeStays = (script : Script) (past : List Event) (event : Event) → IsLegalPast script (event ∷ past) → is_of_areas event ≡ false
+    → large_count (machine script (event ∷ past)).blocks ≡ large_count (machine script past).blocks
+
+abbrev pub LargeGrows : Type 0
+LargeGrows = (script : Script) (past : List Event) (t : ℕ) → IsLegalPast script (Grow t ∷ past)
+    → large_count (machine script (Grow t ∷ past)).blocks ≡ large_count (machine script past).blocks + 1
+
+abbrev pub LargeEnds : Type 0
+LargeEnds = (script : Script) (past : List Event) (t : ℕ) (block : BlockState) → IsLegalPast script (End t ∷ past) → slice_get (machine script past).blocks t ≡ Some block
+    → large_count (machine script (End t ∷ past)).blocks + one_if block.task.large ≡ large_count (machine script past).blocks
+
+abbrev pub LargeKilled : Type 0
+LargeKilled = (script : Script) (past : List Event) (t : ℕ) (signo : Signo) (why : Why) (block : BlockState) → IsLegalPast script (Kill t signo why ∷ past) → slice_get (machine script past).blocks t ≡ Some block
+    → large_count (machine script (Kill t signo why ∷ past)).blocks + one_if block.task.large ≡ large_count (machine script past).blocks
+
+-- A line that traps is one of a user task.
+abbrev pub TrapOfUser : Type 0
+TrapOfUser = (script : Script) (t : ℕ) (lines : Block) (task : PrivateTask) (order : Order) → IsValid script → slice_get script.blocks t ≡ Some lines
+    → line_at lines task ≡ Some order → traps task order.command ≡ true → is_user script t ≡ true
+
+-- A block with room for TILEDATA is a user task that was born.
+abbrev pub LargeKnown : Type 0
+LargeKnown = (script : Script) (past : List Event) (t : ℕ) (block : BlockState) → IsValid script → IsLegalPast script past
+    → slice_get (machine script past).blocks t ≡ Some block → block.task.large ≡ true → (is_user script t ≡ true) × (block.stage ≡ Unborn → ⊥)
+
+-- There are never more such living blocks than Large areas of the script.
+abbrev pub FewLarge : Type 0
+FewLarge = (script : Script) (past : List Event) → IsLegalPast script past → large_count (machine script past).blocks ≤ script.large
+
 -- ---- signals and lines
 
 -- An outer line stands in a body: no handler runs at it. A return stands in a handler, which runs.
@@ -273,15 +329,7 @@ abbrev pub QuietUnlessAlive : Type 0
 QuietUnlessAlive = (script : Script) (past : List Event) (t : ℕ) (block : BlockState) → IsValid script → IsLegalPast script past
     → slice_get (machine script past).blocks t ≡ Some block → lives block.stage ≡ false → block.pending ≡ []
 
--- ---- scripts of the forms of this version
-
--- No block of such a script has room for TILEDATA.
-abbrev pub BuiltBlocks : Type 0
-BuiltBlocks = (script : Script) (past : List Event) → IsBuilt script → IsLegalPast script past → AllByRecursion (λ (block : BlockState). block.task.large ≡ false) (machine script past).blocks
-
--- No line of it traps.
-abbrev pub BuiltLines : Type 0
-BuiltLines = (task : PrivateTask) (command : Command) → IsBuiltCommand command → traps task command ≡ false
+-- ---- runs
 
 -- While a block lives, one is ready or in a turn.
 abbrev pub NeverStuck : Type 0

@@ -1,18 +1,18 @@
 -- Scripts: which values are scripts. Every limit and every rule of names here is this project's own.
 use Rattle.std.specs.Prelude.{◌≡◌, ℕ, ◌+◌, ◌<◌, ◌≤◌, Bool, true, false, not, ◌&&◌, ◌||◌, ◌==◌, nat_le, List, [], ◌∷◌, ◌++◌, length, map, drop, bytes_eq, slice_get, Option, Some, None}
-use Rattle.std.specs.List.{list_all, list_any, flat_map, find, position_or_len, AllByRecursion}
+use Rattle.std.specs.List.{list_all, flat_map, find, position_or_len, AllByRecursion}
 use Rattle.xs_base.specs.declared.component.Row.{Row}
 use Rattle.xs_base.specs.declared.component.Place.{Place}
 use Rattle.xs_base.specs.File.{is_mxcsr}
 use Rattle.xs_base.specs.Layout.{IsLayout, amx_rows, avx_rows}
-use Rattle.xs_base.specs.Register.{IsNamed, IsRegister}
+use Rattle.xs_base.specs.Register.{IsRegister}
 use Rattle.xs_base.specs.Task.{frame_length, buffer_length}
 use Rattle.xs_model.specs.declared.script.Named.{Named}
 use Rattle.xs_model.specs.declared.script.Named.TheVariants.{Amx, Avx, Rows}
 use Rattle.xs_model.specs.declared.script.BlockKind.{BlockKind}
 use Rattle.xs_model.specs.declared.script.BlockKind.TheVariants.{Task, Child, Kthread}
 use Rattle.xs_model.specs.declared.script.Command.{Command}
-use Rattle.xs_model.specs.declared.script.Command.TheVariants.{Set, Get, Tilerelease, Perm, Ksec, Yield, Peek, Poke, Bpeek, Bpoke, Sigreturn, Fork, Kill, Stop, Wait, Getregs, Setregs, Cont}
+use Rattle.xs_model.specs.declared.script.Command.TheVariants.{Set, Get, Ksec, Yield, Peek, Poke, Bpeek, Bpoke, Sigreturn, Fork, Kill, Stop, Wait, Getregs, Setregs, Cont}
 use Rattle.xs_model.specs.declared.script.Order.{Order}
 use Rattle.xs_model.specs.declared.script.Block.{Block}
 use Rattle.xs_model.specs.declared.script.Script.{Script}
@@ -202,33 +202,3 @@ is_user_block (Some block) = is_user_kind block.kind
 -- the block is a user task
 abbrev pub is_user : Script → ℕ → Bool
 is_user script t = is_user_block (slice_get script.blocks t)
-
--- ---- what this version runs
-
--- the components whose registers the program has: x87, SSE, AVX, opmask, ZMM_Hi256, Hi16_ZMM, PKRU
-abbrev pub built_components : List ℕ
-built_components = 0 ∷ 1 ∷ 2 ∷ 5 ∷ 6 ∷ 7 ∷ 9 ∷ []
-
--- A register that the program has. MXCSR's place is in component 1.
-abbrev pub is_built : Place → Bool
-is_built place = list_any (λ c. c == place.comp.0) built_components
-
--- the name is that of a register that the program has
-abbrev pub IsBuiltName : List ℕ → Type 0
-IsBuiltName reg = (place : Place) × IsNamed reg place × (is_built place ≡ true)
-
--- a command that the program has
-abbrev pub IsBuiltCommand : Command → Type 0
-IsBuiltCommand (Set reg bytes) = IsBuiltName reg
-IsBuiltCommand (Get reg) = IsBuiltName reg
-IsBuiltCommand Tilerelease = ⊥
-IsBuiltCommand (Perm feature) = ⊥
-IsBuiltCommand other = Unit {0}
-
-abbrev pub AreBuilt : List Order → Type 0
-AreBuilt orders = AllByRecursion (λ (order : Order). IsBuiltCommand order.command) orders
-
--- A script of the forms of this version: the lines of its bodies and of its handlers are commands that the program has.
-pub record IsBuilt (script : Script) : Type 0 where
-  pub bodies : AllByRecursion (λ (block : Block). AreBuilt block.body) script.blocks
-  pub handlers : AllByRecursion (λ (block : Block). AreBuilt block.handler) script.blocks

@@ -1,7 +1,7 @@
 //! The laws of the machine, for proofs: a caller has a law by calling its function, which does nothing.
 
-ghost use Rattle.xs_model.specs.Laws.{LinesFound, TurnsKnown, TurnsApart, TurnsMarked, TwoNumbers, ReadyOnce, FirstReady, NobodyReady, BuiltBlocks, BuiltLines, MarkUnseen, CountsUnseen, RemainsUnseen, LastUnseen, HeldUnseen, MachineKnown, TasksValid, StartIsStep, LocalIsStep, EndIsStep, FreeTells, FreeFound, OuterOutside, ReturnInside, OuterOfUser, NamedUser, ThreadsQuiet, PendingRise, QuietUnlessAlive, TaskStays, OthersKeep, WaitsForChild, NeverStuck, FewEvents, ForkBears, BornByFork, UnbornUnseen, OuterIsStep, RefusalIsStep};
-ghost use Rattle.xs_model.specs.Effects.{StartedBlock, RanBlock, OuterOwn, OuterOther, EndedBlock, KilledBlock, StartOthers, LocalOthers, EndOthers, KilledOthers, StartTakes, LocalKeeps, LocalRises, OuterRises, EndRises, KillRises};
+ghost use Rattle.xs_model.specs.Laws.{LinesFound, TurnsKnown, TurnsApart, TurnsMarked, TwoNumbers, ReadyOnce, FirstReady, NobodyReady, MarkUnseen, CountsUnseen, RemainsUnseen, LastUnseen, HeldUnseen, MachineKnown, TasksValid, StartIsStep, LocalIsStep, EndIsStep, FreeTells, FreeFound, OuterOutside, ReturnInside, OuterOfUser, NamedUser, ThreadsQuiet, PendingRise, QuietUnlessAlive, TaskStays, OthersKeep, WaitsForChild, NeverStuck, FewEvents, ForkBears, BornByFork, UnbornUnseen, OuterIsStep, RefusalIsStep, TrapIsStep, LargeStays, LargeGrows, LargeEnds, LargeKilled, FewLarge, LargeKnown, TrapOfUser, LinesValid};
+ghost use Rattle.xs_model.specs.Effects.{StartedBlock, RanBlock, OuterOwn, OuterOther, EndedBlock, KilledBlock, StartOthers, LocalOthers, EndOthers, KilledOthers, StartTakes, LocalKeeps, LocalRises, OuterRises, EndRises, KillRises, GrewBlock, GrowOthers, GrowRises};
 ghost use Rattle.xs_model.specs.Runs.{OneReplay, TurnsShort, NeverIdle, MachineUnscheduled, LegalUnscheduled, WholeUnscheduled, MarkUnscheduled, CountsUnscheduled, RemainsUnscheduled};
 
 /// A line of a valid script is found by its number.
@@ -29,29 +29,37 @@ pub fn ready_once()
     ensures nobody { NobodyReady }
 {}
 
-/// Whom an event makes ready: a Start nobody, a local line its own block where it ends the turn, an outer line whom it lets go on
-/// and then its own block where that goes on, and an end or a kill the parent that waits and then the stopped children.
+/// Whom an event makes ready: a Start nobody, a local line its own block where it ends the turn, a Grow its own block, an outer
+/// line whom it lets go on and then its own block where that goes on, and an end or a kill the parent that waits and then the
+/// stopped children.
 pub fn risers_known()
     ensures start { StartTakes }
     ensures goes_on { LocalKeeps }
     ensures ends { LocalRises }
     ensures outer { OuterRises }
+    ensures grow { GrowRises }
     ensures end { EndRises }
     ensures kill { KillRises }
 {}
 
-/// A script of the forms of this version has small blocks, and lines that don't trap.
-pub fn built_is_plain()
-    ensures blocks { BuiltBlocks }
-    ensures lines { BuiltLines }
+/// How many living blocks have room for TILEDATA after an event, that they are at most as many as the script's Large areas, and
+/// that each is a user task.
+pub fn large_known()
+    ensures stays { LargeStays }
+    ensures grows { LargeGrows }
+    ensures ends { LargeEnds }
+    ensures killed { LargeKilled }
+    ensures few { FewLarge }
+    ensures known { LargeKnown }
 {}
 
-/// Where lines stand that reach another block or return from a handler, and whom they name.
+/// Where lines stand that reach another block or return from a handler, whom they name, and whose lines trap.
 pub fn named_known()
     ensures outer { OuterOutside }
     ensures inside { ReturnInside }
     ensures user { OuterOfUser }
     ensures named { NamedUser }
+    ensures trap { TrapOfUser }
 {}
 
 /// Which signals are pending of a block.
@@ -94,14 +102,16 @@ pub fn unseen_stays()
 pub fn machine_known()
     ensures known { MachineKnown }
     ensures valid { TasksValid }
+    ensures lines { LinesValid }
 {}
 
-/// Which Start, local line, outer line, refused return and end is a step.
+/// Which Start, local line, outer line, refused return, line that traps and end is a step.
 pub fn steps_known()
     ensures start { StartIsStep }
     ensures local { LocalIsStep }
     ensures outer { OuterIsStep }
     ensures refused { RefusalIsStep }
+    ensures trap { TrapIsStep }
     ensures end { EndIsStep }
 {}
 
@@ -116,10 +126,12 @@ pub fn blocks_known()
     ensures started { StartedBlock }
     ensures ran { RanBlock }
     ensures outer { OuterOwn }
+    ensures grew { GrewBlock }
     ensures ended { EndedBlock }
     ensures killed { KilledBlock }
     ensures start_others { StartOthers }
     ensures local_others { LocalOthers }
+    ensures grow_others { GrowOthers }
     ensures outer_others { OuterOther }
     ensures end_others { EndOthers }
     ensures kill_others { KilledOthers }

@@ -17,7 +17,7 @@ pub use bound::most_events;
 pub use event::{Event, History, Reply, Why};
 pub use items::Items;
 pub use laws::{
-    a_fork_bears, blocks_known, built_is_plain, few_events, free_processors_known, lines_found,
+    a_fork_bears, blocks_known, few_events, free_processors_known, large_known, lines_found,
     machine_known, named_known, never_idle, never_stuck, one_replay, ready_once, risers_known,
     schedule_unseen, signals_known, steps_known, task_stays, turns_known, two_numbers,
     unseen_stays, waits_known,

@@ -1,5 +1,5 @@
 use Rattle.xs_model.proofs.OuterBlocks.{outer_own_block, outer_other_block}
-use Rattle.xs_model.proofs.StepLaws.{started_block, ran_block, ended_block, killed_block, start_others, local_others, end_others, killed_others}
+use Rattle.xs_model.proofs.StepLaws.{started_block, ran_block, grew_block, ended_block, killed_block, start_others, local_others, grow_others, end_others, killed_others}
 use Rattle.xs_model.proofs.laws.blocks_known.Goals as goal
 
 pub returns-clause-started : goal.returns-clause-started
@@ -31,3 +31,9 @@ returns-clause-end_others c = end_others
 
 pub returns-clause-kill_others : goal.returns-clause-kill_others
 returns-clause-kill_others c = killed_others
+
+pub returns-clause-grew : goal.returns-clause-grew
+returns-clause-grew c = grew_block
+
+pub returns-clause-grow_others : goal.returns-clause-grow_others
+returns-clause-grow_others c = grow_others

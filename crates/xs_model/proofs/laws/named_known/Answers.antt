@@ -1,3 +1,4 @@
+use Rattle.xs_model.proofs.LargeUsers.{trap_of_user}
 use Rattle.xs_model.proofs.SignalLaws.{outer_outside, return_inside, outer_of_user, named_user}
 use Rattle.xs_model.proofs.laws.named_known.Goals as goal
 
@@ -12,3 +13,6 @@ returns-clause-user c = outer_of_user
 
 pub returns-clause-named : goal.returns-clause-named
 returns-clause-named c = named_user
+
+pub returns-clause-trap : goal.returns-clause-trap
+returns-clause-trap c = trap_of_user

@@ -1,5 +1,5 @@
 use Rattle.xs_model.proofs.OuterRisers.{outer_rises, end_rises, kill_rises}
-use Rattle.xs_model.proofs.RiserLaws.{start_takes, local_keeps, local_rises}
+use Rattle.xs_model.proofs.RiserLaws.{start_takes, local_keeps, local_rises, grow_rises}
 use Rattle.xs_model.proofs.laws.risers_known.Goals as goal
 
 pub returns-clause-start : goal.returns-clause-start
@@ -19,3 +19,6 @@ returns-clause-end c = end_rises
 
 pub returns-clause-kill : goal.returns-clause-kill
 returns-clause-kill c = kill_rises
+
+pub returns-clause-grow : goal.returns-clause-grow
+returns-clause-grow c = grow_rises
