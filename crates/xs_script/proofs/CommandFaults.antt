@@ -13,15 +13,10 @@ use Rattle.xs_model.specs.Script.{fits_register}
 use Rattle.xs_script.specs.declared.commands.Scope.{Scope}
 use Rattle.xs_script.specs.declared.refusal.Kind.{Kind}
 use Rattle.xs_script.specs.Before.{Before}
-use Rattle.xs_script.specs.Refusal.{register_of, name_fault, CommandFails, Unknown, Unbuilt, Misnamed}
+use Rattle.xs_script.specs.Refusal.{register_of, name_fault, CommandFails, Misnamed}
 use Rattle.xs_script.specs.ScriptLine.{kept_bytes}
-use Rattle.xs_script.specs.Commands.{RegisterFails, NoRegister, Unready, PassesCommand}
+use Rattle.xs_script.specs.Commands.{PassesCommand}
 use Rattle.xs_script.proofs.Kept.{kept_same_bytes, kept_long}
-
--- A command fails by its register.
-pub register_fails : (scope : Scope) (before : Before) (command : Command) (reg : List ℕ) (kind : Kind) → register_of command ≡ Some reg → RegisterFails scope.layout reg kind → CommandFails scope before command kind
-register_fails scope before command reg _ named (NoRegister none) = Unknown command reg named none
-register_fails scope before command reg _ named (Unready place here unready) = Unbuilt command reg place named here unready
 
 -- nothing is wrong with a command without a register where nothing is with the block that it names
 passes_named : (scope : Scope) (before : Before) (command : Command) → register_of command ≡ None → name_fault scope before command ≡ None → PassesCommand scope before command

@@ -51,6 +51,8 @@ lacks_command (commands.Set reg bytes) fits =
     (lacks_both reg (encode_lower bytes) (Lacks-register 10 reg refl fits.0) (Lacks-hex 10 bytes refl fits.2))
 lacks_command (commands.Get reg) fits = Lacks-append 10 (codes "get ") reg (lacks_word (codes "get ") refl) (Lacks-register 10 reg refl fits)
 lacks_command (commands.Ksec byte) fits = Lacks-append 10 (codes "ksec ") (encode_lower (byte ∷ [])) (lacks_word (codes "ksec ") refl) (Lacks-hex 10 (byte ∷ []) refl (fits, tt))
+lacks_command commands.Tilerelease fits = lacks_word (codes "tilerelease") refl
+lacks_command (commands.Perm feature) fits = Lacks-append 10 (codes "perm ") (decimal feature) (lacks_word (codes "perm ") refl) (lacks_feed feature fits)
 lacks_command commands.Yield fits = lacks_word (codes "yield") refl
 lacks_command (commands.Peek at len) fits =
     Lacks-append 10 (codes "peek ") (decimal at ++ 32 ∷ decimal len) (lacks_word (codes "peek ") refl)
@@ -76,7 +78,6 @@ lacks_command (commands.Setregs name set count) fits =
     Lacks-append 10 (codes "setregs ") (name ++ 32 ∷ (set_word set ++ 32 ∷ decimal count)) (lacks_word (codes "setregs ") refl)
     (lacks_both name (set_word set ++ 32 ∷ decimal count) (Lacks-name 10 name refl refl fits.0) (lacks_both (set_word set) (decimal count) (Lacks-set 10 set refl refl) (lacks_feed count fits.1)))
 lacks_command (commands.Cont name) fits = Lacks-append 10 (codes "cont ") name (lacks_word (codes "cont ") refl) (Lacks-name 10 name refl refl fits)
-lacks_command other fits = absurd fits
 
 -- ---- commands of one text are of one kind
 
@@ -104,7 +105,8 @@ command_kind (commands.Wait name) = 12
 command_kind (commands.Getregs name set) = 13
 command_kind (commands.Setregs name set count) = 14
 command_kind (commands.Cont name) = 15
-command_kind other = 16
+command_kind commands.Tilerelease = 16
+command_kind (commands.Perm feature) = 17
 
 -- the same, read from the first word
 abbrev pub command_kind_of : List ℕ → ℕ
@@ -125,7 +127,9 @@ command_kind_of bs =
     else if begins (codes "getregs ") bs then 13
     else if begins (codes "setregs ") bs then 14
     else if begins (codes "cont ") bs then 15
-    else 16
+    else if begins (codes "tilerelease") bs then 16
+    else if begins (codes "perm ") bs then 17
+    else 18
 
 pub command_kind_is : (k : Command) → command_kind_of (command_text k) ≡ command_kind k
 command_kind_is (commands.Set reg bytes) = refl
@@ -144,7 +148,8 @@ command_kind_is (commands.Wait name) = refl
 command_kind_is (commands.Getregs name set) = refl
 command_kind_is (commands.Setregs name set count) = refl
 command_kind_is (commands.Cont name) = refl
-command_kind_is other = refl
+command_kind_is commands.Tilerelease = refl
+command_kind_is (commands.Perm feature) = refl
 
 -- ---- commands of one text are equal
 
@@ -239,6 +244,8 @@ one_command (commands.Get a) (commands.Get b) f g e = ap commands.Get (append_ca
 one_command (commands.Ksec a) (commands.Ksec b) f g e =
     let same = one_hex (a ∷ []) (b ∷ []) (f, tt) (g, tt) (append_cancel_left (codes "ksec ") (encode_lower (a ∷ [])) (encode_lower (b ∷ [])) e) in
     cc same
+one_command commands.Tilerelease commands.Tilerelease f g e = refl
+one_command (commands.Perm a) (commands.Perm b) f g e = ap commands.Perm (one_number (codes "perm ") a b f g e)
 one_command commands.Yield commands.Yield f g e = refl
 one_command (commands.Peek a x) (commands.Peek b y) f g e =
     let s = one_peek a b x y f g e in

@@ -247,10 +247,7 @@ entries_or_none (suc fuel) (b ∷ bs) room = elim (cases_eq b 32) [
 
 -- the text of one byte, or of none
 byte_or_none : (bytes : List ℕ) → IsDecided (IsTextOf ℕ (λ n. n < 256) (λ n. encode_lower (n ∷ [])) bytes)
-byte_or_none bytes = elim (some_below (λ n. bytes ≡ encode_lower (n ∷ [])) (λ n. same_bytes bytes (encode_lower (n ∷ []))) 256) [
-  | inl h ↦ inl (h.0, h.1, h.2)
-  | inr other ↦ inr (λ h. other (h.0, h.1, h.2))
-]
+byte_or_none bytes = some_below (λ n. bytes ≡ encode_lower (n ∷ [])) (λ n. same_bytes bytes (encode_lower (n ∷ []))) 256
 
 -- what is decided by one thing or else by another
 or_else : (A B : Type 0) → IsDecided A → (A → B) → ((A → ⊥) → IsDecided B) → IsDecided B
@@ -272,6 +269,7 @@ record IsOther (bytes : List ℕ) : Type 0 where
   set : IsTextOf (List ℕ × List ℕ) (λ p. (is_register_word p.0 ≡ true) × IsValue p.1) (λ p. codes "set " ++ (p.0 ++ 32 ∷ encode_lower p.1)) bytes → ⊥
   get : IsTextOf (List ℕ) (λ x. is_register_word x ≡ true) (λ x. codes "get " ++ x) bytes → ⊥
   ksec : IsTextOf ℕ (λ n. n < 256) (λ n. codes "ksec " ++ encode_lower (n ∷ [])) bytes → ⊥
+  perm : IsTextOf ℕ IsNumber (λ n. codes "perm " ++ decimal n) bytes → ⊥
   fork : IsTextOf (List ℕ) (λ x. is_name x ≡ true) (λ x. codes "fork " ++ x) bytes → ⊥
   peek : IsTextOf (ℕ × ℕ) (λ p. IsNumber p.0 × IsNumber p.1) (λ p. codes "peek " ++ (decimal p.0 ++ 32 ∷ decimal p.1)) bytes → ⊥
   poke : IsTextOf (ℕ × List ℕ) (λ p. IsNumber p.0 × IsValue p.1) (λ p. codes "poke " ++ (decimal p.0 ++ 32 ∷ encode_lower p.1)) bytes → ⊥
@@ -286,6 +284,7 @@ record IsOther (bytes : List ℕ) : Type 0 where
   returns : bytes ≡ codes "sigreturn" → ⊥
   handler : bytes ≡ codes "handler" → ⊥
   yields : bytes ≡ codes "yield" → ⊥
+  release : bytes ≡ codes "tilerelease" → ⊥
   last : bytes ≡ codes "end" → ⊥
 
 -- so they are the text of no line
@@ -303,6 +302,8 @@ no_line_of bytes o (lines.Begin blocks.Kthread name) fits e = o.kthread (name, f
 no_line_of bytes o (lines.Order (commands.Set reg value)) fits e = o.set ((reg, value), (fits.0, (fits.1, fits.2)), e)
 no_line_of bytes o (lines.Order (commands.Get reg)) fits e = o.get (reg, fits, e)
 no_line_of bytes o (lines.Order (commands.Ksec byte)) fits e = o.ksec (byte, fits, e)
+no_line_of bytes o (lines.Order commands.Tilerelease) fits e = o.release e
+no_line_of bytes o (lines.Order (commands.Perm feature)) fits e = o.perm (feature, fits, e)
 no_line_of bytes o (lines.Order commands.Yield) fits e = o.yields e
 no_line_of bytes o (lines.Order (commands.Fork name)) fits e = o.fork (name, fits, e)
 no_line_of bytes o (lines.Order (commands.Peek at len)) fits e = o.peek ((at, len), (fits.0, fits.1), e)
@@ -316,7 +317,6 @@ no_line_of bytes o (lines.Order (commands.Setregs name set count)) fits e = o.se
 no_line_of bytes o (lines.Order (commands.Cont name)) fits e = o.cont (name, fits, e)
 no_line_of bytes o (lines.Order commands.Sigreturn) fits e = o.returns e
 no_line_of bytes o (lines.Order (commands.Kill name signo)) fits e = o.kill ((name, signo.number), (fits, signal_number signo), e)
-no_line_of bytes o (lines.Order other) fits e = absurd fits
 no_line_of bytes o (lines.NoSignal name number) fits e = o.kill ((name, number), (fits.0, fits.1), e)
 no_line_of bytes o lines.Handler fits e = o.handler e
 no_line_of bytes o lines.End fits e = o.last e
@@ -337,6 +337,7 @@ line_or_none bytes =
     or_else _ _ (word_and (codes "set ") (List ℕ × List ℕ) (λ p. (is_register_word p.0 ≡ true) × IsValue p.1) (λ p. p.0 ++ 32 ∷ encode_lower p.1) register_or_none bytes) (λ h. (lines.Order (commands.Set h.0.0 h.0.1), (h.1.0, h.1.1.0, h.1.1.1), h.2)) (λ set.
     or_else _ _ (word_and (codes "get ") (List ℕ) (λ x. is_register_word x ≡ true) (λ x. x) (passing_or_not is_register_word) bytes) (λ h. (lines.Order (commands.Get h.0), h.1, h.2)) (λ get.
     or_else _ _ (word_and (codes "ksec ") ℕ (λ n. n < 256) (λ n. encode_lower (n ∷ [])) byte_or_none bytes) (λ h. (lines.Order (commands.Ksec h.0), h.1, h.2)) (λ ksec.
+    or_else _ _ (word_and (codes "perm ") ℕ IsNumber decimal number_or_none bytes) (λ h. (lines.Order (commands.Perm h.0), h.1, h.2)) (λ perm.
     or_else _ _ (word_and (codes "fork ") (List ℕ) (λ x. is_name x ≡ true) (λ x. x) (passing_or_not is_name) bytes) (λ h. (lines.Order (commands.Fork h.0), h.1, h.2)) (λ fork.
     or_else _ _ (word_and (codes "peek ") (ℕ × ℕ) (λ p. IsNumber p.0 × IsNumber p.1) (λ p. decimal p.0 ++ 32 ∷ decimal p.1) peek_or_none bytes) (λ h. (lines.Order (commands.Peek h.0.0 h.0.1), (h.1.0, h.1.1), h.2)) (λ peek.
     or_else _ _ (word_and (codes "poke ") (ℕ × List ℕ) (λ p. IsNumber p.0 × IsValue p.1) (λ p. decimal p.0 ++ 32 ∷ encode_lower p.1) poke_or_none bytes) (λ h. (lines.Order (commands.Poke h.0.0 h.0.1), (h.1.0, h.1.1.0, h.1.1.1), h.2)) (λ poke.
@@ -351,8 +352,9 @@ line_or_none bytes =
     or_else _ _ (same_bytes bytes (codes "sigreturn")) (λ e. (lines.Order commands.Sigreturn, tt, e)) (λ returns.
     or_else _ _ (same_bytes bytes (codes "handler")) (λ e. (lines.Handler, tt, e)) (λ handler.
     or_else _ _ (same_bytes bytes (codes "yield")) (λ e. (lines.Order commands.Yield, tt, e)) (λ yields.
+    or_else _ _ (same_bytes bytes (codes "tilerelease")) (λ e. (lines.Order commands.Tilerelease, tt, e)) (λ release.
     or_else _ _ (same_bytes bytes (codes "end")) (λ e. (lines.End, tt, e)) (λ last.
-    inr (λ h. no_line_of bytes (record { version = version; machine = machine; row = row; cpus = cpus; quantum = quantum; large = large; sched = sched; task = task; child = child; kthread = kthread; set = set; get = get; ksec = ksec; fork = fork; peek = peek; poke = poke; kill = kill; bpeek = bpeek; bpoke = bpoke; wait = wait; getregs = getregs; setregs = setregs; cont = cont; stops = stops; returns = returns; handler = handler; yields = yields; last = last }) h.0 h.1 h.2)))))))))))))))))))))))))))))
+    inr (λ h. no_line_of bytes (record { version = version; machine = machine; row = row; cpus = cpus; quantum = quantum; large = large; sched = sched; task = task; child = child; kthread = kthread; set = set; get = get; ksec = ksec; perm = perm; fork = fork; peek = peek; poke = poke; kill = kill; bpeek = bpeek; bpoke = bpoke; wait = wait; getregs = getregs; setregs = setregs; cont = cont; stops = stops; returns = returns; handler = handler; yields = yields; release = release; last = last }) h.0 h.1 h.2)))))))))))))))))))))))))))))))
   where
     register_or_none : (rest : List ℕ) → IsDecided (IsTextOf (List ℕ × List ℕ) (λ p. (is_register_word p.0 ≡ true) × IsValue p.1) (λ p. p.0 ++ 32 ∷ encode_lower p.1) rest)
     register_or_none = two_and (List ℕ) (List ℕ) (λ x. is_register_word x ≡ true) IsValue (λ x. x) encode_lower (λ x fits. Lacks-register 32 x refl fits) (passing_or_not is_register_word) value_or_none

@@ -16,12 +16,12 @@ use Rattle.xs_model.specs.declared.script.Block.{Block}
 use Rattle.xs_model.specs.declared.script.Script.{Script}
 use Rattle.xs_model.specs.Names.{all_forked_names}
 use Rattle.xs_model.specs.Bound.{most_events}
-use Rattle.xs_model.specs.Script.{AreDistinct, AreBlocksNumbered, is_caught, fits_memory, fits_register, is_built}
+use Rattle.xs_model.specs.Script.{AreDistinct, AreBlocksNumbered, is_caught, fits_memory, fits_register}
 use Rattle.xs_script.specs.declared.commands.Scope.{Scope}
 use Rattle.xs_script.specs.declared.line.Line.{Line}
 use Rattle.xs_script.specs.declared.line.Line.TheVariants as lines
 use Rattle.xs_script.specs.declared.refusal.Kind.{Kind}
-use Rattle.xs_script.specs.declared.refusal.Kind.TheVariants.{NotBuilt, BadLine, Layout, Repeated, UnknownName, OuterInHandler, NotAwaited, TooMuch}
+use Rattle.xs_script.specs.declared.refusal.Kind.TheVariants.{BadLine, Layout, Repeated, UnknownName, OuterInHandler, NotAwaited, TooMuch}
 use Rattle.xs_script.specs.declared.refusal.LimitName.TheVariants as limits
 use Rattle.xs_script.specs.ScriptLine.{IsLine, IsCommandLine, line_text}
 use Rattle.xs_script.specs.Grammar.{lines_text, block_lines, row_lines, head_lines, sched_lines, script_lines, AreGroups, Spells}
@@ -29,7 +29,7 @@ use Rattle.xs_script.specs.LineOrder.{Stand, AtVersion, AtBlock, command_limit, 
 use Rattle.xs_script.specs.Body.{names_of}
 use Rattle.xs_script.specs.Refusal as refusals
 use Rattle.xs_script.specs.Before.{forks_of, Before, before_of}
-use Rattle.xs_script.specs.Refusal.{AreLines, Early, Misspelled, Misplaced, Fails, Table, Here, table_fault, is_unbuilt, RefusesLine, Passes, scope_of, is_among, reach_fault, name_fault, AreOutside, AreReaching, IsKnown, IsKnownCommand, AreKnown, CommandFails, IsScriptOf, Refuses, ByLine, ByCommand, ByEvents}
+use Rattle.xs_script.specs.Refusal.{AreLines, Early, Misspelled, Misplaced, Fails, Table, Here, table_fault, RefusesLine, Passes, scope_of, is_among, reach_fault, name_fault, AreOutside, AreReaching, IsKnown, IsKnownCommand, AreKnown, CommandFails, IsScriptOf, Refuses, ByLine, ByCommand, ByEvents}
 use Rattle.xs_script.specs.Front.{IsFront}
 use Rattle.xs_script.proofs.Fronts.{front_push, front_none}
 use Rattle.xs_script.proofs.Decisions.{first_or_none}
@@ -40,7 +40,7 @@ use Rattle.xs_script.proofs.Reaching.{reaching_front, blocks_named}
 use Rattle.xs_script.proofs.RightLines.{IsRightLine, local_right, outer_right, fork_right, known_push}
 use Rattle.xs_script.proofs.EventBound.{lines_short}
 use Rattle.xs_script.proofs.Numbering.{blocks_rise}
-use Rattle.xs_script.proofs.KnownLines.{within_limit, names_fit, ordered_forks, blocks_known}
+use Rattle.xs_script.proofs.KnownLines.{within_limit, names_fit, numbers_fit, ordered_forks, blocks_known}
 use Rattle.xs_script.proofs.EntryTests.{joined, at_most}
 use Rattle.xs_script.proofs.WholeScripts.{parted_lines, script_scope}
 use Rattle.xs_script.proofs.Stands.{HasNoLimit, leads_within}
@@ -56,15 +56,10 @@ module _ (A : Type 0) where
   step_table stand number rest (Some e) is fails go = fails 2 (Layout e) (Table e is)
   step_table stand number rest None is fails go = go is
 
-  -- so is a form that isn't built
-  step_unbuilt : (stand : Stand) (number : ℕ) (rest : List ℕ) (b : Bool) → is_unbuilt rest ≡ b → table_fault stand rest ≡ None → ((n : ℕ) (kind : Kind) → Fails stand number rest n kind → A) → (is_unbuilt rest ≡ false → A) → A
-  step_unbuilt stand number rest true is none fails go = fails number NotBuilt (Here NotBuilt none (refusals.Unbuilt is))
-  step_unbuilt stand number rest false is none fails go = go is
-
   -- a line leads on or is refused
-  step_next : (stand : Stand) (number : ℕ) (rest more : List ℕ) (l : Line) (r : Result Stand Kind) → next stand l ≡ r → table_fault stand rest ≡ None → is_unbuilt rest ≡ false → IsLine l → rest ≡ line_text l ++ 10 ∷ more → ((n : ℕ) (kind : Kind) → Fails stand number rest n kind → A) → ((mid : Stand) → next stand l ≡ Ok mid → A) → A
-  step_next stand number rest more l (Ok mid) is none built fits e fails go = go mid is
-  step_next stand number rest more l (Err kind) is none built fits e fails go = fails number kind (Here kind none (Misplaced l more kind built fits e is))
+  step_next : (stand : Stand) (number : ℕ) (rest more : List ℕ) (l : Line) (r : Result Stand Kind) → next stand l ≡ r → table_fault stand rest ≡ None → IsLine l → rest ≡ line_text l ++ 10 ∷ more → ((n : ℕ) (kind : Kind) → Fails stand number rest n kind → A) → ((mid : Stand) → next stand l ≡ Ok mid → A) → A
+  step_next stand number rest more l (Ok mid) is none fits e fails go = go mid is
+  step_next stand number rest more l (Err kind) is none fits e fails go = fails number kind (Here kind none (Misplaced l more kind fits e is))
 
   -- the end passes or is refused
   step_end : (text : List ℕ) (ls : List Line) (stand : Stand) (b : Bool) → may_end stand ≡ b → table_fault stand [] ≡ None → IsFront AtVersion text ls stand [] → ((n : ℕ) (kind : Kind) → Fails stand (length ls + 1) [] n kind → A) → ((ls : List Line) → Passes text ls → A) → A
@@ -87,15 +82,14 @@ module _ (A : Type 0) where
       let rest = b ∷ bs in
       let fails = λ (n : ℕ) (kind : Kind) (f : Fails stand (length ls + 1) rest n kind). refused n kind (record { done = ls; rest = rest; stand = stand; lines_fit = front.lines_fit; parts = front.parts; leads = front.leads; fails = f }) in
       step_table stand (length ls + 1) rest (table_fault stand rest) refl fails (λ none.
-      step_unbuilt stand (length ls + 1) rest (is_unbuilt rest) refl none fails (λ built.
       elim (first_or_none rest) [
-        | inr other ↦ fails (length ls + 1) BadLine (Here BadLine none (Misspelled (λ e. cc e) built other))
+        | inr other ↦ fails (length ls + 1) BadLine (Here BadLine none (Misspelled (λ e. cc e) other))
         | inl h ↦
             let e = h.3 in
-            step_next stand (length ls + 1) rest h.1 h.0 (next stand h.0) refl none built h.2 e fails (λ mid leads.
+            step_next stand (length ls + 1) rest h.1 h.0 (next stand h.0) refl none h.2 e fails (λ mid leads.
             let long : length rest ≡ length (line_text h.0) + length (10 ∷ h.1) = ap length e ∙ length-append (line_text h.0) (10 ∷ h.1) in
             walk text fuel h.1 (ls ++ h.0 ∷ []) mid (omega (arith, long)) (front_push AtVersion stand mid text rest h.1 ls h.0 front h.2 e leads) refused passed)
-      ]))
+      ])
 
 -- A text passes or is refused by a line.
 pub passes_or_not : (text : List ℕ) → ((n : ℕ) × (kind : Kind) × RefusesLine text n kind) ⊎ ((ls : List Line) × Passes text ls)
@@ -106,14 +100,9 @@ passes_or_not text = walk _ text (suc (length text)) text [] AtVersion (omega ar
 -- what follows from each case
 module _ (A : Type 0) where
   -- a value fits its register or fails
-  step_value : (scope : Scope) (before : Before) (reg bytes : List ℕ) (place : Place) (b : Bool) → fits_register place bytes ≡ b → IsRegister scope.layout reg place → is_built place ≡ true → AllByRecursion (λ byte. byte < 256) bytes → (IsKnownCommand scope (commands.Set reg bytes) → A) → ((kind : Kind) → CommandFails scope before (commands.Set reg bytes) kind → A) → A
-  step_value scope before reg bytes place true is here built small known fails = known ((place, here, is, small), (place, here.0, built), tt)
-  step_value scope before reg bytes place false is here built small known fails = fails BadLine (refusals.Misfit reg bytes place here built is)
-
-  -- a place is one that is built, or the command fails
-  step_place : (scope : Scope) (before : Before) (command : Command) (place : Place) (b : Bool) → is_built place ≡ b → ((kind : Kind) → CommandFails scope before command kind → A) → ((is_built place ≡ false) → CommandFails scope before command NotBuilt) → (is_built place ≡ true → A) → A
-  step_place scope before command place true is fails unbuilt go = go is
-  step_place scope before command place false is fails unbuilt go = fails NotBuilt (unbuilt is)
+  step_value : (scope : Scope) (before : Before) (reg bytes : List ℕ) (place : Place) (b : Bool) → fits_register place bytes ≡ b → IsRegister scope.layout reg place → AllByRecursion (λ byte. byte < 256) bytes → (IsKnownCommand scope (commands.Set reg bytes) → A) → ((kind : Kind) → CommandFails scope before (commands.Set reg bytes) kind → A) → A
+  step_value scope before reg bytes place true is here small known fails = known ((place, here, is, small), tt)
+  step_value scope before reg bytes place false is here small known fails = fails BadLine (refusals.Misfit reg bytes place here is)
 
   -- a fork names a child that none before it forks, outside of handlers, or fails
   step_fork : (scope : Scope) (before : Before) (name : List ℕ) (b c d : Bool) → is_among name scope.children ≡ b → is_among name before.forked ≡ c → before.inside ≡ d → (is_among name scope.children ≡ true → is_among name before.forked ≡ false → before.inside ≡ false → A) → ((kind : Kind) → CommandFails scope before (commands.Fork name) kind → A) → A
@@ -151,46 +140,44 @@ module _ (A : Type 0) where
   right_or_fails scope before (commands.Set reg bytes) fits within right fails = elim (place_or_none scope.layout reg) [
     | inr none ↦ fails UnknownName (refusals.Unknown (commands.Set reg bytes) reg refl none)
     | inl p ↦
-        step_place scope before (commands.Set reg bytes) p.0 (is_built p.0) refl fails (refusals.Unbuilt (commands.Set reg bytes) reg p.0 refl p.1) (λ built.
-        step_value scope before reg bytes p.0 (fits_register p.0 bytes) refl p.1 built fits.2 (λ k. right (local_right scope before (lines.Order (commands.Set reg bytes)) k refl refl tt)) fails)
+        step_value scope before reg bytes p.0 (fits_register p.0 bytes) refl p.1 fits.2 (λ k. right (local_right scope before (lines.Order (commands.Set reg bytes)) k refl refl tt)) fails
   ]
   right_or_fails scope before (commands.Get reg) fits within right fails = elim (place_or_none scope.layout reg) [
     | inr none ↦ fails UnknownName (refusals.Unknown (commands.Get reg) reg refl none)
-    | inl p ↦
-        step_place scope before (commands.Get reg) p.0 (is_built p.0) refl fails (refusals.Unbuilt (commands.Get reg) reg p.0 refl p.1) (λ built.
-        right (local_right scope before (lines.Order (commands.Get reg)) ((p.0, p.1), (p.0, p.1.0, built), tt) refl refl tt))
+    | inl p ↦ right (local_right scope before (lines.Order (commands.Get reg)) ((p.0, p.1), tt) refl refl tt)
   ]
-  right_or_fails scope before (commands.Ksec byte) fits within right fails = right (local_right scope before (lines.Order (commands.Ksec byte)) (fits, tt, tt) refl refl tt)
-  right_or_fails scope before commands.Yield fits within right fails = right (local_right scope before (lines.Order commands.Yield) (tt, tt, tt) refl refl tt)
+  right_or_fails scope before (commands.Ksec byte) fits within right fails = right (local_right scope before (lines.Order (commands.Ksec byte)) (fits, tt) refl refl tt)
+  right_or_fails scope before commands.Tilerelease fits within right fails = right (local_right scope before (lines.Order commands.Tilerelease) (tt, tt) refl refl tt)
+  right_or_fails scope before (commands.Perm feature) fits within right fails = right (local_right scope before (lines.Order (commands.Perm feature)) (tt, tt) refl refl tt)
+  right_or_fails scope before commands.Yield fits within right fails = right (local_right scope before (lines.Order commands.Yield) (tt, tt) refl refl tt)
   right_or_fails scope before (commands.Peek at len) fits within right fails =
-      right (local_right scope before (lines.Order (commands.Peek at len)) (within_limit limits.Frame (fits_memory frame_length at len) within, tt, tt) refl refl tt)
+      right (local_right scope before (lines.Order (commands.Peek at len)) (within_limit limits.Frame (fits_memory frame_length at len) within, tt) refl refl tt)
   right_or_fails scope before (commands.Poke at bytes) fits within right fails =
-      right (local_right scope before (lines.Order (commands.Poke at bytes)) ((within_limit limits.Frame (fits_memory frame_length at (length bytes)) within, fits.2), tt, tt) refl refl tt)
+      right (local_right scope before (lines.Order (commands.Poke at bytes)) ((within_limit limits.Frame (fits_memory frame_length at (length bytes)) within, fits.2), tt) refl refl tt)
   right_or_fails scope before (commands.Bpeek at len) fits within right fails =
-      right (local_right scope before (lines.Order (commands.Bpeek at len)) (within_limit limits.Buffer (fits_memory buffer_length at len) within, tt, tt) refl refl tt)
+      right (local_right scope before (lines.Order (commands.Bpeek at len)) (within_limit limits.Buffer (fits_memory buffer_length at len) within, tt) refl refl tt)
   right_or_fails scope before (commands.Bpoke at bytes) fits within right fails =
-      right (local_right scope before (lines.Order (commands.Bpoke at bytes)) ((within_limit limits.Buffer (fits_memory buffer_length at (length bytes)) within, fits.2), tt, tt) refl refl tt)
-  right_or_fails scope before commands.Sigreturn fits within right fails = right (local_right scope before (lines.Order commands.Sigreturn) (tt, tt, tt) refl refl tt)
+      right (local_right scope before (lines.Order (commands.Bpoke at bytes)) ((within_limit limits.Buffer (fits_memory buffer_length at (length bytes)) within, fits.2), tt) refl refl tt)
+  right_or_fails scope before commands.Sigreturn fits within right fails = right (local_right scope before (lines.Order commands.Sigreturn) (tt, tt) refl refl tt)
   right_or_fails scope before (commands.Fork name) fits within right fails =
       step_fork scope before name (is_among name scope.children) (is_among name before.forked) before.inside refl refl refl
       (λ child new out. right (fork_right scope before name child new out)) fails
   right_or_fails scope before (commands.Kill name signo) fits within right fails =
       step_kill scope before name signo (is_among name scope.handled) before.inside refl refl
-      (λ handled out. right (outer_right scope before (commands.Kill name signo) (within_limit limits.Signal (is_caught signo.number) within, tt, handled) refl out tt)) fails
-  right_or_fails scope before commands.Stop fits within right fails = step_stop scope before before.inside refl (λ out. right (outer_right scope before commands.Stop (tt, tt, tt) refl out tt)) fails
+      (λ handled out. right (outer_right scope before (commands.Kill name signo) (within_limit limits.Signal (is_caught signo.number) within, handled) refl out tt)) fails
+  right_or_fails scope before commands.Stop fits within right fails = step_stop scope before before.inside refl (λ out. right (outer_right scope before commands.Stop (tt, tt) refl out tt)) fails
   right_or_fails scope before (commands.Wait name) fits within right fails =
-      step_wait scope before name before.inside (before.own name) refl refl (λ out own. right (outer_right scope before (commands.Wait name) (tt, tt, tt) refl out own)) fails
+      step_wait scope before name before.inside (before.own name) refl refl (λ out own. right (outer_right scope before (commands.Wait name) (tt, tt) refl out own)) fails
   right_or_fails scope before (commands.Getregs name set) fits within right fails =
       step_reach scope before (commands.Getregs name set) name before.inside (before.own name) (before.awaited name) refl refl refl refl
-      (λ out own awaited. right (outer_right scope before (commands.Getregs name set) (tt, tt, tt) refl out (own, awaited))) fails
+      (λ out own awaited. right (outer_right scope before (commands.Getregs name set) (tt, tt) refl out (own, awaited))) fails
   right_or_fails scope before (commands.Setregs name set count) fits within right fails =
       let few = at_most count buffer_length (within_limit limits.Count (nat_le count buffer_length) within) in
       step_reach scope before (commands.Setregs name set count) name before.inside (before.own name) (before.awaited name) refl refl refl refl
-      (λ out own awaited. right (outer_right scope before (commands.Setregs name set count) (few, tt, tt) refl out (own, awaited))) fails
+      (λ out own awaited. right (outer_right scope before (commands.Setregs name set count) (few, tt) refl out (own, awaited))) fails
   right_or_fails scope before (commands.Cont name) fits within right fails =
       step_reach scope before (commands.Cont name) name before.inside (before.own name) (before.awaited name) refl refl refl refl
-      (λ out own awaited. right (outer_right scope before (commands.Cont name) (tt, tt, tt) refl out (own, awaited))) fails
-  right_or_fails scope before other fits within right fails = absurd fits
+      (λ out own awaited. right (outer_right scope before (commands.Cont name) (tt, tt) refl out (own, awaited))) fails
 
   -- So nothing is wrong with a line, or it is a command that fails.
   line_right_or_fails : (scope : Scope) (before : Before) (l : Line) → IsLine l → HasNoLimit l → (IsRightLine scope before l → A) → ((command : Command) (kind : Kind) → l ≡ lines.Order command → CommandFails scope before command kind → A) → A
@@ -306,7 +293,7 @@ blocks_spell text ls p m blocks is numbered h known =
           forked = subst AreDistinct forks known.once;
           events = events;
         };
-        built = record { bodies = commands.built; handlers = commands.handled };
+        numbers = numbers_fit blocks fit.1;
         groups = groups;
         grouped = grouped;
         numbered = numbered;

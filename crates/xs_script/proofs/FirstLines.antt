@@ -1,13 +1,12 @@
 -- The first line of a text and its first word, where it is a line.
-use Rattle.std.proofs.Common.{◌≡◌, ℕ, Bool, true, false, List, [], ◌∷◌, ◌++◌, codes, refl, ◌∙◌, ap, arith}
+use Rattle.std.proofs.Common.{◌≡◌, ℕ, Bool, true, false, List, ◌∷◌, ◌++◌, codes, refl, ◌∙◌, ap}
 use Rattle.std.specs.Prelude.{bytes_eq}
-use Rattle.std.specs.List.{list_any}
 use Rattle.xs_model.specs.declared.script.BlockKind.TheVariants as blocks
 use Rattle.xs_model.specs.declared.script.Command.TheVariants as commands
 use Rattle.xs_script.specs.declared.line.Line.{Line}
 use Rattle.xs_script.specs.declared.line.Line.TheVariants as lines
 use Rattle.xs_script.specs.ScriptLine.{line_text, IsLine}
-use Rattle.xs_script.specs.Refusal.{first_line, first_word, is_unbuilt, unbuilt_words, before}
+use Rattle.xs_script.specs.Refusal.{first_line, first_word, before}
 use Rattle.xs_script.proofs.Cuts.{before_cut}
 use Rattle.xs_script.proofs.Spellings.{Lacks_line}
 
@@ -58,7 +57,8 @@ row_word (lines.Order (commands.Wait name)) = refl
 row_word (lines.Order (commands.Getregs name set)) = refl
 row_word (lines.Order (commands.Setregs name set count)) = refl
 row_word (lines.Order (commands.Cont name)) = refl
-row_word (lines.Order other) = refl
+row_word (lines.Order commands.Tilerelease) = refl
+row_word (lines.Order (commands.Perm feature)) = refl
 row_word (lines.NoSignal name number) = refl
 row_word lines.Handler = refl
 row_word lines.End = refl
@@ -66,51 +66,3 @@ row_word lines.End = refl
 -- a row begins with the word, and no other line does
 pub row_begins : (l : Line) (text rest : List ℕ) → IsLine l → text ≡ line_text l ++ 10 ∷ rest → bytes_eq (first_word text) (codes "row") ≡ is_row_line l
 row_begins l text rest fits e = ap (λ (line : List ℕ). bytes_eq (before 32 line) (codes "row")) (first_line_is l text rest fits e) ∙ row_word l
-
--- what the test of unbuilt forms sees of a first line
-abbrev unbuilt_line : List ℕ → Bool
-unbuilt_line line = list_any (λ word. bytes_eq word (before 32 line)) unbuilt_words
-
--- the text of a line of a schedule, which has an entry
-built_sched : (entries : List ℕ) → IsLine (lines.Sched entries) → unbuilt_line (line_text (lines.Sched entries)) ≡ false
-unfolding unbuilt_words
-built_sched [] fits = absurd (omega (arith, fits.0))
-built_sched (n ∷ entries) fits = refl
-
--- the text of a line
-built_line : (l : Line) → IsLine l → unbuilt_line (line_text l) ≡ false
-unfolding unbuilt_words
-built_line lines.Version fits = refl
-built_line (lines.Machine named) fits = refl
-built_line (lines.Row r) fits = refl
-built_line (lines.Cpus n) fits = refl
-built_line (lines.Quantum n) fits = refl
-built_line (lines.Large n) fits = refl
-built_line (lines.Sched entries) fits = built_sched entries fits
-built_line (lines.Begin blocks.Task name) fits = refl
-built_line (lines.Begin blocks.Child name) fits = refl
-built_line (lines.Begin blocks.Kthread name) fits = refl
-built_line (lines.Order (commands.Set reg bytes)) fits = refl
-built_line (lines.Order (commands.Get reg)) fits = refl
-built_line (lines.Order (commands.Ksec byte)) fits = refl
-built_line (lines.Order commands.Yield) fits = refl
-built_line (lines.Order (commands.Fork name)) fits = refl
-built_line (lines.Order (commands.Peek at len)) fits = refl
-built_line (lines.Order (commands.Poke at bytes)) fits = refl
-built_line (lines.Order commands.Sigreturn) fits = refl
-built_line (lines.Order (commands.Kill name signo)) fits = refl
-built_line (lines.Order (commands.Bpeek at len)) fits = refl
-built_line (lines.Order (commands.Bpoke at bytes)) fits = refl
-built_line (lines.Order commands.Stop) fits = refl
-built_line (lines.Order (commands.Wait name)) fits = refl
-built_line (lines.Order (commands.Getregs name set)) fits = refl
-built_line (lines.Order (commands.Setregs name set count)) fits = refl
-built_line (lines.Order (commands.Cont name)) fits = refl
-built_line (lines.Order other) fits = absurd fits
-built_line (lines.NoSignal name number) fits = refl
-built_line lines.Handler fits = refl
-built_line lines.End fits = refl
-
--- a line is of a form that this version has
-pub not_unbuilt : (l : Line) (text rest : List ℕ) → IsLine l → text ≡ line_text l ++ 10 ∷ rest → is_unbuilt text ≡ false
-not_unbuilt l text rest fits e = ap unbuilt_line (first_line_is l text rest fits e) ∙ built_line l fits

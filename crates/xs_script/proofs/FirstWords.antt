@@ -28,6 +28,10 @@ pub no_ksec : (words : List ℕ) → ((byte : ℕ) → byte < 256 → words ≡ 
 no_ksec words none (lines.Order (commands.Ksec byte)) fits e = none byte fits (append_cancel_left (codes "ksec ") words (encode_lower (byte ∷ [])) e)
 no_ksec words none l fits e = let k = ap kind_of e ∙ kind_is l in omega arith
 
+pub no_perm : (words : List ℕ) → ((n : ℕ) → IsNumber n → words ≡ decimal n → ⊥) → (l : Line) → IsBlockLine l → codes "perm " ++ words ≡ line_text l → ⊥
+no_perm words none (lines.Order (commands.Perm feature)) fits e = none feature fits (append_cancel_left (codes "perm ") words (decimal feature) e)
+no_perm words none l fits e = let k = ap kind_of e ∙ kind_is l in omega arith
+
 pub no_fork : (words : List ℕ) → ((name : List ℕ) → is_name name ≡ true → words ≡ name → ⊥) → (l : Line) → IsBlockLine l → codes "fork " ++ words ≡ line_text l → ⊥
 no_fork words none (lines.Order (commands.Fork name)) fits e = none name fits (append_cancel_left (codes "fork ") words name e)
 no_fork words none l fits e = let k = ap kind_of e ∙ kind_is l in omega arith

@@ -9,7 +9,7 @@ use Rattle.xs_script.specs.declared.refusal.Kind.TheVariants.{BadLine}
 use Rattle.xs_script.specs.ScriptLine.{line_text, IsLine}
 use Rattle.xs_script.specs.Grammar.{lines_text}
 use Rattle.xs_script.specs.LineOrder.{Stand, AtVersion, AtMachine, AtRow, AtCpus, AtQuantum, AtLarge, AtSched, AtBlock, InBlock, takes_sched, next, may_end, Leads}
-use Rattle.xs_script.specs.Refusal.{NoLine, LineFails, Early, Misspelled, Misplaced, is_unbuilt, Fails}
+use Rattle.xs_script.specs.Refusal.{NoLine, LineFails, Early, Misspelled, Misplaced, Fails}
 use Rattle.xs_script.specs.declared.refusal.ScriptError.{ScriptError}
 use Rattle.xs_script.specs.declared.refusal.ScriptError.TheVariants as errors
 use Rattle.xs_script.specs.Parts.{NoPlainLine}
@@ -71,9 +71,9 @@ front_refuses from mid first text left ls number kind f r =
     }
 
 -- a text that is no line fails
-no_line_fails : (stand : Stand) (text : List ℕ) → (text ≡ [] → may_end stand ≡ false) → is_unbuilt text ≡ false → NoLine text → LineFails stand text BadLine
-no_line_fails stand [] early built none = Early refl (early refl)
-no_line_fails stand (b ∷ bs) early built none = Misspelled (λ e. cc e) built none
+no_line_fails : (stand : Stand) (text : List ℕ) → (text ≡ [] → may_end stand ≡ false) → NoLine text → LineFails stand text BadLine
+no_line_fails stand [] early none = Early refl (early refl)
+no_line_fails stand (b ∷ bs) early none = Misspelled (λ e. cc e) none
 
 -- where no schedule may stand, a line of one is a bad line
 sched_fails : (stand : Stand) (entries : List ℕ) → takes_sched stand ≡ false → next stand (lines.Sched entries) ≡ Err BadLine
@@ -87,25 +87,25 @@ sched_fails (AtSched cpus count) entries h = cc h
 sched_fails (AtBlock names) entries h = refl
 sched_fails (InBlock part kind names) entries h = refl
 
-line_misplaced : (stand : Stand) (text : List ℕ) (l : Line) (rest : List ℕ) → takes_sched stand ≡ false → is_unbuilt text ≡ false → NoPlainLine text → IsLine l → text ≡ line_text l ++ 10 ∷ rest → LineFails stand text BadLine
-line_misplaced stand text (lines.Sched entries) rest other built none fits e = Misplaced (lines.Sched entries) rest BadLine built fits e (sched_fails stand entries other)
-line_misplaced stand text lines.Version rest other built none fits e = absurd (none lines.Version rest fits e)
-line_misplaced stand text (lines.Machine named) rest other built none fits e = absurd (none (lines.Machine named) rest fits e)
-line_misplaced stand text (lines.Row r) rest other built none fits e = absurd (none (lines.Row r) rest fits e)
-line_misplaced stand text (lines.Cpus n) rest other built none fits e = absurd (none (lines.Cpus n) rest fits e)
-line_misplaced stand text (lines.Quantum n) rest other built none fits e = absurd (none (lines.Quantum n) rest fits e)
-line_misplaced stand text (lines.Large n) rest other built none fits e = absurd (none (lines.Large n) rest fits e)
-line_misplaced stand text (lines.Begin kind name) rest other built none fits e = absurd (none (lines.Begin kind name) rest fits e)
-line_misplaced stand text (lines.Order command) rest other built none fits e = absurd (none (lines.Order command) rest fits e)
-line_misplaced stand text (lines.NoSignal name number) rest other built none fits e = absurd (none (lines.NoSignal name number) rest fits e)
-line_misplaced stand text lines.Handler rest other built none fits e = absurd (none lines.Handler rest fits e)
-line_misplaced stand text lines.End rest other built none fits e = absurd (none lines.End rest fits e)
+line_misplaced : (stand : Stand) (text : List ℕ) (l : Line) (rest : List ℕ) → takes_sched stand ≡ false → NoPlainLine text → IsLine l → text ≡ line_text l ++ 10 ∷ rest → LineFails stand text BadLine
+line_misplaced stand text (lines.Sched entries) rest other none fits e = Misplaced (lines.Sched entries) rest BadLine fits e (sched_fails stand entries other)
+line_misplaced stand text lines.Version rest other none fits e = absurd (none lines.Version rest fits e)
+line_misplaced stand text (lines.Machine named) rest other none fits e = absurd (none (lines.Machine named) rest fits e)
+line_misplaced stand text (lines.Row r) rest other none fits e = absurd (none (lines.Row r) rest fits e)
+line_misplaced stand text (lines.Cpus n) rest other none fits e = absurd (none (lines.Cpus n) rest fits e)
+line_misplaced stand text (lines.Quantum n) rest other none fits e = absurd (none (lines.Quantum n) rest fits e)
+line_misplaced stand text (lines.Large n) rest other none fits e = absurd (none (lines.Large n) rest fits e)
+line_misplaced stand text (lines.Begin kind name) rest other none fits e = absurd (none (lines.Begin kind name) rest fits e)
+line_misplaced stand text (lines.Order command) rest other none fits e = absurd (none (lines.Order command) rest fits e)
+line_misplaced stand text (lines.NoSignal name number) rest other none fits e = absurd (none (lines.NoSignal name number) rest fits e)
+line_misplaced stand text lines.Handler rest other none fits e = absurd (none lines.Handler rest fits e)
+line_misplaced stand text lines.End rest other none fits e = absurd (none lines.End rest fits e)
 
 -- a text whose first line is at most one of a schedule fails where none may stand
-pub no_plain_fails : (stand : Stand) (text : List ℕ) → takes_sched stand ≡ false → (text ≡ [] → may_end stand ≡ false) → is_unbuilt text ≡ false → NoPlainLine text → LineFails stand text BadLine
-no_plain_fails stand text other early built none = elim (first_or_none text) [
-  | inl h ↦ line_misplaced stand text h.0 h.1 other built none h.2 h.3
-  | inr neither ↦ no_line_fails stand text early built neither
+pub no_plain_fails : (stand : Stand) (text : List ℕ) → takes_sched stand ≡ false → (text ≡ [] → may_end stand ≡ false) → NoPlainLine text → LineFails stand text BadLine
+no_plain_fails stand text other early none = elim (first_or_none text) [
+  | inl h ↦ line_misplaced stand text h.0 h.1 other none h.2 h.3
+  | inr neither ↦ no_line_fails stand text early neither
 ]
 
 -- a refusal of the line after a front

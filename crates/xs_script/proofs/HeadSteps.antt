@@ -36,7 +36,7 @@ before_sched stages.Sched rows cpus h = absurd (h refl)
 -- a line that is kept fails as the line does
 pub next_fails : (stand : Stand) (number : ℕ) (text : List ℕ) (kept : Line) (rest : List ℕ) (kind : Kind) → table_fault stand text ≡ None → IsNext text kept rest → next stand kept ≡ Err kind → Fails stand number text number kind
 next_fails stand number text kept rest kind none first h =
-    Here kind none (Misplaced first.line rest kind first.built first.fits first.spelled (sym (kept_next stand first.line) ∙ sym (ap (next stand) first.kept_is) ∙ h))
+    Here kind none (Misplaced first.line rest kind first.fits first.spelled (sym (kept_next stand first.line) ∙ sym (ap (next stand) first.kept_is) ∙ h))
 
 -- a line that is kept is taken
 pub next_steps : (head : Head) (text : List ℕ) (kept : Line) (after : Head) (rest : List ℕ) → IsNext text kept rest → Takes head kept after → Steps head text after rest

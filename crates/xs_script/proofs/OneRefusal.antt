@@ -7,12 +7,12 @@ use Rattle.xs_base.specs.declared.component.Row.{Row}
 use Rattle.xs_base.specs.declared.component.Place.{Place}
 use Rattle.xs_base.specs.declared.layout_error.LayoutError.{LayoutError}
 use Rattle.xs_base.specs.Layout.{table_error}
-use Rattle.xs_base.specs.Register.{IsNamed, IsRegister}
+use Rattle.xs_base.specs.Register.{IsRegister}
 use Rattle.xs_base.proofs.Registers.{one_place}
 use Rattle.xs_model.specs.declared.script.Command.{Command}
 use Rattle.xs_model.specs.declared.script.Command.TheVariants as commands
 use Rattle.xs_model.specs.Names.{forked_name}
-use Rattle.xs_model.specs.Script.{AreDistinct, is_outer, fits_register, is_built}
+use Rattle.xs_model.specs.Script.{AreDistinct, is_outer, fits_register}
 use Rattle.xs_script.specs.declared.commands.Scope.{Scope}
 use Rattle.xs_script.specs.declared.line.Line.{Line}
 use Rattle.xs_script.specs.declared.line.Line.TheVariants as lines
@@ -20,10 +20,10 @@ use Rattle.xs_script.specs.declared.refusal.Kind.{Kind}
 use Rattle.xs_script.specs.ScriptLine.{line_text, IsLine}
 use Rattle.xs_script.specs.Grammar.{lines_text}
 use Rattle.xs_script.specs.LineOrder.{Stand, AtVersion, AtMachine, AtRow, AtCpus, AtQuantum, AtLarge, AtSched, AtBlock, InBlock, next, may_end, after_rows, Leads}
-use Rattle.xs_script.specs.Refusal.{AreLines, first_word, is_unbuilt, unbuilt_words, table_fault, LineFails, Early, Unbuilt, Misspelled, Misplaced, Fails, Table, Here, RefusesLine, Passes, scope_of, is_outer_line, NamesOne, outer_fault, name_fault, AreOutside, ReachesOwn, LineReachesOwn, AreReaching, IsKnown, IsKnownCommand, AreKnown, register_of, CommandFails, RefusesCommand}
+use Rattle.xs_script.specs.Refusal.{AreLines, first_word, table_fault, LineFails, Early, Misspelled, Misplaced, Fails, Table, Here, RefusesLine, Passes, scope_of, is_outer_line, NamesOne, outer_fault, name_fault, AreOutside, ReachesOwn, LineReachesOwn, AreReaching, IsKnown, IsKnownCommand, AreKnown, register_of, CommandFails, RefusesCommand}
 use Rattle.xs_script.specs.Before.{in_handler, in_handler_after, fork_of_line, forks_of, earlier_with, earlier_after, forks_child, awaits_child, Before, told, before_of}
 use Rattle.xs_script.specs.Refusal as refusals
-use Rattle.xs_script.proofs.FirstLines.{row_begins, not_unbuilt, is_row_line}
+use Rattle.xs_script.proofs.FirstLines.{row_begins, is_row_line}
 use Rattle.xs_script.proofs.Spellings.{one_first_line}
 use Rattle.xs_script.proofs.Fronts.{lines_more}
 use Rattle.xs_script.proofs.BodyLines.{another, distinct_front}
@@ -37,16 +37,6 @@ not_over l text rest e none = some (line_text l) rest (sym e ∙ none)
     some : (xs ys : List ℕ) → xs ++ 10 ∷ ys ≡ [] → ⊥
     some [] ys h = cc h
     some (x ∷ xs) ys h = cc h
-
--- a text that is over is of no form that isn't built
-pub none_unbuilt : is_unbuilt [] ≡ false
-unfolding unbuilt_words
-none_unbuilt = refl
-
-over_is_built : (text : List ℕ) → text ≡ [] → is_unbuilt text ≡ true → ⊥
-over_is_built text e t =
-    let here : is_unbuilt [] ≡ true = subst (λ (bs : List ℕ). is_unbuilt bs ≡ true) e t in
-    cc (sym none_unbuilt ∙ here)
 
 leads_after_rows : (n : ℕ) (e : Option LayoutError) (mid : Stand) → after_rows n e ≡ Ok mid → e ≡ None
 leads_after_rows n None mid h = refl
@@ -81,9 +71,8 @@ no_fault (InBlock part kind names) mid l text rest fits e leads = refl
 -- a line that leads on doesn't fail
 leads_not_line : (stand mid : Stand) (l : Line) (text rest : List ℕ) (kind : Kind) → IsLine l → text ≡ line_text l ++ 10 ∷ rest → next stand l ≡ Ok mid → LineFails stand text kind → ⊥
 leads_not_line stand mid l text rest _ fits e leads (Early none early) = not_over l text rest e none
-leads_not_line stand mid l text rest _ fits e leads (Unbuilt t) = cc (sym (not_unbuilt l text rest fits e) ∙ t)
-leads_not_line stand mid l text rest _ fits e leads (Misspelled some built none) = none l rest fits e
-leads_not_line stand mid l text rest _ fits e leads (Misplaced line more kind built fit here fails) =
+leads_not_line stand mid l text rest _ fits e leads (Misspelled some none) = none l rest fits e
+leads_not_line stand mid l text rest _ fits e leads (Misplaced line more kind fit here fails) =
     let same = one_first_line l line rest more fits fit (sym e ∙ here) in
     cc (sym leads ∙ ap (next stand) same.0 ∙ fails)
 
@@ -105,9 +94,8 @@ no_fault_at_end (InBlock part kind names) text h = absurd (cc h)
 
 end_not_line : (stand : Stand) (text : List ℕ) (kind : Kind) → text ≡ [] → may_end stand ≡ true → LineFails stand text kind → ⊥
 end_not_line stand text _ e end (Early none early) = cc (sym end ∙ early)
-end_not_line stand text _ e end (Unbuilt t) = over_is_built text e t
-end_not_line stand text _ e end (Misspelled some built none) = some e
-end_not_line stand text _ e end (Misplaced line more kind built fit here fails) = not_over line text more here e
+end_not_line stand text _ e end (Misspelled some none) = some e
+end_not_line stand text _ e end (Misplaced line more kind fit here fails) = not_over line text more here e
 
 end_not_fails : (stand : Stand) (text : List ℕ) (first number : ℕ) (kind : Kind) → text ≡ [] → may_end stand ≡ true → Fails stand first text number kind → ⊥
 end_not_fails stand text first _ _ e end (Table error fault) = cc (sym (no_fault_at_end stand text end) ∙ fault)
@@ -116,21 +104,14 @@ end_not_fails stand text first _ _ e end (Here kind none why) = end_not_line sta
 -- a line fails with one kind
 one_line_cause : (stand : Stand) (text : List ℕ) (k j : Kind) → LineFails stand text k → LineFails stand text j → k ≡ j
 one_line_cause stand text _ _ (Early a b) (Early c d) = refl
-one_line_cause stand text _ _ (Early a b) (Unbuilt t) = absurd (over_is_built text a t)
-one_line_cause stand text _ _ (Early a b) (Misspelled some built none) = absurd (some a)
-one_line_cause stand text _ _ (Early a b) (Misplaced line more kind built fit here fails) = absurd (not_over line text more here a)
-one_line_cause stand text _ _ (Unbuilt t) (Early a b) = absurd (over_is_built text a t)
-one_line_cause stand text _ _ (Unbuilt t) (Unbuilt u) = refl
-one_line_cause stand text _ _ (Unbuilt t) (Misspelled some built none) = absurd (cc (sym t ∙ built))
-one_line_cause stand text _ _ (Unbuilt t) (Misplaced line more kind built fit here fails) = absurd (cc (sym t ∙ built))
-one_line_cause stand text _ _ (Misspelled some built none) (Early a b) = absurd (some a)
-one_line_cause stand text _ _ (Misspelled some built none) (Unbuilt t) = absurd (cc (sym t ∙ built))
-one_line_cause stand text _ _ (Misspelled some built none) (Misspelled some' built' none') = refl
-one_line_cause stand text _ _ (Misspelled some built none) (Misplaced line more kind built' fit here fails) = absurd (none line more fit here)
-one_line_cause stand text _ _ (Misplaced line more kind built fit here fails) (Early a b) = absurd (not_over line text more here a)
-one_line_cause stand text _ _ (Misplaced line more kind built fit here fails) (Unbuilt t) = absurd (cc (sym t ∙ built))
-one_line_cause stand text _ _ (Misplaced line more kind built fit here fails) (Misspelled some built' none) = absurd (none line more fit here)
-one_line_cause stand text _ _ (Misplaced line more kind built fit here fails) (Misplaced line' more' kind' built' fit' here' fails') =
+one_line_cause stand text _ _ (Early a b) (Misspelled some none) = absurd (some a)
+one_line_cause stand text _ _ (Early a b) (Misplaced line more kind fit here fails) = absurd (not_over line text more here a)
+one_line_cause stand text _ _ (Misspelled some none) (Early a b) = absurd (some a)
+one_line_cause stand text _ _ (Misspelled some none) (Misspelled some' none') = refl
+one_line_cause stand text _ _ (Misspelled some none) (Misplaced line more kind fit here fails) = absurd (none line more fit here)
+one_line_cause stand text _ _ (Misplaced line more kind fit here fails) (Early a b) = absurd (not_over line text more here a)
+one_line_cause stand text _ _ (Misplaced line more kind fit here fails) (Misspelled some none) = absurd (none line more fit here)
+one_line_cause stand text _ _ (Misplaced line more kind fit here fails) (Misplaced line' more' kind' fit' here' fails') =
     let same = one_first_line line line' more more' fit fit' (sym here ∙ here') in
     let both = sym fails ∙ ap (next stand) same.0 ∙ fails' in
     cc both
@@ -204,25 +185,19 @@ one_lines (l ∷ a) (l' ∷ b) fa fb e =
 one_register : (command : Command) (a b : List ℕ) → register_of command ≡ Some a → register_of command ≡ Some b → a ≡ b
 one_register command a b h g = let both : Some a ≡ Some b = sym h ∙ g in cc both
 
--- a register of the machine that isn't unknown, by whichever of its names
-same_place : (rows : List Row) (command : Command) (a b : List ℕ) (p q : Place) → register_of command ≡ Some a → register_of command ≡ Some b → IsRegister rows a p → IsRegister rows b q → p ≡ q
-same_place rows command a b p q h g here there =
-    let same = one_register command a b h g in
-    one_place b p q (subst (λ (reg : List ℕ). IsNamed reg p) same here.0) there.0
-
--- a known command has its register, which is built
-known_register : (scope : Scope) (command : Command) (reg : List ℕ) → register_of command ≡ Some reg → IsKnownCommand scope command → (place : Place) × IsRegister scope.layout reg place × (is_built place ≡ true)
-known_register scope (commands.Set word bytes) reg named ((place, here, fits, bytes_are), (other, is, built), child) =
+-- a known command has its register
+known_register : (scope : Scope) (command : Command) (reg : List ℕ) → register_of command ≡ Some reg → IsKnownCommand scope command → (place : Place) × IsRegister scope.layout reg place
+known_register scope (commands.Set word bytes) reg named ((place, here, fits, bytes_are), child) =
     let same : word ≡ reg = cc named in
-    (place, subst (λ (r : List ℕ). IsRegister scope.layout r place) same here, ap is_built (one_place word place other here.0 is) ∙ built)
-known_register scope (commands.Get word) reg named ((place, here), (other, is, built), child) =
+    (place, subst (λ (r : List ℕ). IsRegister scope.layout r place) same here)
+known_register scope (commands.Get word) reg named ((place, here), child) =
     let same : word ≡ reg = cc named in
-    (place, subst (λ (r : List ℕ). IsRegister scope.layout r place) same here, ap is_built (one_place word place other here.0 is) ∙ built)
+    (place, subst (λ (r : List ℕ). IsRegister scope.layout r place) same here)
 known_register scope other reg named known = absurd (cc named)
 
 -- a value fits its register, where both are known
 known_fits : (scope : Scope) (reg bytes : List ℕ) (q : Place) → IsKnownCommand scope (commands.Set reg bytes) → IsRegister scope.layout reg q → fits_register q bytes ≡ false → ⊥
-known_fits scope reg bytes q ((place, here, fits, bytes_are), built, child) there wrong =
+known_fits scope reg bytes q ((place, here, fits, bytes_are), child) there wrong =
     cc (sym fits ∙ ap (λ (p : Place). fits_register p bytes) (one_place reg place q here.0 there.0) ∙ wrong)
 
 -- a command with a register names no block
@@ -252,37 +227,21 @@ pub right_not_fails : (scope : Scope) (before : Before) (command : Command) (kin
 right_not_fails scope before command _ known once out reaches (refusals.Unknown _ reg named none) =
     let h = known_register scope command reg named known in
     none h.0 h.1
-right_not_fails scope before command _ known once out reaches (refusals.Unbuilt _ reg q named there unready) =
-    let (place, here, built) = known_register scope command reg named known in
-    cc (sym built ∙ ap is_built (one_place reg place q here.0 there.0) ∙ unready)
-right_not_fails scope before _ _ known once out reaches (refusals.Misfit reg bytes q there ready wrong) = known_fits scope reg bytes q known there wrong
-right_not_fails scope before command kind known once out reaches (refusals.Misnamed _ _ why) = cc (sym (right_named scope before command known.2 once out reaches) ∙ why)
+right_not_fails scope before _ _ known once out reaches (refusals.Misfit reg bytes q there wrong) = known_fits scope reg bytes q known there wrong
+right_not_fails scope before command kind known once out reaches (refusals.Misnamed _ _ why) = cc (sym (right_named scope before command known.1 once out reaches) ∙ why)
 
 -- a command fails with one kind
 one_command_cause : (scope : Scope) (before : Before) (command : Command) (k j : Kind) → CommandFails scope before command k → CommandFails scope before command j → k ≡ j
 one_command_cause scope before command _ _ (refusals.Unknown _ reg named none) (refusals.Unknown _ reg' named' none') = refl
-one_command_cause scope before command _ _ (refusals.Unknown _ reg named none) (refusals.Unbuilt _ reg' q named' there unready) =
-    absurd (none q (subst (λ (r : List ℕ). IsRegister scope.layout r q) (one_register command reg' reg named' named) there))
-one_command_cause scope before command _ _ (refusals.Unknown _ reg named none) (refusals.Misfit reg' bytes q there ready wrong) =
+one_command_cause scope before command _ _ (refusals.Unknown _ reg named none) (refusals.Misfit reg' bytes q there wrong) =
     absurd (none q (subst (λ (r : List ℕ). IsRegister scope.layout r q) (one_register (commands.Set reg' bytes) reg' reg refl named) there))
 one_command_cause scope before command _ _ (refusals.Unknown _ reg named none) (refusals.Misnamed _ kind why) = absurd (cc (sym (register_unnamed scope before command reg named) ∙ why))
-one_command_cause scope before command _ _ (refusals.Unbuilt _ reg p named here unready) (refusals.Unknown _ reg' named' none) =
-    absurd (none p (subst (λ (r : List ℕ). IsRegister scope.layout r p) (one_register command reg reg' named named') here))
-one_command_cause scope before command _ _ (refusals.Unbuilt _ reg p named here unready) (refusals.Unbuilt _ reg' q named' there unready') = refl
-one_command_cause scope before command _ _ (refusals.Unbuilt _ reg p named here unready) (refusals.Misfit reg' bytes q there ready wrong) =
-    let same = same_place scope.layout (commands.Set reg' bytes) reg reg' p q named refl here there in
-    absurd (cc (sym ready ∙ ap is_built (sym same) ∙ unready))
-one_command_cause scope before command _ _ (refusals.Unbuilt _ reg p named here unready) (refusals.Misnamed _ kind why) = absurd (cc (sym (register_unnamed scope before command reg named) ∙ why))
-one_command_cause scope before command _ _ (refusals.Misfit reg bytes p here ready wrong) (refusals.Unknown _ reg' named' none) =
+one_command_cause scope before command _ _ (refusals.Misfit reg bytes p here wrong) (refusals.Unknown _ reg' named' none) =
     absurd (none p (subst (λ (r : List ℕ). IsRegister scope.layout r p) (one_register (commands.Set reg bytes) reg reg' refl named') here))
-one_command_cause scope before command _ _ (refusals.Misfit reg bytes p here ready wrong) (refusals.Unbuilt _ reg' q named' there unready) =
-    let same = same_place scope.layout (commands.Set reg bytes) reg reg' p q refl named' here there in
-    absurd (cc (sym ready ∙ ap is_built same ∙ unready))
-one_command_cause scope before command _ _ (refusals.Misfit reg bytes p here ready wrong) (refusals.Misfit _ _ q there ready' wrong') = refl
-one_command_cause scope before command _ _ (refusals.Misfit reg bytes p here ready wrong) (refusals.Misnamed _ kind why) = absurd (cc why)
+one_command_cause scope before command _ _ (refusals.Misfit reg bytes p here wrong) (refusals.Misfit _ _ q there wrong') = refl
+one_command_cause scope before command _ _ (refusals.Misfit reg bytes p here wrong) (refusals.Misnamed _ kind why) = absurd (cc why)
 one_command_cause scope before command _ _ (refusals.Misnamed _ kind why) (refusals.Unknown _ reg named none) = absurd (cc (sym (register_unnamed scope before command reg named) ∙ why))
-one_command_cause scope before command _ _ (refusals.Misnamed _ kind why) (refusals.Unbuilt _ reg p named here unready) = absurd (cc (sym (register_unnamed scope before command reg named) ∙ why))
-one_command_cause scope before command _ _ (refusals.Misnamed _ kind why) (refusals.Misfit reg bytes p here ready wrong) = absurd (cc why)
+one_command_cause scope before command _ _ (refusals.Misnamed _ kind why) (refusals.Misfit reg bytes p here wrong) = absurd (cc why)
 one_command_cause scope before command _ _ (refusals.Misnamed _ kind why) (refusals.Misnamed _ other why') = cc (sym why ∙ why')
 
 -- where lines fork no child again, the first of them doesn't

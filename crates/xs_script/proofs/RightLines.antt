@@ -49,7 +49,7 @@ outer_right scope before command known none out reaches = record {
 -- a fork
 pub fork_right : (scope : Scope) (before : Before) (name : List ℕ) → is_among name scope.children ≡ true → is_among name before.forked ≡ false → before.inside ≡ false → IsRightLine scope before (lines.Order (commands.Fork name))
 fork_right scope before name child new out = record {
-  known = (tt, tt, child);
+  known = (tt, child);
   once = λ d. distinct_push before.forked name d new;
   outside = ap (λ (t : Bool). t && true) out;
   reaches = tt;

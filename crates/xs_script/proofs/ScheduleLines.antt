@@ -1,5 +1,5 @@
 -- The lines of a schedule: one line more, and the blocks after them.
-use Rattle.std.proofs.Common.{◌≡◌, ℕ, ◌+◌, ◌<◌, true, false, List, [], ◌∷◌, ◌++◌, length, Ok, Err, codes, decimal, refl, sym, ◌∙◌, ap, subst, arith, length-append}
+use Rattle.std.proofs.Common.{◌≡◌, ℕ, ◌+◌, ◌<◌, true, List, [], ◌∷◌, ◌++◌, length, Ok, Err, codes, decimal, refl, sym, ◌∙◌, ap, subst, arith, length-append}
 use Rattle.std.proofs.lemmas.List.{append-nil, map-append, length-map}
 use Rattle.std.proofs.lemmas.List.Concat.{flat_map-append}
 use Rattle.std.specs.List.{AllByRecursion}
@@ -15,7 +15,7 @@ use Rattle.xs_script.specs.ScriptLine.{IsLine, line_text, entries_text}
 use Rattle.xs_script.specs.Grammar.{sched_lines}
 use Rattle.xs_script.specs.LineOrder.{Stand, AtSched, AtBlock, next, fits_sched}
 use Rattle.xs_script.specs.Reads.{Lacks}
-use Rattle.xs_script.specs.Refusal.{LineFails, Early, Unbuilt, Misspelled, Misplaced, Fails, Table, Here, is_unbuilt, unbuilt_words}
+use Rattle.xs_script.specs.Refusal.{LineFails, Early, Misspelled, Misplaced, Fails, Table, Here}
 use Rattle.xs_script.specs.Front.{IsFront, RefusesFrom, ExplainsFrom}
 use Rattle.xs_script.specs.Schedule.{NoSched, AreEntries, TakesWords, WordsFail, NoEntries, OverLimit, ExplainsWords, AreSchedLines, IsScheduleOf}
 use Rattle.xs_script.proofs.Cuts.{Lacks-append, no_cut}
@@ -53,25 +53,24 @@ front_after cpus count text rest (l ∷ ls) end some front =
     record { lines_fit = front.lines_fit; parts = front.parts; leads = (mid, begins_after cpus count l mid step, more) }
 
 -- a line that fails where a block may begin fails after a schedule
-misplaced_after : (cpus count : ℕ) (text : List ℕ) (l : Line) (rest : List ℕ) (kind : Kind) → NoSched text → is_unbuilt text ≡ false → IsLine l → text ≡ line_text l ++ 10 ∷ rest → next (AtBlock []) l ≡ Err kind → LineFails (AtSched cpus count) text kind
-misplaced_after cpus count text (lines.Sched entries) rest kind none built fits e h = absurd (none entries rest fits e)
-misplaced_after cpus count text lines.Version rest kind none built fits e h = Misplaced lines.Version rest kind built fits e h
-misplaced_after cpus count text (lines.Machine named) rest kind none built fits e h = Misplaced (lines.Machine named) rest kind built fits e h
-misplaced_after cpus count text (lines.Row r) rest kind none built fits e h = Misplaced (lines.Row r) rest kind built fits e h
-misplaced_after cpus count text (lines.Cpus n) rest kind none built fits e h = Misplaced (lines.Cpus n) rest kind built fits e h
-misplaced_after cpus count text (lines.Quantum n) rest kind none built fits e h = Misplaced (lines.Quantum n) rest kind built fits e h
-misplaced_after cpus count text (lines.Large n) rest kind none built fits e h = Misplaced (lines.Large n) rest kind built fits e h
-misplaced_after cpus count text (lines.Begin block name) rest kind none built fits e h = Misplaced (lines.Begin block name) rest kind built fits e h
-misplaced_after cpus count text (lines.Order command) rest kind none built fits e h = Misplaced (lines.Order command) rest kind built fits e h
-misplaced_after cpus count text (lines.NoSignal name number) rest kind none built fits e h = Misplaced (lines.NoSignal name number) rest kind built fits e h
-misplaced_after cpus count text lines.Handler rest kind none built fits e h = Misplaced lines.Handler rest kind built fits e h
-misplaced_after cpus count text lines.End rest kind none built fits e h = Misplaced lines.End rest kind built fits e h
+misplaced_after : (cpus count : ℕ) (text : List ℕ) (l : Line) (rest : List ℕ) (kind : Kind) → NoSched text → IsLine l → text ≡ line_text l ++ 10 ∷ rest → next (AtBlock []) l ≡ Err kind → LineFails (AtSched cpus count) text kind
+misplaced_after cpus count text (lines.Sched entries) rest kind none fits e h = absurd (none entries rest fits e)
+misplaced_after cpus count text lines.Version rest kind none fits e h = Misplaced lines.Version rest kind fits e h
+misplaced_after cpus count text (lines.Machine named) rest kind none fits e h = Misplaced (lines.Machine named) rest kind fits e h
+misplaced_after cpus count text (lines.Row r) rest kind none fits e h = Misplaced (lines.Row r) rest kind fits e h
+misplaced_after cpus count text (lines.Cpus n) rest kind none fits e h = Misplaced (lines.Cpus n) rest kind fits e h
+misplaced_after cpus count text (lines.Quantum n) rest kind none fits e h = Misplaced (lines.Quantum n) rest kind fits e h
+misplaced_after cpus count text (lines.Large n) rest kind none fits e h = Misplaced (lines.Large n) rest kind fits e h
+misplaced_after cpus count text (lines.Begin block name) rest kind none fits e h = Misplaced (lines.Begin block name) rest kind fits e h
+misplaced_after cpus count text (lines.Order command) rest kind none fits e h = Misplaced (lines.Order command) rest kind fits e h
+misplaced_after cpus count text (lines.NoSignal name number) rest kind none fits e h = Misplaced (lines.NoSignal name number) rest kind fits e h
+misplaced_after cpus count text lines.Handler rest kind none fits e h = Misplaced lines.Handler rest kind fits e h
+misplaced_after cpus count text lines.End rest kind none fits e h = Misplaced lines.End rest kind fits e h
 
 line_after : (cpus count : ℕ) (text : List ℕ) (kind : Kind) → NoSched text → LineFails (AtBlock []) text kind → LineFails (AtSched cpus count) text kind
 line_after cpus count text _ none (Early e early) = Early e refl
-line_after cpus count text _ none (Unbuilt t) = Unbuilt t
-line_after cpus count text _ none (Misspelled some built other) = Misspelled some built other
-line_after cpus count text _ none (Misplaced l rest kind built fits e h) = misplaced_after cpus count text l rest kind none built fits e h
+line_after cpus count text _ none (Misspelled some other) = Misspelled some other
+line_after cpus count text _ none (Misplaced l rest kind fits e h) = misplaced_after cpus count text l rest kind none fits e h
 
 fails_after : (cpus count first : ℕ) (text : List ℕ) (number : ℕ) (kind : Kind) → NoSched text → Fails (AtBlock []) first text number kind → Fails (AtSched cpus count) first text number kind
 fails_after cpus count first text _ _ none (Table error fault) = absurd (cc fault)
@@ -144,20 +143,13 @@ sched_on cpus first text left words rest number schedule after same h cut taken 
       next = rw length-append (omega (arith, h.next));
     }
 
--- its first word is none of a form that isn't built
-sched_built : (words rest : List ℕ) → is_unbuilt (codes "sched " ++ (words ++ 10 ∷ rest)) ≡ false
-unfolding unbuilt_words
-sched_built words rest = refl
-
 -- what its words are refused with
 words_fail : (cpus count number : ℕ) (left words rest : List ℕ) (kind : Kind) → left ≡ codes "sched " ++ (words ++ 10 ∷ rest) → Lacks 10 words → WordsFail cpus count words kind → Fails (AtSched cpus count) number left number kind
 words_fail cpus count number left words rest _ cut lacks (NoEntries none) =
-    let built : is_unbuilt left ≡ false = ap is_unbuilt cut ∙ sched_built words rest in
     let other = other_line left (codes "sched " ++ words) rest (Lacks-append 10 (codes "sched ") words (lacks_word (codes "sched ") refl) lacks) cut (no_sched words (λ entries fits e. none entries (record { fits = fits; spelled = e }))) in
-    Here BadLine refl (Misspelled (λ e. let t = sym cut ∙ e in cc t) built other)
+    Here BadLine refl (Misspelled (λ e. let t = sym cut ∙ e in cc t) other)
 words_fail cpus count number left words rest _ cut lacks (OverLimit entries read over) =
-    let built : is_unbuilt left ≡ false = ap is_unbuilt cut ∙ sched_built words rest in
-    Here (Limit limits.Sched) refl (Misplaced (lines.Sched entries) rest (Limit limits.Sched) built read.fits (cut ∙ sched_line words rest entries read) (rw over refl))
+    Here (Limit limits.Sched) refl (Misplaced (lines.Sched entries) rest (Limit limits.Sched) read.fits (cut ∙ sched_line words rest entries read) (rw over refl))
 
 pub words_explain : (cpus first number : ℕ) (text left words rest : List ℕ) (schedule : Schedule) (e : ScriptError) → schedule.cpus ≡ cpus → AreSchedLines cpus first text schedule.entries number left → left ≡ codes "sched " ++ (words ++ 10 ∷ rest) → Lacks 10 words → ExplainsWords schedule number words e → ExplainsFrom (AtSched cpus 0) first text e
 words_explain cpus first number text left words rest schedule (errors.Refused line kind) same h cut lacks (at, why) =

@@ -22,13 +22,13 @@ use Rattle.xs_model.specs.declared.script.Order.{Order}
 use Rattle.xs_model.specs.declared.script.Block.{Block}
 use Rattle.xs_model.specs.declared.script.Script.{Script}
 use Rattle.xs_model.specs.Names.{is_fork_of, is_forked, NamesBlock, AreNamedAfter, AreNamed, forked_names, all_forked_names}
-use Rattle.xs_model.specs.Script.{IsValid, IsBuilt, AreBuilt, IsCommand, IsBody, IsBuiltCommand, fits_memory, is_outer, is_return, is_handler, is_handler_from, is_user_kind, is_kernel_command, fits_kind, AreDistinct, is_name, is_letter}
+use Rattle.xs_model.specs.Script.{IsValid, IsCommand, IsBody, lines_of, fits_memory, is_outer, is_return, is_handler, is_handler_from, is_user_kind, is_kernel_command, fits_kind, AreDistinct, is_name, is_letter}
 use Rattle.xs_script.specs.declared.block_part.BlockPart.TheVariants as places
 use Rattle.xs_script.specs.declared.commands.Scope.{Scope}
 use Rattle.xs_script.specs.declared.line.Line.{Line}
 use Rattle.xs_script.specs.declared.line.Line.TheVariants as lines
 use Rattle.xs_script.specs.ScriptLine.{IsNumber, IsLine, IsCommandLine, is_register_byte, is_register_word}
-use Rattle.xs_script.specs.Grammar.{order_lines, handler_lines, lines_text, block_lines, row_lines, head_lines, sched_lines, script_lines, Spells}
+use Rattle.xs_script.specs.Grammar.{HasNumber, HaveNumbers, order_lines, handler_lines, lines_text, block_lines, row_lines, head_lines, sched_lines, script_lines, Spells}
 use Rattle.xs_script.specs.LineOrder.{Stand, AtVersion, AtMachine, AtRow, AtCpus, AtQuantum, AtLarge, AtSched, AtBlock, InBlock, may_have, command_limit, next, after_machine, Leads}
 use Rattle.xs_script.specs.Before.{forks_of}
 use Rattle.xs_script.specs.Refusal.{AreLines, Passes, IsKnown, AreOutside, AreReaching, IsScriptOf}
@@ -103,48 +103,50 @@ forked_is_name (o ∷ earlier) name fit h = by_test (is_fork_of name o.command) 
 
 -- a script's commands, which have names of blocks
 module _ (rows : List Row) (all : List Block) (names : AllByRecursion (λ (b : Block). is_name b.name ≡ true) all) where
-  command_fits : (earlier : List Order) (command : Command) → IsCommand rows command → IsBuiltCommand command → NamesBlock all earlier command → AreLines (order_lines earlier) → IsCommandLine command
-  command_fits earlier (commands.Set reg bytes) (place, here, fits, bytes_are) built named fit =
+  command_fits : (earlier : List Order) (command : Command) → IsCommand rows command → HasNumber command → NamesBlock all earlier command → AreLines (order_lines earlier) → IsCommandLine command
+  command_fits earlier (commands.Set reg bytes) (place, here, fits, bytes_are) small named fit =
       let size = place_length reg place here.0 in
       let len = fits_length place bytes fits in
       (register_word reg place here.0, omega (arith, size.0, len), bytes_are)
-  command_fits earlier (commands.Get reg) (place, here) built named fit = register_word reg place here.0
-  command_fits earlier (commands.Ksec byte) fits built named fit = fits
-  command_fits earlier commands.Yield fits built named fit = tt
-  command_fits earlier (commands.Peek at len) fits built named fit = let parts = memory_parts frame_length at len fits in (omega (arith, parts.2), omega (arith, parts.1))
-  command_fits earlier (commands.Poke at bytes) fits built named fit = let parts = memory_parts frame_length at (length bytes) fits.0 in (omega (arith, parts.2), omega (arith, parts.0), fits.1)
-  command_fits earlier (commands.Bpeek at len) fits built named fit = let parts = memory_parts buffer_length at len fits in (omega (arith, parts.2), omega (arith, parts.1))
-  command_fits earlier (commands.Bpoke at bytes) fits built named fit = let parts = memory_parts buffer_length at (length bytes) fits.0 in (omega (arith, parts.2), omega (arith, parts.0), fits.1)
-  command_fits earlier commands.Sigreturn fits built named fit = tt
-  command_fits earlier (commands.Kill name signo) fits built named fit = handled_is_name all name names named
-  command_fits earlier (commands.Fork name) fits built named fit = child_is_name all name names named
-  command_fits earlier commands.Stop fits built named fit = tt
-  command_fits earlier (commands.Wait name) fits built named fit = forked_is_name earlier name fit named
-  command_fits earlier (commands.Getregs name set) fits built named fit = forked_is_name earlier name fit named.0
-  command_fits earlier (commands.Setregs name set count) fits built named fit = (forked_is_name earlier name fit named.0, omega (arith, fits))
-  command_fits earlier (commands.Cont name) fits built named fit = forked_is_name earlier name fit named.0
-  command_fits earlier other fits built named fit = absurd built
+  command_fits earlier (commands.Get reg) (place, here) small named fit = register_word reg place here.0
+  command_fits earlier (commands.Ksec byte) fits small named fit = fits
+  command_fits earlier commands.Tilerelease fits small named fit = tt
+  command_fits earlier (commands.Perm feature) fits small named fit = small
+  command_fits earlier commands.Yield fits small named fit = tt
+  command_fits earlier (commands.Peek at len) fits small named fit = let parts = memory_parts frame_length at len fits in (omega (arith, parts.2), omega (arith, parts.1))
+  command_fits earlier (commands.Poke at bytes) fits small named fit = let parts = memory_parts frame_length at (length bytes) fits.0 in (omega (arith, parts.2), omega (arith, parts.0), fits.1)
+  command_fits earlier (commands.Bpeek at len) fits small named fit = let parts = memory_parts buffer_length at len fits in (omega (arith, parts.2), omega (arith, parts.1))
+  command_fits earlier (commands.Bpoke at bytes) fits small named fit = let parts = memory_parts buffer_length at (length bytes) fits.0 in (omega (arith, parts.2), omega (arith, parts.0), fits.1)
+  command_fits earlier commands.Sigreturn fits small named fit = tt
+  command_fits earlier (commands.Kill name signo) fits small named fit = handled_is_name all name names named
+  command_fits earlier (commands.Fork name) fits small named fit = child_is_name all name names named
+  command_fits earlier commands.Stop fits small named fit = tt
+  command_fits earlier (commands.Wait name) fits small named fit = forked_is_name earlier name fit named
+  command_fits earlier (commands.Getregs name set) fits small named fit = forked_is_name earlier name fit named.0
+  command_fits earlier (commands.Setregs name set count) fits small named fit = (forked_is_name earlier name fit named.0, omega (arith, fits))
+  command_fits earlier (commands.Cont name) fits small named fit = forked_is_name earlier name fit named.0
 
-  orders_fit : (earlier orders : List Order) → AllByRecursion (λ (order : Order). IsCommand rows order.command) orders → AllByRecursion (λ (order : Order). IsBuiltCommand order.command) orders → AreNamedAfter all earlier orders → AreLines (order_lines earlier) → AreLines (order_lines orders)
+  orders_fit : (earlier orders : List Order) → AllByRecursion (λ (order : Order). IsCommand rows order.command) orders → HaveNumbers orders → AreNamedAfter all earlier orders → AreLines (order_lines earlier) → AreLines (order_lines orders)
   orders_fit earlier [] h g n fit = tt
   orders_fit earlier (o ∷ orders) h g n fit =
       let here = command_fits earlier o.command h.0 g.0 n.0 fit in
       (here, orders_fit (o ∷ earlier) orders h.1 g.1 n.1 (here, fit))
 
   -- those of a handler are local
-  local_fit : (orders : List Order) → AllByRecursion (λ (order : Order). IsCommand rows order.command) orders → AllByRecursion (λ (order : Order). IsBuiltCommand order.command) orders → AllByRecursion (λ (order : Order). is_outer order.command ≡ false) orders → AreLines (order_lines orders)
+  local_fit : (orders : List Order) → AllByRecursion (λ (order : Order). IsCommand rows order.command) orders → HaveNumbers orders → AllByRecursion (λ (order : Order). is_outer order.command ≡ false) orders → AreLines (order_lines orders)
   local_fit [] h g local = tt
   local_fit (o ∷ orders) h g local = (command_fits [] o.command h.0 g.0 (local_names all [] o.command local.0) tt, local_fit orders h.1 g.1 local.1)
 
-  pub blocks_fit : (blocks : List Block) → AllByRecursion (λ (b : Block). is_name b.name ≡ true) blocks → AllByRecursion (λ (b : Block). IsBody rows b) blocks → AllByRecursion (λ (b : Block). AreBuilt b.body) blocks → AllByRecursion (λ (b : Block). AreBuilt b.handler) blocks → AllByRecursion (λ (b : Block). AreNamed all b.body) blocks → AreLines (flat_map block_lines blocks)
-  blocks_fit [] spelled bodies built handled named = tt
-  blocks_fit (b ∷ blocks) spelled bodies built handled named =
-      let handler = handler_all IsLine b.handler tt (local_fit b.handler bodies.0.handler handled.0 (handler_local b.handler bodies.0.returns)) in
-      block_join IsLine b (flat_map block_lines blocks) (record { begins = spelled.0; body = orders_fit [] b.body bodies.0.body built.0 named.0 tt; handler = handler; ends = tt }) (blocks_fit blocks spelled.1 bodies.1 built.1 handled.1 named.1)
+  pub blocks_fit : (blocks : List Block) → AllByRecursion (λ (b : Block). is_name b.name ≡ true) blocks → AllByRecursion (λ (b : Block). IsBody rows b) blocks → AllByRecursion (λ (b : Block). HaveNumbers (lines_of b)) blocks → AllByRecursion (λ (b : Block). AreNamed all b.body) blocks → AreLines (flat_map block_lines blocks)
+  blocks_fit [] spelled bodies numbers named = tt
+  blocks_fit (b ∷ blocks) spelled bodies numbers named =
+      let small = all_parts (λ (o : Order). HasNumber o.command) b.body b.handler numbers.0 in
+      let handler = handler_all IsLine b.handler tt (local_fit b.handler bodies.0.handler small.1 (handler_local b.handler bodies.0.returns)) in
+      block_join IsLine b (flat_map block_lines blocks) (record { begins = spelled.0; body = orders_fit [] b.body bodies.0.body small.0 named.0 tt; handler = handler; ends = tt }) (blocks_fit blocks spelled.1 bodies.1 numbers.1 named.1)
 
 -- the lines of its blocks
-script_fits : (script : Script) → IsValid script → IsBuilt script → AreLines (flat_map block_lines script.blocks)
-script_fits script valid built = blocks_fit script.layout script.blocks valid.names script.blocks valid.names valid.bodies built.bodies built.handlers valid.named
+script_fits : (script : Script) → IsValid script → AllByRecursion (λ (b : Block). HaveNumbers (lines_of b)) script.blocks → AreLines (flat_map block_lines script.blocks)
+script_fits script valid numbers = blocks_fit script.layout script.blocks valid.names script.blocks valid.names valid.bodies numbers valid.named
 
 -- the lines of a schedule, whose entries are processors
 sched_fits : (groups : List (List ℕ)) (cpus : ℕ) → cpus ≤ 16 → AllByRecursion (λ group. 0 < length group) groups → AllByRecursion (λ entry. entry < cpus) (joined groups) → AreLines (sched_lines groups)
@@ -297,10 +299,10 @@ blocks_lead rows names (b ∷ blocks) few h bodies =
 -- ---- a text that spells a script
 
 -- the lines of its blocks, after a schedule
-blocks_after : (cpus count : ℕ) (script : Script) → IsValid script → IsBuilt script → Leads (AtSched cpus count) (flat_map block_lines script.blocks) (AtBlock (names_of script.blocks))
-blocks_after cpus count script valid built =
+blocks_after : (cpus count : ℕ) (script : Script) → IsValid script → AllByRecursion (λ (b : Block). HaveNumbers (lines_of b)) script.blocks → Leads (AtSched cpus count) (flat_map block_lines script.blocks) (AtBlock (names_of script.blocks))
+blocks_after cpus count script valid numbers =
     let few : 0 + length script.blocks ≤ 64 = omega (arith, valid.few) in
-    let fit = script_fits script valid built in
+    let fit = script_fits script valid numbers in
     let text = lines_text (flat_map block_lines script.blocks) in
     let front : IsFront (AtBlock []) text (flat_map block_lines script.blocks) (AtBlock (names_of script.blocks)) [] = record { lines_fit = fit; parts = sym (append-nil text); leads = blocks_lead script.layout [] script.blocks few valid.distinct valid.bodies } in
     (front_after cpus count text [] (flat_map block_lines script.blocks) (AtBlock (names_of script.blocks)) (some_lines script.blocks valid.some) front).leads
@@ -313,29 +315,29 @@ spelled_passes text script h =
     let after = AtSched script.cpus (0 + length (joined h.groups)) in
     record {
       lines_fit = all_join IsLine (head_lines script) (sched_lines h.groups ++ flat_map block_lines script.blocks) (head_fits script h.valid)
-          (all_join IsLine (sched_lines h.groups) (flat_map block_lines script.blocks) (sched_fits h.groups script.cpus h.valid.cpus.1 h.grouped.some entries) (script_fits script h.valid h.built));
+          (all_join IsLine (sched_lines h.groups) (flat_map block_lines script.blocks) (sched_fits h.groups script.cpus h.valid.cpus.1 h.grouped.some entries) (script_fits script h.valid h.numbers));
       spelled = h.spelled;
       stand = end;
       leads = leads_join AtVersion (AtSched script.cpus 0) end (head_lines script) (sched_lines h.groups ++ flat_map block_lines script.blocks) (head_leads script h.valid)
-          (leads_join (AtSched script.cpus 0) after end (sched_lines h.groups) (flat_map block_lines script.blocks) (sched_leads_on script.cpus 0 h.groups entries (omega (arith, long, h.valid.schedule))) (blocks_after script.cpus (0 + length (joined h.groups)) script h.valid h.built));
+          (leads_join (AtSched script.cpus 0) after end (sched_lines h.groups) (flat_map block_lines script.blocks) (sched_leads_on script.cpus 0 h.groups entries (omega (arith, long, h.valid.schedule))) (blocks_after script.cpus (0 + length (joined h.groups)) script h.valid h.numbers));
       whole = may_end_some script.blocks h.valid.some;
     }
 
 module _ (rows : List Row) (all : List Block) where
-  orders_are_known : (earlier orders : List Order) → AllByRecursion (λ (order : Order). IsCommand rows order.command) orders → AreBuilt orders → AreNamedAfter all earlier orders → AllByRecursion (IsKnown (block_scope rows all)) (order_lines orders)
-  orders_are_known earlier [] h g n = tt
-  orders_are_known earlier (o ∷ orders) h g n = ((h.0, g.0, names_one rows all earlier o.command n.0), orders_are_known (o ∷ earlier) orders h.1 g.1 n.1)
+  orders_are_known : (earlier orders : List Order) → AllByRecursion (λ (order : Order). IsCommand rows order.command) orders → AreNamedAfter all earlier orders → AllByRecursion (IsKnown (block_scope rows all)) (order_lines orders)
+  orders_are_known earlier [] h n = tt
+  orders_are_known earlier (o ∷ orders) h n = ((h.0, names_one rows all earlier o.command n.0), orders_are_known (o ∷ earlier) orders h.1 n.1)
 
-  local_are_known : (orders : List Order) → AllByRecursion (λ (order : Order). IsCommand rows order.command) orders → AreBuilt orders → AllByRecursion (λ (order : Order). is_outer order.command ≡ false) orders → AllByRecursion (IsKnown (block_scope rows all)) (order_lines orders)
-  local_are_known [] h g local = tt
-  local_are_known (o ∷ orders) h g local = ((h.0, g.0, names_one rows all [] o.command (local_names all [] o.command local.0)), local_are_known orders h.1 g.1 local.1)
+  local_are_known : (orders : List Order) → AllByRecursion (λ (order : Order). IsCommand rows order.command) orders → AllByRecursion (λ (order : Order). is_outer order.command ≡ false) orders → AllByRecursion (IsKnown (block_scope rows all)) (order_lines orders)
+  local_are_known [] h local = tt
+  local_are_known (o ∷ orders) h local = ((h.0, names_one rows all [] o.command (local_names all [] o.command local.0)), local_are_known orders h.1 local.1)
 
-  pub blocks_are_known : (blocks : List Block) → AllByRecursion (λ (b : Block). IsBody rows b) blocks → AllByRecursion (λ (b : Block). AreBuilt b.body) blocks → AllByRecursion (λ (b : Block). AreBuilt b.handler) blocks → AllByRecursion (λ (b : Block). AreNamed all b.body) blocks → AllByRecursion (IsKnown (block_scope rows all)) (flat_map block_lines blocks)
-  blocks_are_known [] h g k n = tt
-  blocks_are_known (b ∷ blocks) h g k n =
+  pub blocks_are_known : (blocks : List Block) → AllByRecursion (λ (b : Block). IsBody rows b) blocks → AllByRecursion (λ (b : Block). AreNamed all b.body) blocks → AllByRecursion (IsKnown (block_scope rows all)) (flat_map block_lines blocks)
+  blocks_are_known [] h n = tt
+  blocks_are_known (b ∷ blocks) h n =
       let scope = block_scope rows all in
-      let handler = handler_all (IsKnown scope) b.handler tt (local_are_known b.handler h.0.handler k.0 (handler_local b.handler h.0.returns)) in
-      block_join (IsKnown scope) b (flat_map block_lines blocks) (record { begins = tt; body = orders_are_known [] b.body h.0.body g.0 n.0; handler = handler; ends = tt }) (blocks_are_known blocks h.1 g.1 k.1 n.1)
+      let handler = handler_all (IsKnown scope) b.handler tt (local_are_known b.handler h.0.handler (handler_local b.handler h.0.returns)) in
+      block_join (IsKnown scope) b (flat_map block_lines blocks) (record { begins = tt; body = orders_are_known [] b.body h.0.body n.0; handler = handler; ends = tt }) (blocks_are_known blocks h.1 n.1)
 
 -- ---- outer commands
 
@@ -374,7 +376,7 @@ spelled_read text script h =
     let bare = front_no_names script h.groups in
     let parted = parted_lines script h.groups in
     let scope_is = script_scope script h.groups h.valid.machine in
-    let known = all_join (IsKnown scope) before bodies (all_join (IsKnown scope) (head_lines script) (sched_lines h.groups) (head_known scope script) (sched_known scope h.groups)) (blocks_are_known script.layout script.blocks script.blocks h.valid.bodies h.built.bodies h.built.handlers h.valid.named) in
+    let known = all_join (IsKnown scope) before bodies (all_join (IsKnown scope) (head_lines script) (sched_lines h.groups) (head_known scope script) (sched_known scope h.groups)) (blocks_are_known script.layout script.blocks script.blocks h.valid.bodies h.valid.named) in
     let forks : forks_of lined ≡ all_forked_names script.blocks = ap forks_of parted ∙ no_forks before bodies bare ∙ blocks_forks script.blocks (body_forks script.layout script.blocks h.valid.bodies) in
     record {
       groups = h.groups;

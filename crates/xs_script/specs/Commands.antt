@@ -2,16 +2,13 @@
 -- of the lines before a command.
 use Rattle.std.specs.Prelude.{◌≡◌, ℕ, Bool, true, false, ◌&&◌, List, [], ◌∷◌, ◌++◌, map, bytes_eq, None, if◌then◌else◌}
 use Rattle.std.specs.List.{list_any}
-use Rattle.xs_base.specs.declared.component.Row.{Row}
 use Rattle.xs_base.specs.declared.component.Place.{Place}
 use Rattle.xs_base.specs.Register.{IsRegister}
 use Rattle.xs_model.specs.declared.script.Command.{Command}
 use Rattle.xs_model.specs.declared.script.Command.TheVariants.{Set, Get, Fork, Wait, Cont}
-use Rattle.xs_model.specs.Script.{fits_register, is_built}
+use Rattle.xs_model.specs.Script.{fits_register}
 use Rattle.xs_script.specs.declared.commands.Scope.{Scope}
 use Rattle.xs_script.specs.declared.own_child.OwnChild.{OwnChild}
-use Rattle.xs_script.specs.declared.refusal.Kind.{Kind}
-use Rattle.xs_script.specs.declared.refusal.Kind.TheVariants.{NotBuilt, UnknownName}
 use Rattle.xs_script.specs.Before.{Before}
 use Rattle.xs_script.specs.Refusal.{name_fault}
 
@@ -45,18 +42,8 @@ known_before inside forked own = record { inside = inside; forked = forked; own 
 
 -- ---- commands
 
--- The register is one of the machine and of those that are built, and this is its place.
-pub record IsBuiltRegister (rows : List Row) (reg : List ℕ) (place : Place) : Type 0 where
-  pub here : IsRegister rows reg place
-  pub built : is_built place ≡ true
-
--- what a register is refused with
-pub data RegisterFails (rows : List Row) (reg : List ℕ) : Kind → Type 0 where
-  NoRegister : ((place : Place) → IsRegister rows reg place → ⊥) → RegisterFails rows reg UnknownName
-  Unready : (place : Place) → IsRegister rows reg place → is_built place ≡ false → RegisterFails rows reg NotBuilt
-
 -- Nothing is wrong with the command, by what the lines before it tell.
 abbrev pub PassesCommand : Scope → Before → Command → Type 0
-PassesCommand scope before (Set reg bytes) = (place : Place) × IsBuiltRegister scope.layout reg place × (fits_register place bytes ≡ true)
-PassesCommand scope before (Get reg) = (place : Place) × IsBuiltRegister scope.layout reg place
+PassesCommand scope before (Set reg bytes) = (place : Place) × IsRegister scope.layout reg place × (fits_register place bytes ≡ true)
+PassesCommand scope before (Get reg) = (place : Place) × IsRegister scope.layout reg place
 PassesCommand scope before other = name_fault scope before other ≡ None

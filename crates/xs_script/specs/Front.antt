@@ -1,5 +1,5 @@
 -- What a reader has read of a text so far, and what it keeps of it.
-use Rattle.std.specs.Prelude.{◌≡◌, ℕ, ◌+◌, false, List, ◌∷◌, ◌++◌, length, Result, Err}
+use Rattle.std.specs.Prelude.{◌≡◌, ℕ, ◌+◌, List, ◌∷◌, ◌++◌, length, Result, Err}
 use Rattle.xs_script.specs.declared.line.Line.{Line}
 use Rattle.xs_script.specs.declared.refusal.Kind.{Kind}
 use Rattle.xs_script.specs.declared.refusal.ScriptError.{ScriptError}
@@ -7,7 +7,7 @@ use Rattle.xs_script.specs.declared.refusal.ScriptError.TheVariants as errors
 use Rattle.xs_script.specs.ScriptLine.{IsLine, line_text, kept_line}
 use Rattle.xs_script.specs.Grammar.{lines_text}
 use Rattle.xs_script.specs.LineOrder.{Stand, Leads}
-use Rattle.xs_script.specs.Refusal.{AreLines, Fails, is_unbuilt}
+use Rattle.xs_script.specs.Refusal.{AreLines, Fails}
 
 -- The text begins with these lines, which lead from one stand to another, and the rest comes after them.
 pub record IsFront (from : Stand) (text : List ℕ) (ls : List Line) (to : Stand) (rest : List ℕ) : Type 0 where
@@ -27,12 +27,11 @@ abbrev pub ExplainsFrom : Stand → ℕ → List ℕ → ScriptError → Type 0
 ExplainsFrom from first text (errors.Refused line kind) = RefusesFrom from first text line kind
 ExplainsFrom from first text errors.Memory = Unit {0}
 
--- The text's first line is of a form that this version has. This is kept of it, and the rest comes after its line feed.
+-- The text has a first line. This is kept of it, and the rest comes after its line feed.
 pub record IsNext (text : List ℕ) (kept : Line) (rest : List ℕ) : Type 0 where
   pub line : Line
   pub fits : IsLine line
   pub spelled : text ≡ line_text line ++ 10 ∷ rest
-  pub built : is_unbuilt text ≡ false
   pub kept_is : kept ≡ kept_line line
 
 -- What the text's first line, which is line `number`, is refused with.

@@ -5,13 +5,15 @@ use Rattle.std.specs.List.{flat_map, AllByRecursion}
 use Rattle.xs_base.specs.declared.component.Row.{Row}
 use Rattle.xs_model.specs.declared.script.Named.{Named}
 use Rattle.xs_model.specs.declared.script.Named.TheVariants as machines
+use Rattle.xs_model.specs.declared.script.Command.{Command}
+use Rattle.xs_model.specs.declared.script.Command.TheVariants as commands
 use Rattle.xs_model.specs.declared.script.Order.{Order}
 use Rattle.xs_model.specs.declared.script.Block.{Block}
 use Rattle.xs_model.specs.declared.script.Script.{Script}
-use Rattle.xs_model.specs.Script.{IsValid, IsBuilt, AreBlocksNumbered}
+use Rattle.xs_model.specs.Script.{IsValid, AreBlocksNumbered, lines_of}
 use Rattle.xs_script.specs.declared.line.Line.{Line}
 use Rattle.xs_script.specs.declared.line.Line.TheVariants as lines
-use Rattle.xs_script.specs.ScriptLine.{line_text}
+use Rattle.xs_script.specs.ScriptLine.{IsNumber, line_text}
 
 -- the lines of a text, each ended by a line feed
 abbrev pub lines_text : List Line → List ℕ
@@ -52,10 +54,19 @@ head_lines script =
 abbrev pub script_lines : Script → List (List ℕ) → List Line
 script_lines script groups = head_lines script ++ (sched_lines groups ++ flat_map block_lines script.blocks)
 
+-- A text has numbers of 32 bits. What a command asks the permission for is any of them, and each other number of a command
+-- has a lower limit of its own.
+abbrev pub HasNumber : Command → Type 0
+HasNumber (commands.Perm feature) = IsNumber feature
+HasNumber other = Unit {0}
+
+abbrev pub HaveNumbers : List Order → Type 0
+HaveNumbers orders = AllByRecursion (λ (order : Order). HasNumber order.command) orders
+
 -- The text spells the script: it is the script's lines, and each order has the number of its line, counted from 1.
 pub record Spells (text : List ℕ) (script : Script) : Type 0 where
   pub valid : IsValid script
-  pub built : IsBuilt script
+  pub numbers : AllByRecursion (λ (block : Block). HaveNumbers (lines_of block)) script.blocks
   pub groups : List (List ℕ)
   pub grouped : AreGroups groups script.sched
   pub numbered : AreBlocksNumbered (length (head_lines script) + length groups + 1) script.blocks

@@ -14,14 +14,14 @@ use Rattle.xs_model.specs.declared.script.Command.{Command}
 use Rattle.xs_model.specs.declared.script.Command.TheVariants as commands
 use Rattle.xs_model.specs.declared.script.Script.{Script}
 use Rattle.xs_model.specs.Bound.{most_events}
-use Rattle.xs_model.specs.Script.{AreDistinct, AreBlocksNumbered, IsTableOf, IsCommand, IsBuiltCommand, is_outer, fits_register, is_built}
+use Rattle.xs_model.specs.Script.{AreDistinct, AreBlocksNumbered, IsTableOf, IsCommand, is_outer, fits_register}
 use Rattle.xs_model.specs.declared.script.BlockKind.{BlockKind}
 use Rattle.xs_model.specs.declared.script.BlockKind.TheVariants as kinds
 use Rattle.xs_script.specs.declared.commands.Scope.{Scope}
 use Rattle.xs_script.specs.declared.line.Line.{Line}
 use Rattle.xs_script.specs.declared.line.Line.TheVariants as lines
 use Rattle.xs_script.specs.declared.refusal.Kind.{Kind}
-use Rattle.xs_script.specs.declared.refusal.Kind.TheVariants.{NotBuilt, BadLine, Layout, Repeated, UnknownName, OuterInHandler, NotAwaited, TooMuch}
+use Rattle.xs_script.specs.declared.refusal.Kind.TheVariants.{BadLine, Layout, Repeated, UnknownName, OuterInHandler, NotAwaited, TooMuch}
 use Rattle.xs_script.specs.declared.refusal.ScriptError.{ScriptError}
 use Rattle.xs_script.specs.declared.refusal.ScriptError.TheVariants as errors
 use Rattle.xs_script.specs.ScriptLine.{IsLine, line_text}
@@ -43,14 +43,6 @@ first_line text = before 10 text
 abbrev pub first_word : List ℕ → List ℕ
 first_word text = before 32 (first_line text)
 
--- the first words of the forms that this version doesn't have
-unfoldable pub unbuilt_words : List (List ℕ)
-unbuilt_words = codes "tilerelease" ∷ codes "perm" ∷ []
-
--- The text's first line is of a form that this version doesn't have, however it goes on.
-abbrev pub is_unbuilt : List ℕ → Bool
-is_unbuilt text = list_any (λ word. bytes_eq word (first_word text)) unbuilt_words
-
 -- ---- the first pass: spelling, order, limits, rows, names of blocks
 
 -- no line is the text's first
@@ -60,9 +52,8 @@ NoLine text = (line : Line) (rest : List ℕ) → IsLine line → text ≡ line_
 -- What the first line of a text is refused with, where a reader stands so. A text that ends too early fails there.
 pub data LineFails (stand : Stand) (text : List ℕ) : Kind → Type 0 where
   Early : text ≡ [] → may_end stand ≡ false → LineFails stand text BadLine
-  Unbuilt : is_unbuilt text ≡ true → LineFails stand text NotBuilt
-  Misspelled : (text ≡ [] → ⊥) → is_unbuilt text ≡ false → NoLine text → LineFails stand text BadLine
-  Misplaced : (line : Line) (rest : List ℕ) (kind : Kind) → is_unbuilt text ≡ false → IsLine line → text ≡ line_text line ++ 10 ∷ rest → next stand line ≡ Err kind → LineFails stand text kind
+  Misspelled : (text ≡ [] → ⊥) → NoLine text → LineFails stand text BadLine
+  Misplaced : (line : Line) (rest : List ℕ) (kind : Kind) → IsLine line → text ≡ line_text line ++ 10 ∷ rest → next stand line ≡ Err kind → LineFails stand text kind
 
 -- The rows are over where a line comes that doesn't begin with `row`, or no line. Then the whole table is tested.
 abbrev pub table_fault : Stand → List ℕ → Option LayoutError
@@ -194,10 +185,9 @@ NamesOne scope (commands.Fork name) = is_among name scope.children ≡ true
 NamesOne scope (commands.Kill name signo) = is_among name scope.handled ≡ true
 NamesOne scope other = Unit {0}
 
--- A command's register is one of the machine and of those that are built, a value fits it, and the block that it names is
--- one that it may name.
+-- A command's register is one of the machine, a value fits it, and the block that it names is one that it may name.
 abbrev pub IsKnownCommand : Scope → Command → Type 0
-IsKnownCommand scope command = IsCommand scope.layout command × IsBuiltCommand command × NamesOne scope command
+IsKnownCommand scope command = IsCommand scope.layout command × NamesOne scope command
 
 -- An outer command doesn't stand in a handler.
 abbrev pub outer_fault : Bool → Option Kind
@@ -235,8 +225,7 @@ name_fault scope before other = None
 -- What a command is refused with.
 pub data CommandFails (scope : Scope) (before : Before) : Command → Kind → Type 0 where
   Unknown : (command : Command) (reg : List ℕ) → register_of command ≡ Some reg → ((place : Place) → IsRegister scope.layout reg place → ⊥) → CommandFails scope before command UnknownName
-  Unbuilt : (command : Command) (reg : List ℕ) (place : Place) → register_of command ≡ Some reg → IsRegister scope.layout reg place → is_built place ≡ false → CommandFails scope before command NotBuilt
-  Misfit : (reg bytes : List ℕ) (place : Place) → IsRegister scope.layout reg place → is_built place ≡ true → fits_register place bytes ≡ false → CommandFails scope before (commands.Set reg bytes) BadLine
+  Misfit : (reg bytes : List ℕ) (place : Place) → IsRegister scope.layout reg place → fits_register place bytes ≡ false → CommandFails scope before (commands.Set reg bytes) BadLine
   Misnamed : (command : Command) (kind : Kind) → name_fault scope before command ≡ Some kind → CommandFails scope before command kind
 
 abbrev pub IsKnown : Scope → Line → Type 0

@@ -30,7 +30,6 @@ layout_word errors.LegacyMissing = codes "legacy-missing"
 layout_word errors.TileAlone = codes "tile-alone"
 
 abbrev pub kind_text : Kind → List ℕ
-kind_text kinds.NotBuilt = codes "not-built"
 kind_text kinds.BadLine = codes "bad-line"
 kind_text (kinds.Limit name) = codes "limit " ++ limit_word name
 kind_text (kinds.Layout error) = codes "layout " ++ layout_word error

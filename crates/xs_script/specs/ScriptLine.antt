@@ -43,12 +43,13 @@ abbrev pub set_word : Set → List ℕ
 set_word sets.Xstate = codes "xstate"
 set_word sets.Fx = codes "fx"
 
--- Words are separated by one space. Bytes are digits 0 to 9 and a to f, two a byte, in the order of addresses. A command
--- that this version doesn't have has no line.
+-- Words are separated by one space. Bytes are digits 0 to 9 and a to f, two a byte, in the order of addresses.
 abbrev pub command_text : Command → List ℕ
 command_text (commands.Set reg bytes) = codes "set " ++ (reg ++ 32 ∷ encode_lower bytes)
 command_text (commands.Get reg) = codes "get " ++ reg
 command_text (commands.Ksec byte) = codes "ksec " ++ encode_lower (byte ∷ [])
+command_text commands.Tilerelease = codes "tilerelease"
+command_text (commands.Perm feature) = codes "perm " ++ decimal feature
 command_text commands.Yield = codes "yield"
 command_text (commands.Peek at len) = codes "peek " ++ (decimal at ++ 32 ∷ decimal len)
 command_text (commands.Poke at bytes) = codes "poke " ++ (decimal at ++ 32 ∷ encode_lower bytes)
@@ -62,7 +63,6 @@ command_text (commands.Wait name) = codes "wait " ++ name
 command_text (commands.Getregs name set) = codes "getregs " ++ (name ++ 32 ∷ set_word set)
 command_text (commands.Setregs name set count) = codes "setregs " ++ (name ++ 32 ∷ (set_word set ++ 32 ∷ decimal count))
 command_text (commands.Cont name) = codes "cont " ++ name
-command_text other = []
 
 abbrev pub line_text : Line → List ℕ
 line_text lines.Version = codes "xstate 1"
@@ -78,7 +78,7 @@ line_text (lines.NoSignal name number) = kill_text name number
 line_text lines.Handler = codes "handler"
 line_text lines.End = codes "end"
 
--- ---- which values have a spelling in this version
+-- ---- which values have a spelling
 
 abbrev pub IsNumber : ℕ → Type 0
 IsNumber n = n < 2 ^ 32
@@ -95,6 +95,8 @@ abbrev pub IsCommandLine : Command → Type 0
 IsCommandLine (commands.Set reg bytes) = (is_register_word reg ≡ true) × (0 < length bytes) × AllByRecursion (λ byte. byte < 256) bytes
 IsCommandLine (commands.Get reg) = is_register_word reg ≡ true
 IsCommandLine (commands.Ksec byte) = byte < 256
+IsCommandLine commands.Tilerelease = Unit {0}
+IsCommandLine (commands.Perm feature) = IsNumber feature
 IsCommandLine commands.Yield = Unit {0}
 IsCommandLine (commands.Peek at len) = IsNumber at × IsNumber len
 IsCommandLine (commands.Poke at bytes) = IsNumber at × (0 < length bytes) × AllByRecursion (λ byte. byte < 256) bytes
@@ -108,7 +110,6 @@ IsCommandLine (commands.Wait name) = is_name name ≡ true
 IsCommandLine (commands.Getregs name set) = is_name name ≡ true
 IsCommandLine (commands.Setregs name set count) = (is_name name ≡ true) × IsNumber count
 IsCommandLine (commands.Cont name) = is_name name ≡ true
-IsCommandLine other = ⊥
 
 -- a number that is that of a signal
 abbrev pub IsSignal : ℕ → Type 0

@@ -1,13 +1,12 @@
 //! The commands of a script, and what they name.
 
-ghost use Rattle.std.specs.Prelude.{◌≡◌, ◌==◌, drop, MatchOption, IfOk, IfErr};
+ghost use Rattle.std.specs.Prelude.{◌≡◌, ◌==◌, drop, MatchOption};
 ghost use Rattle.std.specs.List.{list_all};
 ghost use Rattle.xs_base.specs.File.{is_mxcsr};
 ghost use Rattle.xs_model.specs.Script.{fits_register};
 ghost use Rattle.xs_script.specs.Refusal.{is_among, outer_fault, wait_fault, reach_fault, name_fault, CommandFails};
-ghost use Rattle.xs_script.specs.Commands.{known_before, IsBuiltRegister, RegisterFails, PassesCommand};
+ghost use Rattle.xs_script.specs.Commands.{known_before, PassesCommand};
 
-use crate::built::is_built;
 use crate::own_child::{OwnChild, is_own, is_own_awaited};
 use crate::refusal::Kind;
 use xs_base::{Lane, Place};
@@ -38,14 +37,14 @@ pub(crate) fn command_fault(
     ensures { MatchOption result (PassesCommand scope.now (known_before inside forked.now own.now) command.now) (CommandFails scope.now (known_before inside forked.now own.now) command.now) }
 {
     match command {
-        Command::Set { reg, bytes } => match find_register(&scope.layout, reg.as_slice()) {
-            Ok(place) if fits_register(place, bytes) => None,
-            Ok(_) => Some(Kind::BadLine),
-            Err(kind) => Some(kind),
+        Command::Set { reg, bytes } => match place_of_bytes(reg.as_slice(), &scope.layout) {
+            Some(place) if fits_register(place, bytes) => None,
+            Some(_) => Some(Kind::BadLine),
+            None => Some(Kind::UnknownName),
         },
-        Command::Get { reg } => match find_register(&scope.layout, reg.as_slice()) {
-            Ok(_) => None,
-            Err(kind) => Some(kind),
+        Command::Get { reg } => match place_of_bytes(reg.as_slice(), &scope.layout) {
+            Some(_) => None,
+            None => Some(Kind::UnknownName),
         },
         other => name_fault(scope, inside, forked, own, other),
     }
@@ -125,18 +124,6 @@ pub(crate) fn is_among(name: &Name, names: &[Name]) -> bool
 {
     let name = name.as_slice();
     names.iter().any(|other| other.as_slice() == name)
-}
-
-/// The place of a register that the program has.
-fn find_register(layout: &Layout, reg: &[u8]) -> Result<Place, Kind>
-    ensures found { IfOk result (IsBuiltRegister layout.now reg.now) }
-    ensures refused { IfErr result (RegisterFails layout.now reg.now) }
-{
-    match place_of_bytes(reg, layout) {
-        Some(place) if is_built(place) => Ok(place),
-        Some(_) => Err(Kind::NotBuilt),
-        None => Err(Kind::UnknownName),
-    }
 }
 
 /// Whether the register can be set to these bytes: as many as it has, and for MXCSR with bits 16 to 31 zero, which are

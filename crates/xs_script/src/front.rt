@@ -6,7 +6,7 @@ ghost use Rattle.xs_script.specs.Refusal.{LineFails};
 ghost use Rattle.xs_script.specs.Front.{IsNext};
 
 use crate::line::Line;
-use crate::line_reader::{is_unbuilt, next_line};
+use crate::line_reader::next_line;
 use crate::refusal::Kind;
 
 /// The first line of the text, and the text after it; or what that line is refused with wherever it stands, but where a
@@ -18,7 +18,6 @@ pub(crate) fn first_line(text: &[u8]) -> Result<(Line, &[u8]), Kind>
 {
     match next_line(text) {
         Some(first) => Ok(first),
-        None if is_unbuilt(text) => Err(Kind::NotBuilt),
         None => Err(Kind::BadLine),
     }
 }

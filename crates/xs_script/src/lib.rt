@@ -6,7 +6,6 @@
 mod begun;
 mod block_part;
 mod body;
-mod built;
 mod commands;
 mod front;
 mod head;

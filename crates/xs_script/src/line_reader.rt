@@ -5,9 +5,8 @@ ghost use Rattle.xs_script.specs.declared.line.Line.{Line};
 ghost use Rattle.xs_script.specs.ScriptLine.{block_word, line_text, IsSignal, kept_line};
 ghost use Rattle.xs_script.specs.Reads.{ReadsAs};
 ghost use Rattle.xs_script.specs.Parts.{IsPlainLine, IsBlockLine, IsSignalLine, IsHeadLine, IsKillLine, NoPlainLine};
-ghost use Rattle.xs_script.specs.Refusal.{is_unbuilt, first_word};
+ghost use Rattle.xs_script.specs.Refusal.{first_word};
 
-use crate::built::is_unbuilt_word;
 use crate::line::Line;
 use crate::trace_lines::read_trace_line;
 use crate::words::{
@@ -25,15 +24,6 @@ pub fn next_line(text: &[u8]) -> Option<(Line, &[u8])>
     let (line, rest) = cut_at(b'\n', text)?;
     let line = read_line(line)?;
     Some((line, rest))
-}
-
-/// Whether the text's first line is of a form that this version doesn't have.
-pub fn is_unbuilt(text: &[u8]) -> bool
-    ensures { result ≡ is_unbuilt text.now }
-{
-    let line = before(b'\n', text);
-    let word = before(b' ', line);
-    is_unbuilt_word(word)
 }
 
 /// Whether the text's first line begins with the word `row`.
@@ -100,6 +90,12 @@ fn read_block_line(line: &[u8]) -> Option<Line>
     }
     if line == b"end".as_slice() {
         return Some(Line::End);
+    }
+    if line == b"tilerelease".as_slice() {
+        return Some(Line::Order(Command::Tilerelease));
+    }
+    if let Some(digits) = after(b"perm ", line) {
+        return read_perm(digits);
     }
     if let Some(name) = after(b"fork ", line) {
         return read_fork(name);
@@ -168,6 +164,14 @@ fn read_ksec(digits: &[u8]) -> Option<Line>
 {
     let byte = read_byte(digits)?;
     Some(Line::Order(Command::Ksec { byte }))
+}
+
+/// The line `perm N`, by its number.
+fn read_perm(digits: &[u8]) -> Option<Line>
+    ensures { ReadsAs line_text IsBlockLine kept_line result (codes "perm " ++ digits.now) }
+{
+    let feature = read_number(digits)?;
+    Some(Line::Order(Command::Perm { feature }))
 }
 
 /// The line `fork NAME`, by its name.

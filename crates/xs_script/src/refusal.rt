@@ -34,8 +34,6 @@ pub enum LimitName {
 /// What is wrong with a line of a script. The kinds and their order are this project's own.
 #[derive(Clone, Copy, PartialEq, Eq)]
 pub enum Kind {
-    /// The line is that of a form that this version doesn't have yet.
-    NotBuilt,
     /// The line isn't spelled by the grammar, or doesn't stand where the grammar allows it, or its register can't be
     /// set to its bytes. Where the text ends too early it is the line after the last one.
     BadLine,
@@ -93,7 +91,6 @@ fn put_kind(out: &mut RefusalLine, kind: Kind)
     ensures len { array_vec_len out.new ≤ array_vec_len out.old + 30 }
 {
     match kind {
-        Kind::NotBuilt => put(out, b" not-built"),
         Kind::BadLine => put(out, b" bad-line"),
         Kind::Limit(name) => {
             put(out, b" limit ");

@@ -1,25 +1,25 @@
 use Rattle.std.proofs.Common.{refl, sym, ◌∙◌}
 use Rattle.xs_model.specs.declared.script.Command.TheVariants.{Set, Get}
-use Rattle.xs_script.specs.Refusal.{Misfit}
+use Rattle.xs_script.specs.Refusal.{Unknown, Misfit}
+use Rattle.xs_script.proofs.CommandFaults.{no_register, named_or_fails}
 use Rattle.xs_script.specs.Commands.{known_before}
-use Rattle.xs_script.proofs.CommandFaults.{register_fails, no_register, named_or_fails}
 use Rattle.xs_script.proofs.commands.command_fault.Goals as goal
 
-pub returns-in-Ok-2 : goal.returns-in-Ok-2
-returns-in-Ok-2 c =
-    let found = rw c.as_slice.ensures.bytes at c.in-Ok.ensures.found in
+pub returns-in-Some-2 : goal.returns-in-Some-2
+returns-in-Some-2 c =
+    let found = rw c.as_slice.ensures.bytes at c.in-Some.ensures.register in
     let wrong = sym c.fits_register.ensures ∙ c.if-fits_register.false in
-    rw c.in-Set.is (Misfit c.in-Set.reg c.in-Set.bytes c.in-Ok.place found.here found.built wrong)
+    rw c.in-Set.is (Misfit c.in-Set.reg c.in-Set.bytes c.in-Some.place found wrong)
 
-pub returns-in-Err : goal.returns-in-Err
-returns-in-Err c =
-    let fails = rw c.as_slice.ensures.bytes at c.in-Err.ensures.refused in
-    rw c.in-Set.is (register_fails c.args.scope.now (known_before c.args.inside c.args.forked.now c.args.own.now) (Set c.in-Set.reg c.in-Set.bytes) c.in-Set.reg c.in-Err.kind refl fails)
+pub returns-in-None : goal.returns-in-None
+returns-in-None c =
+    let none = rw c.as_slice.ensures.bytes at c.in-None.ensures.register in
+    rw c.in-Set.is (Unknown (Set c.in-Set.reg c.in-Set.bytes) c.in-Set.reg refl none)
 
-pub returns-in-Err-find_register : goal.returns-in-Err-find_register
-returns-in-Err-find_register c =
-    let fails = rw c.as_slice-in-Get.ensures.bytes at c.in-Err-find_register.ensures.refused in
-    rw c.in-Get.is (register_fails c.args.scope.now (known_before c.args.inside c.args.forked.now c.args.own.now) (Get c.in-Get.reg) c.in-Get.reg c.in-Err-find_register.kind refl fails)
+pub returns-in-None-place_of_bytes : goal.returns-in-None-place_of_bytes
+returns-in-None-place_of_bytes c =
+    let none = rw c.as_slice-in-Get.ensures.bytes at c.in-None-place_of_bytes.ensures.register in
+    rw c.in-Get.is (Unknown (Get c.in-Get.reg) c.in-Get.reg refl none)
 
 pub returns-in_default : goal.returns-in_default
 returns-in_default c =
