@@ -1,23 +1,22 @@
 -- A board to which a task came back is a board again.
-use Rattle.std.proofs.Common.{◌≡◌, ℕ, ◌+◌, ◌==◌, ◌<◌, ◌≤◌, Bool, true, false, not, ◌&&◌, List, [], ◌∷◌, ◌++◌, length, reverse, refl, sym, ap, ◌∙◌, subst, arith, inl, inr, ne_eqb}
+use Rattle.std.proofs.Common.{◌≡◌, ℕ, ◌+◌, ◌==◌, ◌<◌, ◌≤◌, Bool, true, false, ◌&&◌, List, ◌++◌, length, reverse, refl, sym, ap, ◌∙◌, subst, arith, inl, inr, eq-eqb, ne_eqb}
 use Rattle.std.proofs.lemmas.Bool.{cases_Bool, cases_eq, eqb-true}
 use Rattle.std.proofs.lemmas.List.{get_or-set_other, get_or-set_same, length-set}
-use Rattle.std.proofs.lemmas.Option.{same_Some}
-use Rattle.std.specs.Prelude.{Option, Some, None, if◌then◌else◌, slice_get, slice_index_or, slice_set}
+use Rattle.std.specs.Prelude.{Option, Some, None, if◌then◌else◌, slice_get, slice_set}
 use Rattle.xs_area.specs.declared.area.Lease.{Lease}
 use Rattle.xs_base.specs.declared.component.Row.{Row}
 use Rattle.xs_base.specs.declared.words.Set.{Set}
-use Rattle.xs_base.specs.declared.class.Class.TheVariants.{Small}
+use Rattle.xs_base.specs.declared.class.Class.TheVariants.{Small, Large}
 use Rattle.xs_base.specs.KernelArea.{class_size}
 use Rattle.xs_base.specs.Task.{PrivateTask, parked}
 use Rattle.xs_model.specs.declared.event.Event.{Event}
 use Rattle.xs_model.specs.declared.event.Reply.{Reply}
+use Rattle.xs_model.specs.declared.event.Why.{Why}
 use Rattle.xs_model.specs.declared.script.Command.{Command}
 use Rattle.xs_model.specs.declared.script.Command.TheVariants.{Fork, Kill, Stop, Wait, Getregs, Setregs, Cont}
 use Rattle.xs_model.specs.declared.script.Script.{Script}
-use Rattle.xs_model.specs.declared.stage.Stage.{Stage}
-use Rattle.xs_model.specs.declared.stage.Stage.TheVariants.{Unborn, Stopped, Ended}
 use Rattle.xs_model.specs.Bound.{most_events}
+use Rattle.xs_model.specs.Due.{large_count}
 use Rattle.xs_model.specs.Machine.{machine, IsLegalPast}
 use Rattle.xs_model.specs.Note.{is_count, last, last_after, set_act, set_target}
 use Rattle.xs_model.specs.Outer as outers
@@ -29,35 +28,43 @@ use Rattle.xs_pool.specs.Pool.{Pool}
 use Rattle.xs_task.specs.declared.task.Task.{Task}
 use Rattle.xs_board.specs.declared.turn.Entry.{Entry}
 use Rattle.xs_board.specs.declared.turn.Close.{Close}
-use Rattle.xs_board.specs.declared.turn.Close.TheVariants.{Quantum, Yield, Outer, Refused, End}
-use Rattle.xs_board.specs.Board.{Board, HasHome, IsBoard, IsKeptBeside, areas, holds_area, living, machine_in, past_of, private_after, private_in, private_with, stage_in, tally}
-use Rattle.xs_board.specs.Deed.{HasBorn, HasWritten, IsDoneBy, IfStopped, deed_by, deed_of, newborn, living_born, ready_by, task_home}
+use Rattle.xs_board.specs.declared.turn.Close.TheVariants.{Quantum, Yield, Outer, Refused, Trap, End}
+use Rattle.xs_board.specs.Board.{Board, HasHome, IsBoard, IsKeptBeside, areas, holds_area, machine_in, past_of, private_after, private_in, private_with, stage_in, tally}
+use Rattle.xs_board.specs.Deed.{IsDoneBy, deed_by, newborn, living_born, ready_by, task_home}
 use Rattle.xs_board.specs.Home.{IsHome, is_resting}
 use Rattle.xs_board.specs.Laws.{Laws}
 use Rattle.xs_board.specs.Member.{Member, AreMembers, is_stopped_life, member_at}
-use Rattle.xs_board.specs.Putting.{AreLeft, ends, home_after, is_outer, living_after, pool_after, ready_after}
+use Rattle.xs_board.specs.Putting.{AreLeft, ends, home_after, is_outer, kills, living_after, pool_after, ready_after}
 use Rattle.xs_board.specs.Starts.{AreInOrder}
-use Rattle.xs_board.specs.Turn.{close_answer, close_command, line_answer, stage_closed, task_closed}
+use Rattle.xs_board.specs.Trapping.{IfTrap, pool_settled}
+use Rattle.xs_board.specs.Turn.{Answer, close_command, line_answer, stage_closed, task_closed, trap_stage}
 use Rattle.xs_board.proofs.Asked.{queue_is}
 use Rattle.xs_board.proofs.Blocks.{existing}
-use Rattle.xs_board.proofs.Committing.{MayCommit, answer_is, block_known, later, leaves, lease_known, some_lease, turn_in_range}
+use Rattle.xs_board.proofs.Areas.{HasOut, after_stays, back_out}
+use Rattle.xs_board.proofs.Committing.{MayCommit, answer, answer_is, later, leaves, lease_known, some_lease, turn_in_range}
 use Rattle.xs_board.proofs.Answered.{of_stopped, of_loose}
-use Rattle.xs_board.proofs.Homes.{HasSlot, IsTaskFor, is_unborn, line_home, slot_stays, unborn_is}
+use Rattle.xs_board.proofs.Homes.{HasSlot, is_unborn, line_home, slot_stays, unborn_is}
 use Rattle.xs_board.proofs.Kept.{left_members, performed}
 use Rattle.xs_board.proofs.Left.{HasLeft}
-use Rattle.xs_board.proofs.Leaving.{last_by, others_by, reached_by}
+use Rattle.xs_board.proofs.Leaving.{last_by, others_by, reached_by, trap_act}
 use Rattle.xs_board.proofs.Others.{others_stage}
 use Rattle.xs_board.proofs.Own.{write_counts}
-use Rattle.xs_board.proofs.Returning.{after_is, at_close, back, back_last, back_name, back_stands, buffer_same, ends_small, outer_of}
-use Rattle.xs_board.proofs.Seen.{area_tally, back_living, back_stage, blocks, closed_born, many, now, other_fact, other_is, own_private, pool_is, reply, was_born}
+use Rattle.xs_board.proofs.Returning.{Settles, after_is, at_close, back, back_last, back_name, back_stands, buffer_same, ends_same, last_left, trap_last}
+use Rattle.xs_board.proofs.Tests.{if_false, if_true}
+use Rattle.xs_board.proofs.Seen.{back_living, back_stage, blocks, closed_born, now, other_fact, other_is, own_private, was_born}
 
 -- a stage in which a turn leaves a block that rests
-closed_rests : (script : Script) (t : ℕ) (close : Close) (reply : Reply) → is_resting (stage_closed script t close reply) ≡ true → ends close ≡ false
-closed_rests script t Quantum reply is = refl
-closed_rests script t Yield reply is = refl
-closed_rests script t (Outer line) reply is = refl
-closed_rests script t (Refused error) reply is = absurd (cc is)
-closed_rests script t End reply is = absurd (cc is)
+closed_rests : (script : Script) (t : ℕ) (close : Close) (said : Answer) → is_resting (stage_closed script t close said) ≡ true → ends close said.fate ≡ false
+closed_rests script t Quantum said is = refl
+closed_rests script t Yield said is = refl
+closed_rests script t (Outer line) said is = refl
+closed_rests script t (Refused error) said is = absurd (cc is)
+closed_rests script t Trap said is = by_fate said.fate is
+  where
+    by_fate : (fate : Option Why) → is_resting (trap_stage fate) ≡ true → kills fate ≡ false
+    by_fate None is = refl
+    by_fate (Some why) is = absurd (cc is)
+closed_rests script t End said is = absurd (cc is)
 
 -- the tasks are as many
 pub done_length : (script : Script) (rows : List Row) (members : List Member) (t : ℕ) (c : Option Command) (reply : Reply) (old new : List (Option Task)) (before after : Task) → IsDoneBy rows members t (deed_by script c) reply old new before after → length new ≡ length old
@@ -92,8 +99,8 @@ module _ (laws : Laws) (old : Board) (t cpu : ℕ) (entries : List Entry) (close
   abbrev closing_blocks : List BlockState
   closing_blocks = blocks laws old t cpu entries close may
 
-  abbrev answered : Reply
-  answered = reply laws old t cpu entries close may
+  abbrev answered : Answer
+  answered = answer laws old t cpu entries close may
 
   abbrev past_then : List Event
   past_then = later laws old t cpu entries close may
@@ -102,13 +109,13 @@ module _ (laws : Laws) (old : Board) (t cpu : ℕ) (entries : List Entry) (close
   left = leaves laws old t cpu entries close may
 
   -- the turn leaves the last processor of its own block
-  pub own_last : last script past_then t ≡ Some cpu
+  pub own_last : last script past_then t ≡ last_left close answered.fate (Some cpu)
   own_last =
       left.last_is t
-      ∙ by_command (close_command script t close) refl
-      ∙ (laws.known script (past_of old) cpu t may.is_board.valid may.is_board.legal (ap turn_cpu may.turn)).1
+      ∙ by_close close refl
+      ∙ ap (last_left close answered.fate) (laws.known script (past_of old) cpu t may.is_board.valid may.is_board.legal (ap turn_cpu may.turn)).1
     where
-      written : (name : List ℕ) (set : Set) (count : ℕ) → close_command script t close ≡ Some (Setregs name set count) → is_count answered ≡ true → (block_named script name == t) ≡ true → ⊥
+      written : (name : List ℕ) (set : Set) (count : ℕ) → close_command script t close ≡ Some (Setregs name set count) → is_count answered.reply ≡ true → (block_named script name == t) ≡ true → ⊥
       written name set count at counted here =
           let is = answer_is laws old t cpu entries close may ∙ ap (line_answer script closing_blocks t) at in
           let stopped = write_counts (outers.put_reply set count (outers.buffer_of (slice_get closing_blocks t))) (slice_get closing_blocks (block_named script name)) (sym (ap is_count is) ∙ counted) in
@@ -122,32 +129,47 @@ module _ (laws : Laws) (old : Board) (t cpu : ℕ) (entries : List Entry) (close
       by_tests true false never v is = ap (λ (b : Bool). if b then None else last script (past_of old) t) is
       by_tests false here never v is = refl
 
-      by_command : (c : Option Command) → close_command script t close ≡ c → last_after t (set_act (set_target script c) (is_count answered)) t (last script (past_of old) t) ≡ last script (past_of old) t
+      by_command : (c : Option Command) → close_command script t close ≡ c → last_after t (set_act (set_target script c) (is_count answered.reply)) t (last script (past_of old) t) ≡ last script (past_of old) t
       by_command None at = refl
-      by_command (Some (Setregs name set count)) at = by_tests (is_count answered) (block_named script name == t) (written name set count at) (block_named script name) refl
+      by_command (Some (Setregs name set count)) at = by_tests (is_count answered.reply) (block_named script name == t) (written name set count at) (block_named script name) refl
       by_command (Some other) at = refl
 
+      by_fate : (fate : Option Why) → last_after t (trap_act fate) t (last script (past_of old) t) ≡ trap_last fate (last script (past_of old) t)
+      by_fate None = if_true (t == t) None (last script (past_of old) t) (eq-eqb t t refl)
+      by_fate (Some why) = refl
+
+      by_close : (c : Close) → close ≡ c → last_by script t c answered t (last script (past_of old) t) ≡ last_left c answered.fate (last script (past_of old) t)
+      by_close Quantum is = refl
+      by_close Yield is = refl
+      by_close (Outer n) is = by_command (close_command script t (Outer n)) (ap (close_command script t) is)
+      by_close (Refused error) is = refl
+      by_close Trap is = by_fate answered.fate
+      by_close End is = refl
+
   -- the area of a task that has ended
-  pub ends_lease : (task : Task) → IsHome (is_user script t) script.layout task (private_after old t entries close) → ends close ≡ true → (lease : Lease) → task.lease ≡ Some lease → (is_user script t ≡ true) × (lease.class ≡ Small) × (length lease.area.bytes.items ≡ class_size script.layout lease.class)
-  ends_lease task home end lease there = lease_known (is_user script t) script.layout task (private_after old t entries close) home (handed_large close ∙ ends_small laws old t cpu entries close may end) lease there
+  pub ends_lease : (task : Task) → IsHome (is_user script t) script.layout task (private_after old t entries close) → (lease : Lease) → task.lease ≡ Some lease → (is_user script t ≡ true) × (lease.class ≡ (if private.large then Large else Small)) × (length lease.area.bytes.items ≡ class_size script.layout lease.class)
+  ends_lease task home lease there =
+      let known = lease_known (is_user script t) script.layout task (private_after old t entries close) home lease there in
+      (known.0, known.1 ∙ ap (λ (large : Bool). if large then Large else Small) (handed_large close), known.2)
     where
       handed_large : (c : Close) → (private_after old t entries c).large ≡ private.large
       handed_large Quantum = refl
       handed_large Yield = refl
       handed_large (Outer n) = refl
       handed_large (Refused error) = refl
+      handed_large Trap = refl
       handed_large End = refl
 
-  module _ (task : Task) (name : task.name ≡ t) (home_now : IsHome (is_user script t) script.layout task (private_after old t entries close)) (last_is : is_user script t ≡ true → task.last ≡ Some cpu) (members : List Member) (each : length members ≡ length script.blocks) (are_past : AreMembers (machine_in old).blocks members) (tasks : List (Option Task)) (after : Task) (done : IsDoneBy script.layout members t (deed_by script (close_command script t close)) answered old.home tasks task after) where
+  module _ (task : Task) (name : task.name ≡ t) (home_now : IsHome (is_user script t) script.layout task (private_after old t entries close)) (last_is : is_user script t ≡ true → task.last ≡ Some cpu) (members : List Member) (each : length members ≡ length script.blocks) (are_past : AreMembers (machine_in old).blocks members) (tasks : List (Option Task)) (after : Task) (done : IsDoneBy script.layout members t (deed_by script (close_command script t close)) answered.reply old.home tasks task after) (settled_pool : Pool) (settled : Task) (settles : Settles close script.layout answered.fate old.pool settled_pool after settled) where
     -- as it goes back
     abbrev goes_back : Task
-    goes_back = back laws old t cpu entries close may task home_now members each are_past tasks after done
+    goes_back = back laws old t cpu entries close may task home_now members each are_past tasks after done settled_pool settled settles
 
     named : goes_back.name ≡ t
-    named = back_name laws old t cpu entries close may task home_now members each are_past tasks after done ∙ name
+    named = back_name laws old t cpu entries close may task home_now members each are_past tasks after done settled_pool settled settles ∙ name
 
     tasks_many : length tasks ≡ length old.home
-    tasks_many = done_length script script.layout members t (close_command script t close) answered old.home tasks task after done
+    tasks_many = done_length script script.layout members t (close_command script t close) answered.reply old.home tasks task after done
 
     -- ---- other blocks
 
@@ -160,7 +182,7 @@ module _ (laws : Laws) (old : Board) (t cpu : ℕ) (entries : List Entry) (close
 
     -- the task of another block after the close
     slot_after : (u : ℕ) (b : BlockState) → (u ≡ t → ⊥) → slice_get (machine_in old).blocks u ≡ Some b → HasSlot script old.home u b.task (last script (past_of old) u) b.stage → (c : Close) → close ≡ c
-        → IsDoneBy script.layout members t (deed_by script (close_command script t c)) answered old.home tasks task after → IsHome (is_user script t) script.layout task (private_after old t entries c)
+        → IsDoneBy script.layout members t (deed_by script (close_command script t c)) answered.reply old.home tasks task after → IsHome (is_user script t) script.layout task (private_after old t entries c)
         → HasSlot script tasks u (others_by script closing_blocks t c answered u b).task (last_by script t c answered u (last script (past_of old) u)) (others_by script closing_blocks t c answered u b).stage
     slot_after u b other at has Quantum is done home = plain_slot u b Quantum (last script (past_of old) u) refl refl refl done.1 has
     slot_after u b other at has Yield is done home = plain_slot u b Yield (last script (past_of old) u) refl refl refl done.1 has
@@ -172,30 +194,69 @@ module _ (laws : Laws) (old : Board) (t cpu : ℕ) (entries : List Entry) (close
         let count = may.is_board.count in
         let all = left.count in
         let buffer = ap (λ (p : PrivateTask). p.buffer) (sym (left.task_is outer)) ∙ buffer_same laws old t cpu entries close may task home_now members each are_past tasks after outer in
-        subst (λ (o : Option Command). HasSlot script tasks u (reached_by script closing_blocks t o answered u b).task (last_after t (set_act (set_target script o) (is_count answered)) u (last script (past_of old) u)) (reached_by script closing_blocks t o answered u b).stage) (sym found)
-        (line_home script (past_of old) closing_blocks members (at_close laws old t cpu entries close may task home_now members each are_past tasks after) t left.state left.here private answered old.home tasks task after (omega (arith, count, all)) (left.task_is outer) left.same home command (left.line command there.1)
-        (subst (λ (o : Option Command). IsDoneBy script.layout members t (deed_by script o) answered old.home tasks task after) found done) buffer u b (last script (past_of old) u) other (left.same u other ∙ at)
+        subst (λ (o : Option Command). HasSlot script tasks u (reached_by script closing_blocks t o answered.reply u b).task (last_after t (set_act (set_target script o) (is_count answered.reply)) u (last script (past_of old) u)) (reached_by script closing_blocks t o answered.reply u b).stage) (sym found)
+        (line_home script (past_of old) closing_blocks members (at_close laws old t cpu entries close may task home_now members each are_past tasks after) t left.state left.here private answered.reply old.home tasks task after (omega (arith, count, all)) (left.task_is outer) left.same home command (left.line command there.1)
+        (subst (λ (o : Option Command). IsDoneBy script.layout members t (deed_by script o) answered.reply old.home tasks task after) found done) buffer u b (last script (past_of old) u) other (left.same u other ∙ at)
         (λ unborn. (laws.unseen script (past_of old) u may.is_board.valid may.is_board.legal (ap stage_of at ∙ unborn)).last) has)
     slot_after u b other at has (Refused error) is done home = plain_slot u b (Refused error) (last script (past_of old) u) refl refl refl done.1 has
+    slot_after u b other at has Trap is done home = plain_slot u b Trap (last script (past_of old) u) refl (by_kill (kills answered.fate)) (by_fate answered.fate) done.1 has
+      where
+        by_kill : (killed : Bool) → (if killed then outers.freed t b else b).task ≡ b.task
+        by_kill true = refl
+        by_kill false = refl
+
+        by_fate : (fate : Option Why) → last_after t (trap_act fate) u (last script (past_of old) u) ≡ last script (past_of old) u
+        by_fate None = if_false (t == u) None (last script (past_of old) u) (ne_eqb t u (λ (e : t ≡ u). other (sym e)))
+        by_fate (Some why) = refl
     slot_after u b other at has End is done home = plain_slot u b End (last script (past_of old) u) refl refl refl done.1 has
 
     module _ (history : List Event) (is : reverse history ≡ past_then) (pool : Pool) (room : ℕ) where
       -- the board
       abbrev new : Board
-      new = record { script = script; history = history; home = home_after (ends close) goes_back tasks; pool = pool; room = room }
+      new = record { script = script; history = history; home = home_after (ends close answered.fate) goes_back tasks; pool = pool; room = room }
 
       same_blocks : (machine_in new).blocks ≡ now laws old t cpu entries close may
       same_blocks = ap (λ (past : List Event). (machine script past).blocks) is
 
-      -- the pool
-      pub back_pool : pool_after (ends close) after.lease old.pool ≡ record old.pool { small = record old.pool.small { out = areas new } }
+      -- the pool as the trap left it
+      settled_is : IfTrap close (settled_pool ≡ pool_settled answered.fate old.pool) (settled_pool ≡ old.pool)
+      settled_is = by_close close settles
+        where
+          by_close : (c : Close) → Settles c script.layout answered.fate old.pool settled_pool after settled → IfTrap c (settled_pool ≡ pool_settled answered.fate old.pool) (settled_pool ≡ old.pool)
+          by_close Quantum is = is.0
+          by_close Yield is = is.0
+          by_close (Outer line) is = is.0
+          by_close (Refused error) is = is.0
+          by_close Trap is = is.pool_is
+          by_close End is = is.0
+
+      settled_stays : (settled_pool.rows ≡ old.pool.rows) × (settled_pool.large.capacity ≡ old.pool.large.capacity) × (settled_pool.given ≤ old.pool.given + 1)
+      settled_stays = by_close close settled_is
+        where
+          same : settled_pool ≡ old.pool → (settled_pool.rows ≡ old.pool.rows) × (settled_pool.large.capacity ≡ old.pool.large.capacity) × (settled_pool.given ≤ old.pool.given + 1)
+          same is = (ap (λ (p : Pool). p.rows) is, ap (λ (p : Pool). p.large.capacity) is, let given : settled_pool.given ≡ old.pool.given = ap (λ (p : Pool). p.given) is in omega (arith, given))
+
+          by_fate : (fate : Option Why) → settled_pool ≡ pool_settled fate old.pool → (settled_pool.rows ≡ old.pool.rows) × (settled_pool.large.capacity ≡ old.pool.large.capacity) × (settled_pool.given ≤ old.pool.given + 1)
+          by_fate None is = (ap (λ (p : Pool). p.rows) is, ap (λ (p : Pool). p.large.capacity) is, let given : settled_pool.given ≡ old.pool.given + 1 = ap (λ (p : Pool). p.given) is in omega (arith, given))
+          by_fate (Some why) is = same is
+
+          by_close : (c : Close) → IfTrap c (settled_pool ≡ pool_settled answered.fate old.pool) (settled_pool ≡ old.pool) → (settled_pool.rows ≡ old.pool.rows) × (settled_pool.large.capacity ≡ old.pool.large.capacity) × (settled_pool.given ≤ old.pool.given + 1)
+          by_close Quantum is = same is
+          by_close Yield is = same is
+          by_close (Outer line) is = same is
+          by_close (Refused error) is = same is
+          by_close Trap is = by_fate answered.fate is
+          by_close End is = same is
+
+      -- the area of a task that ends is its own
+      lost_lease : ends close answered.fate ≡ true → settled.lease ≡ task.lease
+      lost_lease end = ap (λ (x : Task). x.lease) ((ends_same laws old t cpu entries close may task home_now members each are_past tasks after done settled_pool settled settles end).1 ∙ after_is laws old t cpu entries close may task home_now members each are_past tasks after done)
+
+      back_pool : HasOut (pool_after (ends close answered.fate) settled.lease settled_pool) (large_count (now laws old t cpu entries close may)) (tally (λ v stage. is_user script v && holds_area stage) 0 (now laws old t cpu entries close may))
       back_pool =
-          let sum = area_tally laws old t cpu entries close may in
-          let out : areas new ≡ tally (λ v stage. is_user script v && holds_area stage) 0 (now laws old t cpu entries close may) = ap (tally (λ v stage. is_user script v && holds_area stage) 0) same_blocks in
-          let lease_is : after.lease ≡ task.lease = ap (λ (x : Task). x.lease) (after_is laws old t cpu entries close may task home_now members each are_past tasks after done) in
-          pool_is (ends close) (is_user script t) after.lease old.pool (areas old) (areas new) may.is_board.pool.small (omega (arith, sum, out))
-          (λ end none. some_lease (is_user script t) script.layout task (private_after old t entries close) home_now (sym lease_is ∙ none))
-          (λ end lease there. let known = ends_lease task home_now end lease (sym lease_is ∙ there) in (known.0, known.1))
+          back_out laws old t cpu entries close may settled.lease settled_pool settled_is
+          (λ end none. some_lease (is_user script t) script.layout task (private_after old t entries close) home_now (sym (lost_lease end) ∙ none))
+          (λ end lease there. let known = ends_lease task home_now lease (sym (lost_lease end) ∙ there) in (known.0, known.1))
 
       -- the task is home
       own_slot : is_resting (stage_in new t) ≡ true → HasHome new t
@@ -211,8 +272,8 @@ module _ (laws : Laws) (old : Board) (t cpu : ℕ) (entries : List Entry) (close
                 ∙ get_or-set_same tasks t (Some goes_back) None (omega (arith, in_range, count, tasks_many)),
             record {
               name = named;
-              stands = subst (λ (p : PrivateTask). IsHome (is_user script t) script.layout goes_back p) (sym private_now) (back_stands laws old t cpu entries close may task home_now members each are_past tasks after done going);
-              last = λ user. back_last laws old t cpu entries close may task home_now members each are_past tasks after done ∙ last_is user ∙ sym (ap (λ (past : List Event). last script past t) is ∙ own_last);
+              stands = subst (λ (p : PrivateTask). IsHome (is_user script t) script.layout goes_back p) (sym private_now) (back_stands laws old t cpu entries close may task home_now members each are_past tasks after done settled_pool settled settles going);
+              last = λ user. back_last laws old t cpu entries close may task home_now members each are_past tasks after done settled_pool settled settles ∙ ap (last_left close answered.fate) (last_is user) ∙ sym (ap (λ (past : List Event). last script past t) is ∙ own_last);
               clear = λ unborn. absurd (let born = closed_born script t close answered in let off : was_born (stage_closed script t close answered) ≡ false = ap was_born (sym stage ∙ unborn) in cc (born, off));
             },
           )
@@ -239,7 +300,7 @@ module _ (laws : Laws) (old : Board) (t cpu : ℕ) (entries : List Entry) (close
             },
           ) close refl done home_now in (
             slot.0,
-            home_other (ends close) goes_back tasks u (λ (e : u ≡ goes_back.name). other (e ∙ named)) ∙ slot.1,
+            home_other (ends close answered.fate) goes_back tasks u (λ (e : u ≡ goes_back.name). other (e ∙ named)) ∙ slot.1,
             record {
               name = slot.2.name;
               stands = subst (λ (p : PrivateTask). IsHome (is_user script u) script.layout slot.0 p) (sym (ap task_of_state is_now)) slot.2.stands;
@@ -249,33 +310,41 @@ module _ (laws : Laws) (old : Board) (t cpu : ℕ) (entries : List Entry) (close
           )
 
       -- the board is one again
-      pub board_back : pool ≡ pool_after (ends close) after.lease old.pool → room ≡ old.room → IsBoard new
-      board_back pool_is_after same_room =
+      pub board_back : pool ≡ pool_after (ends close answered.fate) settled.lease settled_pool → room ≡ old.room → length old.history < length history → IsBoard new
+      board_back pool_is_after same_room grows =
           let was = may.is_board in
-          let pool_now = pool_is_after ∙ back_pool in
+          let stays = after_stays (ends close answered.fate) settled.lease settled_pool in
+          let before = settled_stays in
+          let out = back_pool in
+          let counts : large_count (machine_in new).blocks ≡ large_count (now laws old t cpu entries close may) = ap large_count same_blocks in
+          let sums : areas new ≡ tally (λ v stage. is_user script v && holds_area stage) 0 (now laws old t cpu entries close may) = ap (tally (λ v stage. is_user script v && holds_area stage) 0) same_blocks in
+          let all : pool.small.out + pool.large.out ≡ tally (λ v stage. is_user script v && holds_area stage) 0 (now laws old t cpu entries close may) = ap (λ (p : Pool). p.small.out + p.large.out) pool_is_after ∙ out.all_is in
+          let number : pool.given ≡ settled_pool.given = ap (λ (p : Pool). p.given) pool_is_after ∙ stays.given in
+          let given = was.pool.given in
+          let more = before.2 in
           record {
             valid = was.valid;
-            built = was.built;
             legal = subst (IsLegalPast script) (sym is) left.legal;
             order = subst (AreInOrder script) (sym is) (left.order was.order);
             closed = ap (λ (past : List Event). (machine script past).committing) is ∙ left.closed;
-            count = home_length (ends close) goes_back tasks ∙ tasks_many ∙ was.count;
+            count = home_length (ends close answered.fate) goes_back tasks ∙ tasks_many ∙ was.count;
             home = λ u rests known. elim (cases_eq u t) [
               | inl same ↦ subst (λ (n : ℕ). HasHome new n) (sym same) (own_slot (ap (λ (n : ℕ). is_resting (stage_in new n)) (sym same) ∙ rests))
               | inr other ↦ other_slot u other known rests
             ];
             pool = record {
-              rows = ap (λ (p : Pool). p.rows) pool_now ∙ was.pool.rows;
-              small = ap (λ (p : Pool). p.small.out) pool_now;
-              large = ap (λ (p : Pool). p.large.out) pool_now ∙ was.pool.large;
-              given = subst (λ (n : ℕ). n ≤ length script.blocks) (sym (ap (λ (p : Pool). p.given) pool_now)) was.pool.given;
+              rows = ap (λ (p : Pool). p.rows) pool_is_after ∙ stays.rows ∙ before.0 ∙ was.pool.rows;
+              large = ap (λ (p : Pool). p.large.out) pool_is_after ∙ out.large_is ∙ sym counts;
+              all = all ∙ sym sums;
+              capacity = ap (λ (p : Pool). p.large.capacity) pool_is_after ∙ stays.capacity ∙ before.1 ∙ was.pool.capacity;
+              given = omega (arith, number, given, more, grows);
             };
             room = subst (λ (n : ℕ). most_events script ≤ n) (sym same_room) was.room;
           }
 
       -- what is kept beside it
-      pub beside_back : (list : List ℕ) (capacity count : ℕ) (kept : IsKeptBeside old list capacity count members) (final : List Member) → AreLeft (ends close) t (performed script t members close) final → length final ≡ length members
-          → IsKeptBeside new ((list ++ ready_by t (deed_by script (close_command script t close)) members) ++ ready_after (ends close) t (performed script t members close)) capacity (living_after (ends close) (living_born (newborn (deed_by script (close_command script t close))) count)) final
+      pub beside_back : (list : List ℕ) (capacity count : ℕ) (kept : IsKeptBeside old list capacity count members) (final : List Member) → AreLeft (ends close answered.fate) t (performed script t members close) final → length final ≡ length members
+          → IsKeptBeside new ((list ++ ready_by t (deed_by script (close_command script t close)) members) ++ ready_after (ends close answered.fate) t (performed script t members close)) capacity (living_after (ends close answered.fate) (living_born (newborn (deed_by script (close_command script t close))) count)) final
       beside_back list capacity count kept final are_left many_final = record {
         queue = sym (queue_is laws old t cpu entries close may list capacity count members kept) ∙ ap (ready_list script) (sym is);
         fits = kept.fits;

@@ -1,26 +1,22 @@
 -- What a deed answers is what the private machine answers.
-use Rattle.std.proofs.Common.{◌≡◌, ℕ, ◌==◌, ◌<◌, Bool, true, false, ◌&&◌, List, length, refl, sym, ap, ◌∙◌, subst, inl, inr}
+use Rattle.std.proofs.Common.{◌≡◌, ℕ, Bool, true, false, List, refl, sym, ap, ◌∙◌, inl, inr}
 use Rattle.std.proofs.lemmas.Bool.{cases_Bool}
-use Rattle.std.proofs.lemmas.Option.{same_Some}
 use Rattle.std.specs.Prelude.{Option, Some, None, if◌then◌else◌, slice_get}
 use Rattle.xs_base.specs.declared.component.Row.{Row}
-use Rattle.xs_base.specs.declared.words.Errno.{Errno}
-use Rattle.xs_base.specs.RegisterSet.{set_errno, set_result}
 use Rattle.xs_base.specs.Task.{PrivateTask}
 use Rattle.xs_model.specs.declared.event.Reply.{Reply}
 use Rattle.xs_model.specs.declared.event.Reply.TheVariants as replies
 use Rattle.xs_model.specs.declared.script.Command.{Command}
 use Rattle.xs_model.specs.declared.script.Command.TheVariants.{Fork, Kill, Stop, Wait, Getregs, Setregs, Cont}
 use Rattle.xs_model.specs.declared.script.Script.{Script}
-use Rattle.xs_model.specs.Line.{count_or_error}
 use Rattle.xs_model.specs.Names.{named_block}
 use Rattle.xs_model.specs.Outer.{buffer_of, child_reply, get_reply, no_block, outer_reply, put_reply}
 use Rattle.xs_model.specs.Script.{block_named, is_user}
-use Rattle.xs_model.specs.State.{BlockState, is_stopped, lives, stage_at, stage_of}
+use Rattle.xs_model.specs.State.{BlockState, is_stopped, stage_of}
 use Rattle.xs_task.specs.declared.task.Task.{Task}
 use Rattle.xs_task.specs.Parked.{IsParked}
 use Rattle.xs_board.specs.Deed.{IfStopped, IsDoneBy, deed_of, task_home}
-use Rattle.xs_board.specs.Member.{Member, AreMembers, is_alive, is_stopped_life, member_at}
+use Rattle.xs_board.specs.Member.{Member, AreMembers, is_stopped_life, member_at}
 use Rattle.xs_board.proofs.Mirror.{alive_at, stopped_at, traced_at, wait_at}
 use Rattle.xs_board.proofs.Tests.{if_false, if_true}
 

@@ -1,26 +1,26 @@
 -- What the calls ask for that put a task back.
-use Rattle.std.proofs.Common.{◌≡◌, ℕ, ◌+◌, ◌<◌, ◌≤◌, ◌^◌, Bool, true, false, List, [], ◌∷◌, ◌++◌, length, refl, sym, ap, ◌∙◌, subst, arith, length-append, append_assoc}
+use Rattle.std.proofs.Common.{◌≡◌, ℕ, ◌+◌, ◌<◌, ◌≤◌, ◌^◌, Bool, true, false, List, ◌++◌, length, refl, sym, ap, ◌∙◌, subst, arith, length-append, append_assoc}
 use Rattle.std.proofs.lemmas.Option.{same_Some}
-use Rattle.std.specs.Prelude.{Option, Some, None, IfSome, slice_get}
-use Rattle.xs_base.specs.Task.{PrivateTask, buffer_length}
+use Rattle.std.specs.Prelude.{Option, Some, None, IfSome, if◌then◌else◌, slice_get}
+use Rattle.xs_base.specs.declared.class.Class.TheVariants.{Small, Large}
+use Rattle.xs_base.specs.Task.{PrivateTask}
 use Rattle.xs_model.specs.declared.script.Command.{Command}
 use Rattle.xs_model.specs.declared.script.Command.TheVariants.{Fork, Kill, Stop, Wait, Getregs, Setregs, Cont}
 use Rattle.xs_model.specs.declared.script.Script.{Script}
-use Rattle.xs_model.specs.declared.stage.Stage.TheVariants.{Unborn, Stopped}
+use Rattle.xs_model.specs.declared.stage.Stage.TheVariants.{Stopped}
 use Rattle.xs_model.specs.declared.stage.Stage.{Stage}
 use Rattle.xs_model.specs.Names.{named_block}
 use Rattle.xs_model.specs.Ready.{ready_list}
 use Rattle.xs_model.specs.Script.{block_named, is_user}
-use Rattle.xs_model.specs.State.{BlockState, is_stopped, lives, stage_at, stage_of, task_of_state}
+use Rattle.xs_model.specs.State.{BlockState, is_stopped, lives, stage_of, task_of_state}
 use Rattle.xs_task.specs.declared.task.Task.{Task}
 use Rattle.xs_task.specs.Parked.{IsParked}
 use Rattle.xs_task.specs.TaskArea.{IsTask}
 use Rattle.xs_board.specs.declared.deed.Deed.{Deed}
 use Rattle.xs_board.specs.declared.turn.Entry.{Entry}
 use Rattle.xs_board.specs.declared.turn.Close.{Close}
-use Rattle.xs_board.specs.declared.turn.Close.TheVariants.{Quantum, Yield, Outer, Refused, End}
-use Rattle.xs_board.specs.Birth.{CanBeBorn}
-use Rattle.xs_board.specs.Board.{Board, HasHome, IsKeptBeside, machine_in, past_of, private_after, private_in, private_with, stage_in}
+use Rattle.xs_board.specs.declared.turn.Close.TheVariants.{Quantum, Yield, Outer, Refused, Trap, End}
+use Rattle.xs_board.specs.Board.{Board, HasHome, IsKeptBeside, machine_in, past_of, private_after, private_in, private_with}
 use Rattle.xs_board.specs.Deed.{CanDo, IfDeed, IsReached, deed_by, deed_of, named_in, ready_by}
 use Rattle.xs_board.specs.Home.{IsHome, is_resting}
 use Rattle.xs_board.specs.Laws.{Laws}
@@ -29,7 +29,7 @@ use Rattle.xs_board.specs.Putting.{at_outer, ends, is_outer, ready_after}
 use Rattle.xs_board.specs.Turn.{body_command, close_command}
 use Rattle.xs_board.proofs.Answered.{AreParked}
 use Rattle.xs_board.proofs.Blocks.{existing, tally_most}
-use Rattle.xs_board.proofs.Committing.{MayCommit, answer, answer_is, block_known, closing, later, lease_known, leaves, small_block, turn_in_range}
+use Rattle.xs_board.proofs.Committing.{MayCommit, answer, answer_is, block_known, closing, later, lease_known, leaves, small_unborn}
 use Rattle.xs_board.proofs.Homes.{parked_of, place_of, whole_of}
 use Rattle.xs_board.proofs.Kept.{left_ready, performed}
 use Rattle.xs_board.proofs.Left.{IsLineOf}
@@ -120,14 +120,14 @@ module _ (laws : Laws) (old : Board) (t cpu : ℕ) (entries : List Entry) (close
         let birth = is.born name refl in
         let state = birth.0 in
         let has = resting_home c state birth.1.here (ap is_resting birth.1.unborn) in
-        let small : (private_in old c).large ≡ false = ap (λ (b : Option BlockState). (task_of_state b).large) birth.1.here ∙ small_block laws old c state may.is_board birth.1.here in (
+        let room : (private_in old c).large ≡ false = ap (λ (b : Option BlockState). (task_of_state b).large) birth.1.here ∙ small_unborn laws old c state may.is_board birth.1.here birth.1.unborn in (
           whole is.user,
           (
             has.0,
             has.1,
             record {
               whole = whole_of (is_user script c) script.layout has.0 (private_in old c) birth.1.child_user has.2.stands;
-              small = λ lease there. (lease_known (is_user script c) script.layout has.0 (private_in old c) has.2.stands small lease there).1;
+              small = λ lease there. (lease_known (is_user script c) script.layout has.0 (private_in old c) has.2.stands lease there).1 ∙ ap (λ (b : Bool). if b then Large else Small) room;
               clear = has.2.clear (ap stage_of birth.1.here ∙ birth.1.unborn);
             },
           ),
@@ -166,6 +166,7 @@ module _ (laws : Laws) (old : Board) (t cpu : ℕ) (entries : List Entry) (close
             ∙ ap (deed_by script) (stands.body ∙ sym there.1)
             ∙ ap (λ (c : Close). deed_by script (close_command script t c)) is
         by_close (Refused error) is place = refl
+        by_close Trap is place = refl
         by_close End is place = refl
 
     -- the place behind an outer line
@@ -183,21 +184,22 @@ module _ (laws : Laws) (old : Board) (t cpu : ℕ) (entries : List Entry) (close
         handed_place Yield = refl
         handed_place (Outer n) = refl
         handed_place (Refused error) = refl
+        handed_place Trap = refl
         handed_place End = refl
 
   -- ---- the queue
 
   module _ (list : List ℕ) (capacity count : ℕ) (members : List Member) (kept : IsKeptBeside old list capacity count members) where
     -- whom the turn makes ready
-    pub queue_is : ready_list script (later laws old t cpu entries close may) ≡ (list ++ ready_by t (deed_by script (close_command script t close)) members) ++ ready_after (ends close) t (performed script t members close)
+    pub queue_is : ready_list script (later laws old t cpu entries close may) ≡ (list ++ ready_by t (deed_by script (close_command script t close)) members) ++ ready_after (ends close (answer laws old t cpu entries close may).fate) t (performed script t members close)
     queue_is =
         let left = leaves laws old t cpu entries close may in
         left.ready
         ∙ ap (λ (all : List ℕ). ready_list script (past_of old) ++ all) (left_ready laws script (past_of old) (later laws old t cpu entries close may) t cpu (answer laws old t cpu entries close may) private (closing laws old t cpu entries close may) may.is_board.valid may.is_board.legal members kept.each kept.member close left (answer_is laws old t cpu entries close may))
-        ∙ sym (append_assoc (ready_list script (past_of old)) (ready_by t (deed_by script (close_command script t close)) members) (ready_after (ends close) t (performed script t members close)))
-        ∙ ap (λ (all : List ℕ). (all ++ ready_by t (deed_by script (close_command script t close)) members) ++ ready_after (ends close) t (performed script t members close)) (sym kept.queue)
+        ∙ sym (append_assoc (ready_list script (past_of old)) (ready_by t (deed_by script (close_command script t close)) members) (ready_after (ends close (answer laws old t cpu entries close may).fate) t (performed script t members close)))
+        ∙ ap (λ (all : List ℕ). (all ++ ready_by t (deed_by script (close_command script t close)) members) ++ ready_after (ends close (answer laws old t cpu entries close may).fate) t (performed script t members close)) (sym kept.queue)
 
-    queue_room : length ((list ++ ready_by t (deed_by script (close_command script t close)) members) ++ ready_after (ends close) t (performed script t members close)) ≤ capacity
+    queue_room : length ((list ++ ready_by t (deed_by script (close_command script t close)) members) ++ ready_after (ends close (answer laws old t cpu entries close may).fate) t (performed script t members close)) ≤ capacity
     queue_room =
         let most = queue_fits laws.once laws.machine script (later laws old t cpu entries close may) (leaves laws old t cpu entries close may).legal in
         let fits = kept.fits in
@@ -208,17 +210,17 @@ module _ (laws : Laws) (old : Board) (t cpu : ℕ) (entries : List Entry) (close
     pub deed_room : length list + length (ready_by t (deed_by script (close_command script t close)) members) ≤ capacity
     deed_room =
         let first = ready_by t (deed_by script (close_command script t close)) members in
-        let rest = ready_after (ends close) t (performed script t members close) in
+        let rest = ready_after (ends close (answer laws old t cpu entries close may).fate) t (performed script t members close) in
         let room = queue_room in
         let all = length-append (list ++ first) rest in
         let part = length-append list first in
         omega (arith, room, all, part)
 
     -- and for those that the close does
-    pub put_room : length (list ++ ready_by t (deed_by script (close_command script t close)) members) + length (ready_after (ends close) t (performed script t members close)) ≤ capacity
+    pub put_room : length (list ++ ready_by t (deed_by script (close_command script t close)) members) + length (ready_after (ends close (answer laws old t cpu entries close may).fate) t (performed script t members close)) ≤ capacity
     put_room =
         let first = ready_by t (deed_by script (close_command script t close)) members in
-        let rest = ready_after (ends close) t (performed script t members close) in
+        let rest = ready_after (ends close (answer laws old t cpu entries close may).fate) t (performed script t members close) in
         let room = queue_room in
         let all = length-append (list ++ first) rest in
         omega (arith, room, all)

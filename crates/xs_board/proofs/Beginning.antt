@@ -10,17 +10,17 @@ use Rattle.xs_model.specs.declared.script.Block.{Block}
 use Rattle.xs_model.specs.declared.script.BlockKind.{BlockKind}
 use Rattle.xs_model.specs.declared.script.BlockKind.TheVariants as kinds
 use Rattle.xs_model.specs.declared.script.Script.{Script}
-use Rattle.xs_model.specs.declared.stage.Stage.{Stage}
-use Rattle.xs_model.specs.declared.stage.Stage.TheVariants.{Unborn, Ready}
+use Rattle.xs_model.specs.declared.stage.Stage.TheVariants.{Unborn}
 use Rattle.xs_model.specs.Bound.{all_kill_lines, body_lines, longest_handler, most_events}
+use Rattle.xs_model.specs.Due.{large_count}
 use Rattle.xs_model.specs.Ready.{ready_from}
-use Rattle.xs_model.specs.Script.{is_user, is_user_block, is_user_kind, IsBuilt, IsValid}
+use Rattle.xs_model.specs.Script.{is_user, is_user_block, is_user_kind, IsValid}
 use Rattle.xs_model.specs.State.{is_ready, lives, opening, opening_block, opening_stage, stage_of, task_of_state}
 use Rattle.xs_pool.specs.Pool.{Pool}
 use Rattle.xs_task.specs.declared.task.Task.{Task}
-use Rattle.xs_board.specs.Board.{Board, IsBoard, IsKeptBeside, HasHome, holds_area, tally, one}
+use Rattle.xs_board.specs.Board.{Board, IsBoard, IsKeptBeside, HasHome, areas, holds_area, tally, one}
 use Rattle.xs_board.specs.Home.{IsClear, IsHome}
-use Rattle.xs_board.specs.Member.{Member, life_of, member_at, member_of}
+use Rattle.xs_board.specs.Member.{Member, member_at, member_of}
 use Rattle.xs_board.specs.Opening.{first_member, one_user, users_in, born_if, born_from, AreFirst}
 use Rattle.xs_board.proofs.Blocks.{existing}
 use Rattle.xs_board.proofs.FirstTasks.{born_few, users_few}
@@ -78,6 +78,19 @@ tally_users script rows i (block ∷ blocks) from =
     by_kind kinds.Child = refl
     by_kind kinds.Kthread = refl
 
+-- no block has room for TILEDATA
+root_small : (rows : List Row) → (root_task rows).large ≡ false
+unfolding root_task
+root_small rows = refl
+
+none_large : (rows : List Row) (blocks : List Block) → large_count (map (opening_block rows) blocks) ≡ 0
+none_large rows [] = refl
+none_large rows (block ∷ blocks) = by_room (root_task rows).large (root_small rows) (none_large rows blocks)
+  where
+    by_room : (large : Bool) → large ≡ false → large_count (map (opening_block rows) blocks) ≡ 0 → (if large && lives (opening_stage block.kind) then 1 else 0) + large_count (map (opening_block rows) blocks) ≡ 0
+    by_room true is rest = absurd (cc is)
+    by_room false is rest = omega (arith, rest)
+
 -- a task before its first turn has clear memories
 root_clear : (rows : List Row) (task : Task) → IsHome true rows task (root_task rows) → IsClear task
 unfolding root_task
@@ -121,12 +134,12 @@ module _ (script : Script) (home : List (Option Task)) (pool : Pool) (room : ℕ
       )
 
   -- it is a board
-  pub board_open : IsValid script → IsBuilt script → length home ≡ length script.blocks → AreFirst script.layout script.blocks (length script.blocks) home → pool.rows ≡ script.layout → pool.small.out ≡ users_in script.blocks → pool.large.out ≡ 0 → pool.given ≡ users_in script.blocks → most_events script ≤ room → IsBoard first_board
-  board_open valid built count first rows out large given most =
+  pub board_open : IsValid script → length home ≡ length script.blocks → AreFirst script.layout script.blocks (length script.blocks) home → pool.rows ≡ script.layout → pool.small.out ≡ users_in script.blocks → pool.large.out ≡ 0 → pool.large.capacity ≡ script.large → pool.given ≡ users_in script.blocks → most_events script ≤ room → IsBoard first_board
+  board_open valid count first rows out large capacity given most =
       let few = users_few script.blocks in
+      let users : areas first_board ≡ users_in script.blocks = tally_users script script.layout 0 script.blocks (λ j. ap (slice_get script.blocks) (omega arith)) in
       record {
         valid = valid;
-        built = built;
         legal = tt;
         order = tt;
         closed = refl;
@@ -134,8 +147,9 @@ module _ (script : Script) (home : List (Option Task)) (pool : Pool) (room : ℕ
         home = λ t rests known. open_home first t known;
         pool = record {
           rows = rows;
-          small = out ∙ sym (tally_users script script.layout 0 script.blocks (λ j. ap (slice_get script.blocks) (omega arith)));
-          large = large;
+          large = large ∙ sym (none_large script.layout script.blocks);
+          all = omega (arith, out, large, users);
+          capacity = capacity;
           given = omega (arith, given, few);
         };
         room = most;

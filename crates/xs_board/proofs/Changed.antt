@@ -1,9 +1,9 @@
 -- The members after an outer line, command by command.
-use Rattle.std.proofs.Common.{◌≡◌, ℕ, ◌==◌, ◌<◌, Bool, true, false, ◌&&◌, List, [], ◌∷◌, length, refl, sym, ap, ◌∙◌, subst, arith, inl, inr, eq-eqb, ne_eqb}
+use Rattle.std.proofs.Common.{◌≡◌, ℕ, ◌==◌, ◌<◌, Bool, true, false, ◌&&◌, List, [], length, refl, sym, ap, ◌∙◌, subst, arith, inl, inr, eq-eqb, ne_eqb}
 use Rattle.std.proofs.lemmas.Bool.{cases_Bool, cases_eq}
 use Rattle.std.proofs.lemmas.List.{length-set}
 use Rattle.std.proofs.lemmas.Option.{same_Some, slice_get_within}
-use Rattle.std.specs.Prelude.{Option, Some, None, if◌then◌else◌, slice_get, slice_set}
+use Rattle.std.specs.Prelude.{Option, Some, None, if◌then◌else◌, slice_get}
 use Rattle.xs_base.specs.declared.words.Set.{Set}
 use Rattle.xs_base.specs.declared.words.Signo.{Signo}
 use Rattle.xs_base.specs.Task.{PrivateTask, parked}
@@ -24,7 +24,7 @@ use Rattle.xs_board.specs.Deed.{blocks_at, deed_of, goes_on, is_traced, members_
 use Rattle.xs_board.specs.declared.member.Life.{Life}
 use Rattle.xs_board.specs.declared.member.Life.TheVariants as lives
 use Rattle.xs_board.specs.Member.{Member, AreMembers, born_of, going, is_alive, is_stopped_life, life_of, member_at, member_of, received, waiter_in, with_going, with_life}
-use Rattle.xs_board.proofs.Mirror.{alive_at, stopped_at, life_at, traced_at}
+use Rattle.xs_board.proofs.Mirror.{alive_at, stopped_at, traced_at}
 use Rattle.xs_board.proofs.Tests.{if_false, if_true}
 use Rattle.xs_board.proofs.Woken.{going_length, set_here, set_there, woken_at}
 

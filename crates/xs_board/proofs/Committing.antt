@@ -1,8 +1,8 @@
 -- A board to which a task comes back after its turn.
-use Rattle.std.proofs.Common.{◌≡◌, ℕ, zero, suc, ◌+◌, ◌<◌, ◌≤◌, Bool, true, false, ◌&&◌, List, [], ◌∷◌, ◌++◌, length, map, reverse, refl, sym, ap, ◌∙◌, subst, arith, eq-eqb, append_assoc}
+use Rattle.std.proofs.Common.{◌≡◌, ℕ, ◌+◌, ◌<◌, ◌≤◌, Bool, true, false, ◌&&◌, List, [], ◌∷◌, ◌++◌, length, map, reverse, refl, sym, ap, ◌∙◌, subst, arith, eq-eqb, append_assoc}
 use Rattle.std.proofs.lemmas.Bool.{eqb-true, false_from_ne_true}
-use Rattle.std.proofs.lemmas.Option.{same_Some, slice_get_within}
-use Rattle.std.specs.Prelude.{Option, Some, None, IfSome, slice_get}
+use Rattle.std.proofs.lemmas.Option.{slice_get_within}
+use Rattle.std.specs.Prelude.{Option, Some, None, IfSome, if◌then◌else◌, nat_lt, slice_get}
 use Rattle.xs_area.specs.declared.area.Lease.{Lease}
 use Rattle.xs_base.specs.declared.class.Class.{Class}
 use Rattle.xs_base.specs.declared.class.Class.TheVariants.{Small, Large}
@@ -10,11 +10,11 @@ use Rattle.xs_base.specs.declared.component.Row.{Row}
 use Rattle.xs_base.specs.KernelArea.{class_size}
 use Rattle.xs_base.specs.Task.{PrivateTask}
 use Rattle.xs_model.specs.declared.event.Event.{Event}
-use Rattle.xs_model.specs.declared.event.Reply.{Reply}
 use Rattle.xs_model.specs.declared.script.Block.{Block}
 use Rattle.xs_model.specs.declared.script.Script.{Script}
 use Rattle.xs_model.specs.declared.stage.Stage.{Stage}
 use Rattle.xs_model.specs.declared.stage.Stage.TheVariants.{Unborn, Turn}
+use Rattle.xs_model.specs.Due.{large_count}
 use Rattle.xs_model.specs.Laws.{MachineKnown}
 use Rattle.xs_model.specs.Machine.{machine, may_act}
 use Rattle.xs_model.specs.Replay.{entry, entry_of}
@@ -24,14 +24,15 @@ use Rattle.xs_task.specs.declared.task.Task.{Task}
 use Rattle.xs_task.specs.TaskArea.{has_large, is_large}
 use Rattle.xs_board.specs.declared.turn.Entry.{Entry}
 use Rattle.xs_board.specs.declared.turn.Close.{Close}
-use Rattle.xs_board.specs.declared.turn.Close.TheVariants.{Quantum, Yield, Outer, Refused, End}
+use Rattle.xs_board.specs.declared.turn.Close.TheVariants.{Quantum, Yield, Outer, Refused, Trap, End}
 use Rattle.xs_board.specs.Board.{Board, IsBoard, IsKeptBeside, answer_in, areas, blocks_with, holds_area, machine_in, past_of, private_in, private_with, stage_in}
 use Rattle.xs_board.specs.Home.{IsHome}
 use Rattle.xs_board.specs.Laws.{Laws}
 use Rattle.xs_board.specs.Member.{Member}
 use Rattle.xs_board.specs.Putting.{is_outer}
-use Rattle.xs_board.specs.Turn.{AreLines, close_answer, entry_event, past_with, task_after, turn_events}
-use Rattle.xs_board.proofs.Blocks.{block_in, each_of, existing, tally_some}
+use Rattle.xs_board.specs.Trapping.{fate_by}
+use Rattle.xs_board.specs.Turn.{Answer, AreLines, close_reply, entry_event, past_with, task_after, trap_fate, turn_events}
+use Rattle.xs_board.proofs.Blocks.{block_in, existing, tally_some}
 use Rattle.xs_board.proofs.Events.{onto}
 use Rattle.xs_board.proofs.Left.{HasLeft, turn_leaves, turn_told}
 use Rattle.xs_board.proofs.Moving.{fits}
@@ -60,9 +61,9 @@ on_is : (cpu : ℕ) (o : Option ℕ) → is_on_cpu cpu o ≡ true → o ≡ Some
 on_is cpu None on = absurd (cc on)
 on_is cpu (Some c) on = ap Some (eqb-true c cpu on)
 
--- no block has room for TILEDATA
-pub small_block : Laws → (board : Board) (t : ℕ) (block : BlockState) → IsBoard board → slice_get (machine_in board).blocks t ≡ Some block → block.task.large ≡ false
-small_block laws board t block is at = each_of (λ (b : BlockState). b.task.large ≡ false) (machine_in board).blocks t block (laws.blocks board.script (past_of board) is.built is.legal) at
+-- an unborn block has no room for TILEDATA
+pub small_unborn : Laws → (board : Board) (t : ℕ) (block : BlockState) → IsBoard board → slice_get (machine_in board).blocks t ≡ Some block → block.stage ≡ Unborn → block.task.large ≡ false
+small_unborn laws board t block is at unborn = false_from_ne_true block.task.large (λ (large : block.task.large ≡ true). (laws.large_known board.script (past_of board) t block is.valid is.legal at large).1 unborn)
 
 module _ (laws : Laws) (board : Board) (t cpu : ℕ) (is : IsBoard board) (turn : stage_in board t ≡ Turn cpu 0) where
   abbrev block : BlockState
@@ -120,19 +121,30 @@ of_open Quantum Holds is holds = absurd (cc is)
 of_open Yield Holds is holds = absurd (cc is)
 of_open (Outer line) Holds is holds = holds
 of_open (Refused error) Holds is holds = absurd (cc is)
+of_open Trap Holds is holds = absurd (cc is)
 of_open End Holds is holds = absurd (cc is)
 
+-- and of a line that traps
+of_trap : (close : Close) (Holds : Type 0) → close ≡ Trap → IfOpen close Holds → Holds
+of_trap Quantum Holds is holds = absurd (cc is)
+of_trap Yield Holds is holds = absurd (cc is)
+of_trap (Outer line) Holds is holds = absurd (cc is)
+of_trap (Refused error) Holds is holds = absurd (cc is)
+of_trap Trap Holds is holds = holds
+of_trap End Holds is holds = absurd (cc is)
+
 -- the reply goes by the blocks at an outer line alone
-reply_same : (script : Script) (xs ys : List BlockState) (t : ℕ) (close : Close) → (is_outer close ≡ true → xs ≡ ys) → close_answer script xs t close ≡ close_answer script ys t close
+reply_same : (script : Script) (xs ys : List BlockState) (t : ℕ) (close : Close) → (is_outer close ≡ true → xs ≡ ys) → close_reply script xs t close ≡ close_reply script ys t close
 reply_same script xs ys t Quantum same = refl
 reply_same script xs ys t Yield same = refl
-reply_same script xs ys t (Outer line) same = ap (λ (blocks : List BlockState). close_answer script blocks t (Outer line)) (same refl)
+reply_same script xs ys t (Outer line) same = ap (λ (blocks : List BlockState). close_reply script blocks t (Outer line)) (same refl)
 reply_same script xs ys t (Refused error) same = refl
+reply_same script xs ys t Trap same = refl
 reply_same script xs ys t End same = refl
 
 module _ (laws : Laws) (board : Board) (t cpu : ℕ) (entries : List Entry) (close : Close) (may : MayCommit board t cpu entries close) where
-  -- what the line answers
-  abbrev pub answer : Reply
+  -- what the board answers
+  abbrev pub answer : Answer
   answer = answer_in board t entries close
 
   -- the past after the turn
@@ -158,7 +170,9 @@ module _ (laws : Laws) (board : Board) (t cpu : ℕ) (entries : List Entry) (clo
       subst (λ (x : PrivateTask). HasCome script past t cpu 0 entries close answer (task_after script t x entries) later) (sym same)
       (turn_comes laws script may.is_board.valid t cpu entries close answer past 0 (the_turn board t cpu may.turn).0 lines.0 (begun lines.0 lines.1)
       (subst (λ (x : PrivateTask). AreLines script t x 0 entries close) same may.lines)
-      (ap (λ (all : List Event). close_answer script (machine script all).blocks t close) (sym (ran_is t entries past))))
+      (ap (λ (all : List Event). close_reply script (machine script all).blocks t close) (sym (ran_is t entries past)))
+      (ap (λ (all : List Event). trap_fate script (machine script all).blocks (private_with board t entries)) (sym (ran_is t entries past))
+      ∙ ap (λ (x : PrivateTask). trap_fate script (machine script (past_ran t entries past)).blocks (task_after script t x entries)) same))
 
   -- the blocks at the close
   abbrev pub closing : List BlockState
@@ -173,8 +187,15 @@ module _ (laws : Laws) (board : Board) (t cpu : ℕ) (entries : List Entry) (clo
   closing_is outer = ap (λ (all : List Event). (machine board.script all).blocks) (of_open close (comes.mid ≡ past_ran t entries (past_of board)) outer comes.mid_is ∙ ran_is t entries (past_of board))
 
   -- the line answers by them
-  pub answer_is : answer ≡ close_answer board.script closing t close
+  pub answer_is : answer.reply ≡ close_reply board.script closing t close
   answer_is = reply_same board.script (blocks_with board t entries) closing t close (λ outer. sym (closing_is outer))
+
+  -- a line that traps has found as many Large areas out as the board has
+  pub fate_is : close ≡ Trap → answer.fate ≡ fate_by (private_with board t entries).permitted (nat_lt (large_count (machine_in board).blocks) board.script.large)
+  fate_is is =
+      let with_lines : closing ≡ blocks_with board t entries = ap (λ (all : List Event). (machine board.script all).blocks) (of_trap close (comes.mid ≡ past_ran t entries (past_of board)) is comes.mid_is ∙ ran_is t entries (past_of board)) in
+      let as_many : large_count (blocks_with board t entries) ≡ large_count (machine_in board).blocks = ap large_count (sym with_lines) ∙ comes.gone.large in
+      ap (λ (n : ℕ). fate_by (private_with board t entries).permitted (nat_lt n board.script.large)) as_many
 
   -- there is room for its events
   pub turn_fits : length board.history + length (turn_events t entries close answer) ≤ board.room
@@ -190,16 +211,16 @@ module _ (laws : Laws) (board : Board) (t cpu : ℕ) (entries : List Entry) (clo
 
 -- ---- the task that comes back
 
--- the class that is not Large
-small_class : (class : Class) → is_large class ≡ false → class ≡ Small
-small_class Small small = refl
-small_class Large small = absurd (cc small)
+-- an area is Large where its task has room for TILEDATA
+class_of : (class : Class) (large : Bool) → is_large class ≡ large → class ≡ (if large then Large else Small)
+class_of Small large is = ap (λ (b : Bool). if b then Large else Small) is
+class_of Large large is = ap (λ (b : Bool). if b then Large else Small) is
 
--- An area is that of a user task. It is Small, and of its class's length.
-pub lease_known : (user : Bool) (rows : List Row) (task : Task) (private : PrivateTask) → IsHome user rows task private → private.large ≡ false → (lease : Lease) → task.lease ≡ Some lease → (user ≡ true) × (lease.class ≡ Small) × (length lease.area.bytes.items ≡ class_size rows lease.class)
-lease_known true rows task private home small lease is =
-    (refl, small_class lease.class (sym (ap has_large is) ∙ sym (ap (λ (x : PrivateTask). x.large) home.parked.form) ∙ small), (home.whole.area lease is).len)
-lease_known false rows task private home small lease is = absurd (cc (home.lease, is))
+-- An area is that of a user task. It is of its task's class, and of that class's length.
+pub lease_known : (user : Bool) (rows : List Row) (task : Task) (private : PrivateTask) → IsHome user rows task private → (lease : Lease) → task.lease ≡ Some lease → (user ≡ true) × (lease.class ≡ (if private.large then Large else Small)) × (length lease.area.bytes.items ≡ class_size rows lease.class)
+lease_known true rows task private home lease is =
+    (refl, class_of lease.class private.large (sym (ap has_large is) ∙ sym (ap (λ (x : PrivateTask). x.large) home.parked.form)), (home.whole.area lease is).len)
+lease_known false rows task private home lease is = absurd (cc (home.lease, is))
 
 -- a task without an area is a kernel thread
 pub some_lease : (user : Bool) (rows : List Row) (task : Task) (private : PrivateTask) → IsHome user rows task private → task.lease ≡ None → user ≡ false

@@ -53,8 +53,8 @@ pool_capacity kinds.Task pool = refl
 pool_capacity kinds.Child pool = refl
 pool_capacity kinds.Kthread pool = refl
 
--- no Large area goes out
-pub pool_large : (kind : BlockKind) (pool : Pool) → (pool_first kind pool).large.out ≡ pool.large.out
+-- its Large areas stay as they are
+pub pool_large : (kind : BlockKind) (pool : Pool) → (pool_first kind pool).large ≡ pool.large
 pool_large kinds.Task pool = refl
 pool_large kinds.Child pool = refl
 pool_large kinds.Kthread pool = refl

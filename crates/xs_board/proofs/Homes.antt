@@ -1,11 +1,10 @@
 -- The task of another block after an outer line, which is home.
-use Rattle.std.proofs.Common.{◌≡◌, ℕ, ◌+◌, ◌==◌, ◌<◌, Bool, true, false, ◌&&◌, List, length, take, refl, sym, ap, ◌∙◌, subst, arith, inl, inr, eq-eqb, ne_eqb}
+use Rattle.std.proofs.Common.{◌≡◌, ℕ, ◌==◌, Bool, true, false, ◌&&◌, List, length, take, refl, sym, ap, ◌∙◌, subst, arith, inl, inr, eq-eqb, ne_eqb}
 use Rattle.std.proofs.lemmas.Bool.{cases_Bool, cases_eq}
 use Rattle.std.proofs.lemmas.List.{get_or-set_other, get_or-set_same}
 use Rattle.std.proofs.lemmas.Option.{same_Some, slice_get_within}
-use Rattle.std.specs.Prelude.{Option, Some, None, if◌then◌else◌, slice_get, slice_index_or, slice_set}
+use Rattle.std.specs.Prelude.{Option, Some, None, if◌then◌else◌, slice_get}
 use Rattle.xs_base.specs.declared.component.Row.{Row}
-use Rattle.xs_base.specs.declared.words.Errno.{Errno}
 use Rattle.xs_base.specs.declared.words.Set.{Set}
 use Rattle.xs_base.specs.RegisterSet.{Accepted, Count, Fault, Header, SetResult, set_errno, set_result}
 use Rattle.xs_base.specs.Task.{PrivateTask, child_of, parked}
@@ -27,8 +26,7 @@ use Rattle.xs_model.specs.State.{BlockState, is_stopped, stage_of}
 use Rattle.xs_task.specs.declared.task.Task.{Task}
 use Rattle.xs_task.specs.Parked.{IsParked}
 use Rattle.xs_task.specs.TaskArea.{IsTask}
-use Rattle.xs_board.specs.Birth.{BecameChild}
-use Rattle.xs_board.specs.Deed.{HasBorn, HasWritten, IsDoneBy, deed_of, last_set, newborn, task_home}
+use Rattle.xs_board.specs.Deed.{HasBorn, HasWritten, IsDoneBy, deed_of, newborn, task_home}
 use Rattle.xs_board.specs.Home.{IsClear, IsHome}
 use Rattle.xs_board.specs.Member.{Member, AreMembers, is_stopped_life, member_at}
 use Rattle.xs_board.proofs.Changed.{there_is}

@@ -21,10 +21,13 @@ pub mod Own
 pub mod Committing
 pub mod Queue
 pub mod Seen
+pub mod Large
+pub mod Areas
 pub mod Asked
 pub mod Returning
 pub mod Again
 pub mod Giving
+pub mod Settling
 pub mod Moving
 pub mod Taking
 pub mod Asking

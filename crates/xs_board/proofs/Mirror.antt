@@ -1,6 +1,6 @@
 -- The members tell what the stages, the parents and the signals of the blocks tell.
-use Rattle.std.proofs.Common.{◌≡◌, ℕ, zero, suc, ◌+◌, ◌==◌, Bool, true, false, ◌&&◌, List, [], ◌∷◌, ◌++◌, length, refl, sym, ap, ◌∙◌, subst, arith, inl, inr, eq-eqb}
-use Rattle.std.proofs.lemmas.Bool.{cases_Bool, eqb-true}
+use Rattle.std.proofs.Common.{◌≡◌, ℕ, suc, ◌+◌, Bool, true, false, ◌&&◌, List, [], ◌∷◌, ◌++◌, length, refl, sym, ap, ◌∙◌, subst, arith, eq-eqb}
+use Rattle.std.proofs.lemmas.Bool.{eqb-true}
 use Rattle.std.proofs.lemmas.Option.{same_Some}
 use Rattle.std.specs.Prelude.{Option, Some, None, if◌then◌else◌, slice_get}
 use Rattle.xs_model.specs.declared.event.Reply.{Reply}
@@ -10,11 +10,10 @@ use Rattle.xs_model.specs.declared.stage.Stage.TheVariants.{Unborn, Ready, Turn,
 use Rattle.xs_model.specs.Effects.{is_waiting_for, parent_waiting, stopped_children, waiter_of}
 use Rattle.xs_model.specs.Outer.{parent_lives, stage_reply, wait_reply}
 use Rattle.xs_model.specs.State.{BlockState, is_parent, is_stopped, lives, parent_of, stage_at, stage_of}
-use Rattle.xs_board.specs.Deed.{blocks_at, goes_on, is_traced, life_reply, wait_answer}
-use Rattle.xs_board.specs.declared.member.Life.{Life}
-use Rattle.xs_board.specs.Member.{Member, AreMembers, child_if, is_alive, is_going, is_stopped_life, is_stopped_child, life_of, listed, lives_at, member_at, member_of, waiter_among, waiter_in, waits_for}
+use Rattle.xs_board.specs.Deed.{is_traced, life_reply, wait_answer}
+use Rattle.xs_board.specs.Member.{Member, AreMembers, is_alive, is_stopped_life, is_stopped_child, life_of, listed, lives_at, member_at, member_of, waiter_among, waiter_in, waits_for}
 use Rattle.xs_board.specs.Putting.{children_in}
-use Rattle.xs_board.proofs.Tests.{if_false, if_true}
+use Rattle.xs_board.proofs.Tests.{if_true}
 
 -- ---- by the stage
 

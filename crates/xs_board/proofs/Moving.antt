@@ -1,9 +1,7 @@
 -- A board whose history went on.
-use Rattle.std.proofs.Common.{◌≡◌, ℕ, ◌+◌, ◌≤◌, Bool, true, false, List, [], ◌∷◌, ◌++◌, length, reverse, refl, sym, ap, ◌∙◌, subst, arith, inl, inr, append_assoc}
-use Rattle.std.proofs.lemmas.Bool.{cases_eq}
+use Rattle.std.proofs.Common.{◌≡◌, ℕ, ◌+◌, ◌≤◌, List, [], ◌∷◌, ◌++◌, length, reverse, refl, sym, ap, ◌∙◌, subst, arith, append_assoc}
 use Rattle.std.proofs.lemmas.List.{append-nil, length-reverse, reverse-append}
-use Rattle.std.proofs.lemmas.Option.{same_Some}
-use Rattle.std.specs.Prelude.{◌⊎◌, Option, Some, None, slice_get, slice_index_or}
+use Rattle.std.specs.Prelude.{None, slice_index_or}
 use Rattle.xs_base.specs.Task.{PrivateTask, parked, marks_after, child_of}
 use Rattle.xs_model.specs.declared.event.Event.{Event}
 use Rattle.xs_model.specs.declared.script.Script.{Script}
@@ -13,7 +11,7 @@ use Rattle.xs_model.specs.declared.stage.Stage.TheVariants.{Unborn}
 use Rattle.xs_model.specs.Machine.{machine, IsLegalPast}
 use Rattle.xs_model.specs.Note.{last}
 use Rattle.xs_model.specs.Script.{IsValid, is_user}
-use Rattle.xs_board.specs.Board.{Board, HasHome, past_of, machine_in, private_in, stage_in}
+use Rattle.xs_board.specs.Board.{Board, HasHome, past_of, private_in, stage_in}
 use Rattle.xs_board.specs.Home.{IsHome}
 use Rattle.xs_board.proofs.Events.{onto}
 

@@ -1,25 +1,26 @@
 -- What a close leaves as it was of another block: its stage but for waits, stops and births, and its private task but for a birth and
 -- a write of its registers.
-use Rattle.std.proofs.Common.{◌≡◌, ℕ, ◌==◌, Bool, true, false, ◌&&◌, List, refl, sym, ap, ◌∙◌, subst, inl, inr}
-use Rattle.std.proofs.lemmas.Bool.{cases_Bool, eqb-true, and_parts}
+use Rattle.std.proofs.Common.{◌≡◌, ℕ, ◌==◌, Bool, true, false, ◌&&◌, List, refl, sym, ap, ◌∙◌}
+use Rattle.std.proofs.lemmas.Bool.{eqb-true}
 use Rattle.std.specs.Prelude.{Option, Some, None, if◌then◌else◌, slice_get}
 use Rattle.xs_base.specs.Task.{PrivateTask}
 use Rattle.xs_model.specs.declared.event.Reply.{Reply}
 use Rattle.xs_model.specs.declared.script.Command.{Command}
-use Rattle.xs_model.specs.declared.script.Command.TheVariants.{Fork, Kill, Stop, Wait, Getregs, Setregs, Cont}
+use Rattle.xs_model.specs.declared.script.Command.TheVariants.{Fork, Kill, Stop, Getregs, Setregs, Cont}
 use Rattle.xs_model.specs.declared.script.Script.{Script}
 use Rattle.xs_model.specs.declared.stage.Stage.{Stage}
 use Rattle.xs_model.specs.declared.stage.Stage.TheVariants.{Unborn, Ready, Turn, Stopped, Waiting, Ended}
 use Rattle.xs_model.specs.Effects.{reached}
 use Rattle.xs_model.specs.Note.{is_count}
 use Rattle.xs_model.specs.Outer as outers
-use Rattle.xs_model.specs.Outer.{bear, born, let_go, wake}
+use Rattle.xs_model.specs.Outer.{bear, born, freed, let_go, wake}
 use Rattle.xs_model.specs.Script.{block_named}
 use Rattle.xs_model.specs.State.{BlockState, is_parent}
 use Rattle.xs_board.specs.declared.turn.Close.{Close}
-use Rattle.xs_board.specs.declared.turn.Close.TheVariants.{Quantum, Yield, Outer, Refused, End}
+use Rattle.xs_board.specs.declared.turn.Close.TheVariants.{Quantum, Yield, Outer, Refused, Trap, End}
 use Rattle.xs_board.specs.Deed.{deed_by, deed_of, newborn}
-use Rattle.xs_board.specs.Turn.{close_command}
+use Rattle.xs_board.specs.Putting.{kills}
+use Rattle.xs_board.specs.Turn.{Answer, close_command}
 use Rattle.xs_board.proofs.Leaving.{others_by, reached_by}
 
 -- ---- a fact of stages that doesn't tell a block that waits or is stopped from one that is ready
@@ -96,16 +97,21 @@ module _ {X : Type 0} (f : Stage → X) (waiting : (child : ℕ) → f (Waiting 
   reached_stage script blocks t other reply u b unborn = refl
 
   -- and what a close leaves
-  pub others_stage : (script : Script) (blocks : List BlockState) (t : ℕ) (close : Close) (reply : Reply) (u : ℕ) (b : BlockState) → (newborn (deed_by script (close_command script t close)) ≡ Some u → f Unborn ≡ f Ready) → f (others_by script blocks t close reply u b).stage ≡ f b.stage
-  others_stage script blocks t Quantum reply u b unborn = refl
-  others_stage script blocks t Yield reply u b unborn = refl
-  others_stage script blocks t (Outer line) reply u b unborn = by_command (close_command script t (Outer line)) unborn
+  pub others_stage : (script : Script) (blocks : List BlockState) (t : ℕ) (close : Close) (answer : Answer) (u : ℕ) (b : BlockState) → (newborn (deed_by script (close_command script t close)) ≡ Some u → f Unborn ≡ f Ready) → f (others_by script blocks t close answer u b).stage ≡ f b.stage
+  others_stage script blocks t Quantum answer u b unborn = refl
+  others_stage script blocks t Yield answer u b unborn = refl
+  others_stage script blocks t (Outer line) answer u b unborn = by_command (close_command script t (Outer line)) unborn
     where
-      by_command : (c : Option Command) → (newborn (deed_by script c) ≡ Some u → f Unborn ≡ f Ready) → f (reached_by script blocks t c reply u b).stage ≡ f b.stage
+      by_command : (c : Option Command) → (newborn (deed_by script c) ≡ Some u → f Unborn ≡ f Ready) → f (reached_by script blocks t c answer.reply u b).stage ≡ f b.stage
       by_command None unborn = refl
-      by_command (Some command) unborn = reached_stage script blocks t command reply u b unborn
-  others_stage script blocks t (Refused error) reply u b unborn = let_same (is_parent b.parent t) (wake t b.stage) ∙ wake_same t b.stage
-  others_stage script blocks t End reply u b unborn = let_same (is_parent b.parent t) (wake t b.stage) ∙ wake_same t b.stage
+      by_command (Some command) unborn = reached_stage script blocks t command answer.reply u b unborn
+  others_stage script blocks t (Refused error) answer u b unborn = let_same (is_parent b.parent t) (wake t b.stage) ∙ wake_same t b.stage
+  others_stage script blocks t Trap answer u b unborn = by_fate (kills answer.fate)
+    where
+      by_fate : (killed : Bool) → f (if killed then freed t b else b).stage ≡ f b.stage
+      by_fate true = let_same (is_parent b.parent t) (wake t b.stage) ∙ wake_same t b.stage
+      by_fate false = refl
+  others_stage script blocks t End answer u b unborn = let_same (is_parent b.parent t) (wake t b.stage) ∙ wake_same t b.stage
 
 -- ---- its private task
 

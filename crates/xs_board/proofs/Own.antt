@@ -1,19 +1,17 @@
 -- What a close leaves of its own block, and its task.
-use Rattle.std.proofs.Common.{◌≡◌, ℕ, ◌+◌, ◌==◌, Bool, true, false, not, ◌&&◌, List, length, refl, sym, ap, ◌∙◌, subst, inl, inr, eq-eqb, ne_eqb}
+use Rattle.std.proofs.Common.{◌≡◌, ℕ, ◌+◌, ◌==◌, Bool, true, false, not, ◌&&◌, List, refl, sym, ap, ◌∙◌, subst, inl, inr, eq-eqb, ne_eqb}
 use Rattle.std.proofs.lemmas.Bool.{cases_Bool, eqb-true, and_parts}
-use Rattle.std.proofs.lemmas.Option.{same_Some}
 use Rattle.std.specs.Prelude.{Option, Some, None, if◌then◌else◌, slice_get}
 use Rattle.xs_base.specs.declared.component.Row.{Row}
-use Rattle.xs_base.specs.declared.words.Set.{Set}
 use Rattle.xs_base.specs.Bytes.{splice}
 use Rattle.xs_base.specs.RegisterSet.{set_reply}
-use Rattle.xs_base.specs.Task.{PrivateTask, IsPrivateTask, buffer_length, marks_after, parked}
+use Rattle.xs_base.specs.Task.{PrivateTask, IsPrivateTask, marks_after, parked}
 use Rattle.xs_model.specs.declared.event.Event.{Event}
 use Rattle.xs_model.specs.declared.event.Reply.{Reply}
+use Rattle.xs_model.specs.declared.event.Why.{Why}
 use Rattle.xs_model.specs.declared.script.Command.{Command}
 use Rattle.xs_model.specs.declared.script.Command.TheVariants.{Fork, Kill, Stop, Wait, Getregs, Setregs, Cont}
 use Rattle.xs_model.specs.declared.script.Script.{Script}
-use Rattle.xs_model.specs.declared.stage.Stage.{Stage}
 use Rattle.xs_model.specs.declared.stage.Stage.TheVariants as stages
 use Rattle.xs_model.specs.Effects.{reached}
 use Rattle.xs_model.specs.Line.{next_line}
@@ -26,33 +24,36 @@ use Rattle.xs_model.specs.State.{BlockState, is_stopped, stage_at, stage_of}
 use Rattle.xs_task.specs.declared.task.Task.{Task}
 use Rattle.xs_task.specs.Parked.{IsParked}
 use Rattle.xs_task.specs.TaskArea.{IsTask}
-use Rattle.xs_board.specs.declared.member.Life.{Life}
 use Rattle.xs_board.specs.declared.turn.Close.{Close}
-use Rattle.xs_board.specs.declared.turn.Close.TheVariants.{Quantum, Yield, Outer, Refused, End}
+use Rattle.xs_board.specs.declared.turn.Close.TheVariants.{Quantum, Yield, Outer, Refused, Trap, End}
 use Rattle.xs_board.specs.Deed.{IsDoneBy, deed_of}
 use Rattle.xs_board.specs.Home.{IsUserHome}
 use Rattle.xs_board.specs.Member.{Member, AreMembers, is_stopped_life, is_waiting, life_of, member_at}
 use Rattle.xs_board.specs.Putting.{is_outer, moved_on}
-use Rattle.xs_board.specs.Turn.{close_answer, close_command, filled_by, line_answer, line_closed, line_stage, stage_closed, task_closed}
+use Rattle.xs_board.specs.Turn.{Answer, close_command, close_reply, filled_by, line_answer, line_closed, line_stage, stage_closed, task_closed, trap_closed, trap_stage}
 use Rattle.xs_board.proofs.Answered.{AreParked, of_stopped, of_loose}
-use Rattle.xs_board.proofs.Leaving.{own_by, reached_by}
+use Rattle.xs_board.proofs.Leaving.{own_by, reached_by, trapped_by}
 use Rattle.xs_board.proofs.Left.{IsLineOf}
 use Rattle.xs_board.proofs.Mirror.{stopped_at}
-use Rattle.xs_board.proofs.Tests.{if_false, if_true}
 
 -- ---- its stage
 
 -- the stage in which the close leaves it
-pub own_stage : (script : Script) (blocks : List BlockState) (t : ℕ) (close : Close) (reply : Reply) (task : PrivateTask) (state : BlockState) → (own_by script blocks t close reply task state).stage ≡ stage_closed script t close reply
-own_stage script blocks t Quantum reply task state = refl
-own_stage script blocks t Yield reply task state = refl
-own_stage script blocks t (Outer line) reply task state = by_command (close_command script t (Outer line)) (reached_by script blocks t (close_command script t (Outer line)) reply t state)
+pub own_stage : (script : Script) (blocks : List BlockState) (t : ℕ) (close : Close) (answer : Answer) (task : PrivateTask) (state : BlockState) → (own_by script blocks t close answer task state).stage ≡ stage_closed script t close answer
+own_stage script blocks t Quantum answer task state = refl
+own_stage script blocks t Yield answer task state = refl
+own_stage script blocks t (Outer line) answer task state = by_command (close_command script t (Outer line)) (reached_by script blocks t (close_command script t (Outer line)) answer.reply t state)
   where
-    by_command : (c : Option Command) (b : BlockState) → (outer_own script c reply b).stage ≡ line_stage script c reply
+    by_command : (c : Option Command) (b : BlockState) → (outer_own script c answer.reply b).stage ≡ line_stage script c answer.reply
     by_command None b = refl
     by_command (Some command) b = refl
-own_stage script blocks t (Refused error) reply task state = refl
-own_stage script blocks t End reply task state = refl
+own_stage script blocks t (Refused error) answer task state = refl
+own_stage script blocks t Trap answer task state = by_fate answer.fate
+  where
+    by_fate : (fate : Option Why) → (trapped_by fate task state).stage ≡ trap_stage fate
+    by_fate None = refl
+    by_fate (Some why) = refl
+own_stage script blocks t End answer task state = refl
 
 -- ---- its private task
 
@@ -105,25 +106,31 @@ module _ (script : Script) (past : List Event) (blocks : List BlockState) (t : �
   own_reached other line is = sym same_task
 
 -- what a close leaves of it
-pub own_task : (script : Script) (past : List Event) (blocks : List BlockState) (t : ℕ) (state : BlockState) → slice_get blocks t ≡ Some state → is_stopped state.stage ≡ false → (close : Close) (reply : Reply) (task : PrivateTask) → (is_outer close ≡ true → task ≡ state.task) → ((command : Command) → close_command script t close ≡ Some command → IsLineOf script past t task command)
-    → (is_outer close ≡ true → (command : Command) × (close_command script t close ≡ Some command)) → reply ≡ close_answer script blocks t close → (own_by script blocks t close reply task state).task ≡ parked (task_closed script blocks t close reply task)
-own_task script past blocks t state here running Quantum reply task same line some is = refl
-own_task script past blocks t state here running Yield reply task same line some is = refl
-own_task script past blocks t state here running (Outer n) reply task same line some is =
+pub own_task : (script : Script) (past : List Event) (blocks : List BlockState) (t : ℕ) (state : BlockState) → slice_get blocks t ≡ Some state → is_stopped state.stage ≡ false → (close : Close) (answer : Answer) (task : PrivateTask) → (is_outer close ≡ true → task ≡ state.task) → ((command : Command) → close_command script t close ≡ Some command → IsLineOf script past t task command)
+    → (is_outer close ≡ true → (command : Command) × (close_command script t close ≡ Some command)) → answer.reply ≡ close_reply script blocks t close → (own_by script blocks t close answer task state).task ≡ parked (task_closed script blocks t close answer task)
+own_task script past blocks t state here running Quantum answer task same line some is = refl
+own_task script past blocks t state here running Yield answer task same line some is = refl
+own_task script past blocks t state here running (Outer n) answer task same line some is =
     let command = (some refl).0 in
     let at = (some refl).1 in
-    subst (λ (c : Option Command). (outer_own script c reply (reached_by script blocks t c reply t state)).task ≡ parked (line_closed script blocks c reply task)) (sym at)
-    (ap (λ (x : PrivateTask). parked (task_left command reply x)) (own_reached script past blocks t state here running reply task (same refl) command (line command at) (is ∙ ap (line_answer script blocks t) at)))
-own_task script past blocks t state here running (Refused error) reply task same line some is = refl
-own_task script past blocks t state here running End reply task same line some is = refl
+    subst (λ (c : Option Command). (outer_own script c answer.reply (reached_by script blocks t c answer.reply t state)).task ≡ parked (line_closed script blocks c answer.reply task)) (sym at)
+    (ap (λ (x : PrivateTask). parked (task_left command answer.reply x)) (own_reached script past blocks t state here running answer.reply task (same refl) command (line command at) (is ∙ ap (line_answer script blocks t) at)))
+own_task script past blocks t state here running (Refused error) answer task same line some is = refl
+own_task script past blocks t state here running Trap answer task same line some is = by_fate answer.fate
+  where
+    by_fate : (fate : Option Why) → (trapped_by fate task state).task ≡ parked (trap_closed fate task)
+    by_fate None = refl
+    by_fate (Some why) = refl
+own_task script past blocks t state here running End answer task same line some is = refl
 
 -- it goes by the blocks at an outer line alone
-pub task_same : (script : Script) (xs ys : List BlockState) (t : ℕ) (close : Close) (reply : Reply) (task : PrivateTask) → (is_outer close ≡ true → xs ≡ ys) → task_closed script xs t close reply task ≡ task_closed script ys t close reply task
-task_same script xs ys t Quantum reply task same = refl
-task_same script xs ys t Yield reply task same = refl
-task_same script xs ys t (Outer line) reply task same = ap (λ (blocks : List BlockState). task_closed script blocks t (Outer line) reply task) (same refl)
-task_same script xs ys t (Refused error) reply task same = refl
-task_same script xs ys t End reply task same = refl
+pub task_same : (script : Script) (xs ys : List BlockState) (t : ℕ) (close : Close) (answer : Answer) (task : PrivateTask) → (is_outer close ≡ true → xs ≡ ys) → task_closed script xs t close answer task ≡ task_closed script ys t close answer task
+task_same script xs ys t Quantum answer task same = refl
+task_same script xs ys t Yield answer task same = refl
+task_same script xs ys t (Outer line) answer task same = ap (λ (blocks : List BlockState). task_closed script blocks t (Outer line) answer task) (same refl)
+task_same script xs ys t (Refused error) answer task same = refl
+task_same script xs ys t Trap answer task same = refl
+task_same script xs ys t End answer task same = refl
 
 -- ---- the task that goes back
 

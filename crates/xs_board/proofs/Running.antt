@@ -10,9 +10,9 @@ use Rattle.xs_model.specs.Line.{local_after}
 use Rattle.xs_model.specs.Machine.{goes_on}
 use Rattle.xs_board.specs.declared.turn.Entry.{Entry}
 use Rattle.xs_board.specs.declared.turn.Close.{Close}
-use Rattle.xs_board.specs.declared.turn.Close.TheVariants.{End, Outer, Refused}
+use Rattle.xs_board.specs.declared.turn.Close.TheVariants.{End, Outer, Refused, Trap}
 use Rattle.std.proofs.lemmas.List.{append-nil}
-use Rattle.xs_board.specs.Turn.{AreAfter, AreLines, HaveRun, IsEntry, IsOuterLine, IsRefusedReturn, after_line, closed_by, line_of, task_after}
+use Rattle.xs_board.specs.Turn.{AreAfter, AreLines, HaveRun, IsEntry, IsOuterLine, IsRefusedReturn, IsTrapLine, after_line, closed_by, line_of, task_after}
 
 -- the task after two parts of a turn
 task_append : (script : Script) (t : ℕ) (task : PrivateTask) (xs ys : List Entry) → task_after script t task (xs ++ ys) ≡ task_after script t (task_after script t task xs) ys
@@ -55,6 +55,11 @@ at_outer script t first entries task ran line order run is =
 pub at_refused : (script : Script) (t : ℕ) (first : PrivateTask) (entries : List Entry) (task : PrivateTask) (ran : ℕ) (error : HeaderError) (order : Order) → HaveRun script t first entries task ran → IsRefusedReturn script t task error order → AreLines script t first 0 entries (Refused error)
 at_refused script t first entries task ran error order run is =
     subst (λ (all : List Entry). AreLines script t first 0 all (Refused error)) (append-nil entries) (run.follow [] (Refused error) (order, is))
+
+-- the next line traps
+pub at_trap : (script : Script) (t : ℕ) (first : PrivateTask) (entries : List Entry) (task : PrivateTask) (ran : ℕ) (order : Order) → HaveRun script t first entries task ran → IsTrapLine script t task order → AreLines script t first 0 entries Trap
+at_trap script t first entries task ran order run is =
+    subst (λ (all : List Entry). AreLines script t first 0 all Trap) (append-nil entries) (run.follow [] Trap (order, is))
 
 -- no line is left
 pub at_end : (script : Script) (t : ℕ) (first : PrivateTask) (entries : List Entry) (task : PrivateTask) (ran : ℕ) → HaveRun script t first entries task ran → line_of script t task ≡ None → task.handling ≡ false → AreLines script t first 0 entries End

@@ -1,35 +1,32 @@
 -- What the history tells of a board after a turn: stages, private tasks, turns and how many blocks are such.
-use Rattle.std.proofs.Common.{◌≡◌, ℕ, ◌+◌, ◌-◌, ◌<◌, ◌≤◌, Bool, true, false, not, ◌&&◌, List, [], ◌∷◌, length, refl, sym, ap, ◌∙◌, subst, arith, inl, inr, eq-eqb, ne_eqb}
+use Rattle.std.proofs.Common.{◌≡◌, ℕ, ◌+◌, Bool, true, false, not, ◌&&◌, List, length, refl, sym, ap, ◌∙◌, arith, inl, inr, eq-eqb, ne_eqb}
 use Rattle.std.proofs.lemmas.Bool.{cases_eq}
 use Rattle.std.proofs.lemmas.Option.{same_Some}
-use Rattle.std.specs.Prelude.{◌⊎◌, Option, Some, None, if◌then◌else◌, slice_get}
-use Rattle.xs_area.specs.declared.area.Lease.{Lease}
-use Rattle.xs_base.specs.declared.class.Class.TheVariants.{Small}
-use Rattle.xs_base.specs.Task.{PrivateTask, parked}
+use Rattle.std.specs.Prelude.{Option, Some, None, if◌then◌else◌, slice_get}
+use Rattle.xs_base.specs.Task.{parked}
 use Rattle.xs_model.specs.declared.event.Reply.{Reply}
+use Rattle.xs_model.specs.declared.event.Why.{Why}
 use Rattle.xs_model.specs.declared.script.Command.{Command}
 use Rattle.xs_model.specs.declared.script.Command.TheVariants.{Fork, Kill, Stop, Wait, Getregs, Setregs, Cont}
 use Rattle.xs_model.specs.declared.script.Script.{Script}
 use Rattle.xs_model.specs.declared.stage.Stage.{Stage}
 use Rattle.xs_model.specs.declared.stage.Stage.TheVariants.{Unborn, Ready, Turn, Stopped, Waiting, Ended}
-use Rattle.xs_model.specs.Effects.{reached}
 use Rattle.xs_model.specs.Machine.{machine}
 use Rattle.xs_model.specs.Outer as outers
 use Rattle.xs_model.specs.Outer.{is_blocked}
 use Rattle.xs_model.specs.Replay.{runner}
 use Rattle.xs_model.specs.Script.{block_named, is_user}
 use Rattle.xs_model.specs.State.{BlockState, is_on_cpu, is_stopped, lives, stage_at, stage_of, task_of_state, turn_cpu}
-use Rattle.xs_pool.specs.Pool.{Pool, returned}
 use Rattle.xs_board.specs.declared.turn.Entry.{Entry}
 use Rattle.xs_board.specs.declared.turn.Close.{Close}
-use Rattle.xs_board.specs.declared.turn.Close.TheVariants.{Quantum, Yield, Outer, Refused, End}
+use Rattle.xs_board.specs.declared.turn.Close.TheVariants.{Quantum, Yield, Outer, Refused, Trap, End}
 use Rattle.xs_board.specs.Board.{Board, blocks_with, holds_area, machine_in, one, past_of, private_closed, private_with, tally}
-use Rattle.xs_board.specs.Deed.{deed_by, deed_of, living_born, newborn}
+use Rattle.xs_board.specs.Deed.{deed_by, living_born, newborn}
 use Rattle.xs_board.specs.Laws.{Laws}
-use Rattle.xs_board.specs.Putting.{ends, living_after, pool_after, pool_without}
-use Rattle.xs_board.specs.Turn.{close_command, line_stage, stage_closed, task_closed}
+use Rattle.xs_board.specs.Putting.{ends, kills, living_after}
+use Rattle.xs_board.specs.Turn.{Answer, close_command, line_stage, stage_closed, task_closed, trap_stage}
 use Rattle.xs_board.proofs.Blocks.{AreAlike, tally_point, tally_two}
-use Rattle.xs_board.proofs.Committing.{MayCommit, alone, answer, closing, closing_is, answer_is, here, later, leaves, stage_is, the_turn}
+use Rattle.xs_board.proofs.Committing.{MayCommit, alone, answer, closing, closing_is, answer_is, here, later, leaves, the_turn}
 use Rattle.xs_board.proofs.Leaving.{others_by, own_by, own_off, reached_by}
 use Rattle.xs_board.proofs.Members.{absent_stays}
 use Rattle.xs_board.proofs.Moving.{as_many}
@@ -55,19 +52,29 @@ line_left f waiting stopped script (Some (Wait name)) reply = by_test (is_blocke
 line_left f waiting stopped script (Some other) reply = refl
 
 -- it lives, and has its area, if it hasn't ended
-closed_lives : (script : Script) (t : ℕ) (close : Close) (reply : Reply) → lives (stage_closed script t close reply) ≡ not (ends close)
-closed_lives script t Quantum reply = refl
-closed_lives script t Yield reply = refl
-closed_lives script t (Outer line) reply = line_left lives (λ child. refl) refl script (close_command script t (Outer line)) reply
-closed_lives script t (Refused error) reply = refl
-closed_lives script t End reply = refl
+closed_lives : (script : Script) (t : ℕ) (close : Close) (said : Answer) → lives (stage_closed script t close said) ≡ not (ends close said.fate)
+closed_lives script t Quantum said = refl
+closed_lives script t Yield said = refl
+closed_lives script t (Outer line) said = line_left lives (λ child. refl) refl script (close_command script t (Outer line)) said.reply
+closed_lives script t (Refused error) said = refl
+closed_lives script t Trap said = by_fate said.fate
+  where
+    by_fate : (fate : Option Why) → lives (trap_stage fate) ≡ not (kills fate)
+    by_fate None = refl
+    by_fate (Some why) = refl
+closed_lives script t End said = refl
 
-closed_area : (script : Script) (t : ℕ) (close : Close) (reply : Reply) → holds_area (stage_closed script t close reply) ≡ not (ends close)
-closed_area script t Quantum reply = refl
-closed_area script t Yield reply = refl
-closed_area script t (Outer line) reply = line_left holds_area (λ child. refl) refl script (close_command script t (Outer line)) reply
-closed_area script t (Refused error) reply = refl
-closed_area script t End reply = refl
+closed_area : (script : Script) (t : ℕ) (close : Close) (said : Answer) → holds_area (stage_closed script t close said) ≡ not (ends close said.fate)
+closed_area script t Quantum said = refl
+closed_area script t Yield said = refl
+closed_area script t (Outer line) said = line_left holds_area (λ child. refl) refl script (close_command script t (Outer line)) said.reply
+closed_area script t (Refused error) said = refl
+closed_area script t Trap said = by_fate said.fate
+  where
+    by_fate : (fate : Option Why) → holds_area (trap_stage fate) ≡ not (kills fate)
+    by_fate None = refl
+    by_fate (Some why) = refl
+closed_area script t End said = refl
 
 -- its block was born
 abbrev pub was_born : Stage → Bool
@@ -78,34 +85,17 @@ was_born Stopped = true
 was_born (Waiting child) = true
 was_born Ended = true
 
-pub closed_born : (script : Script) (t : ℕ) (close : Close) (reply : Reply) → was_born (stage_closed script t close reply) ≡ true
-closed_born script t Quantum reply = refl
-closed_born script t Yield reply = refl
-closed_born script t (Outer line) reply = line_left was_born (λ child. refl) refl script (close_command script t (Outer line)) reply
-closed_born script t (Refused error) reply = refl
-closed_born script t End reply = refl
-
--- ---- the pool
-
--- where a task has ended
-pool_ends : (user : Bool) (lease : Option Lease) (pool : Pool) (before now : ℕ) → pool.small.out ≡ before → now + one (user && true) ≡ before + one (user && false) → (lease ≡ None → user ≡ false) → ((l : Lease) → lease ≡ Some l → (user ≡ true) × (l.class ≡ Small)) → pool_without lease pool ≡ record pool { small = record pool.small { out = now } }
-pool_ends user None pool before now out sum none some =
-    let thread : user ≡ false = none refl in
-    let was : one (user && true) ≡ 0 = ap (λ (u : Bool). one (u && true)) thread in
-    let is : one (user && false) ≡ 0 = ap (λ (u : Bool). one (u && false)) thread in
-    let same : pool.small.out ≡ now = omega arith in
-    ap (λ (n : ℕ). record pool { small = record pool.small { out = n } }) same
-pool_ends user (Some lease) pool before now out sum none some =
-    let known = some lease refl in
-    let was : one (user && true) ≡ 1 = ap (λ (u : Bool). one (u && true)) known.0 in
-    let is : one (user && false) ≡ 0 = ap (λ (u : Bool). one (u && false)) known.0 in
-    let same : pool.small.out - 1 ≡ now = omega arith in
-    ap (returned pool) known.1 ∙ ap (λ (n : ℕ). record pool { small = record pool.small { out = n } }) same
-
--- The pool, where the areas that are out are those of the user tasks before and after the turn.
-pub pool_is : (end user : Bool) (lease : Option Lease) (pool : Pool) (before now : ℕ) → pool.small.out ≡ before → now + one (user && true) ≡ before + one (user && not end) → (end ≡ true → lease ≡ None → user ≡ false) → (end ≡ true → (l : Lease) → lease ≡ Some l → (user ≡ true) × (l.class ≡ Small)) → pool_after end lease pool ≡ record pool { small = record pool.small { out = now } }
-pool_is true user lease pool before now out sum none some = pool_ends user lease pool before now out sum (none refl) (some refl)
-pool_is false user lease pool before now out sum none some = let same : pool.small.out ≡ now = omega arith in ap (λ (n : ℕ). record pool { small = record pool.small { out = n } }) same
+pub closed_born : (script : Script) (t : ℕ) (close : Close) (said : Answer) → was_born (stage_closed script t close said) ≡ true
+closed_born script t Quantum said = refl
+closed_born script t Yield said = refl
+closed_born script t (Outer line) said = line_left was_born (λ child. refl) refl script (close_command script t (Outer line)) said.reply
+closed_born script t (Refused error) said = refl
+closed_born script t Trap said = by_fate said.fate
+  where
+    by_fate : (fate : Option Why) → was_born (trap_stage fate) ≡ true
+    by_fate None = refl
+    by_fate (Some why) = refl
+closed_born script t End said = refl
 
 -- ---- what the history tells
 
@@ -116,8 +106,8 @@ module _ (laws : Laws) (old : Board) (t cpu : ℕ) (entries : List Entry) (close
   abbrev pub blocks : List BlockState
   blocks = closing laws old t cpu entries close may
 
-  abbrev pub reply : Reply
-  reply = answer laws old t cpu entries close may
+  abbrev pub answered : Answer
+  answered = answer laws old t cpu entries close may
 
   -- the blocks
   abbrev pub now : List BlockState
@@ -128,23 +118,23 @@ module _ (laws : Laws) (old : Board) (t cpu : ℕ) (entries : List Entry) (close
   many = as_many laws.machine script (past_of old) (later laws old t cpu entries close may)
 
   -- its stage
-  pub back_stage : stage_at now t ≡ stage_closed script t close reply
-  back_stage = let left = leaves laws old t cpu entries close may in ap stage_of left.own ∙ own_stage script blocks t close reply (private_with old t entries) left.state
+  pub back_stage : stage_at now t ≡ stage_closed script t close answered
+  back_stage = let left = leaves laws old t cpu entries close may in ap stage_of left.own ∙ own_stage script blocks t close answered (private_with old t entries) left.state
 
   -- its private task
-  pub own_private : task_of_state (slice_get now t) ≡ parked (task_closed script blocks t close reply (private_with old t entries))
+  pub own_private : task_of_state (slice_get now t) ≡ parked (task_closed script blocks t close answered (private_with old t entries))
   own_private =
       let left = leaves laws old t cpu entries close may in
       ap task_of_state left.own
-      ∙ own_task script (past_of old) blocks t left.state left.here (ap is_stopped left.turn) close reply (private_with old t entries) left.task_is left.line left.some (answer_is laws old t cpu entries close may)
+      ∙ own_task script (past_of old) blocks t left.state left.here (ap is_stopped left.turn) close answered (private_with old t entries) left.task_is left.line left.some (answer_is laws old t cpu entries close may)
 
   pub back_private : task_of_state (slice_get now t) ≡ private_closed old t entries close
-  back_private = own_private ∙ ap parked (task_same script blocks (blocks_with old t entries) t close reply (private_with old t entries) (closing_is laws old t cpu entries close may))
+  back_private = own_private ∙ ap parked (task_same script blocks (blocks_with old t entries) t close answered (private_with old t entries) (closing_is laws old t cpu entries close may))
 
   -- ---- other blocks
 
   -- what another block is
-  pub other_is : (u : ℕ) (b : BlockState) → (u ≡ t → ⊥) → slice_get (machine_in old).blocks u ≡ Some b → slice_get now u ≡ Some (others_by script blocks t close reply u b)
+  pub other_is : (u : ℕ) (b : BlockState) → (u ≡ t → ⊥) → slice_get (machine_in old).blocks u ≡ Some b → slice_get now u ≡ Some (others_by script blocks t close answered u b)
   other_is u b other at = let left = leaves laws old t cpu entries close may in left.others u b other (left.same u other ∙ at)
 
   -- the child
@@ -159,7 +149,7 @@ module _ (laws : Laws) (old : Board) (t cpu : ℕ) (entries : List Entry) (close
       by_block None none = ap (λ (b : Option BlockState). f (stage_of b)) (absent_stays (machine_in old).blocks now u many none) ∙ sym (ap (λ (b : Option BlockState). f (stage_of b)) none)
       by_block (Some b) at =
           ap (λ (b : Option BlockState). f (stage_of b)) (other_is u b other at)
-          ∙ others_stage f waiting stopped script blocks t close reply u b unborn
+          ∙ others_stage f waiting stopped script blocks t close answered u b unborn
           ∙ sym (ap (λ (b : Option BlockState). f (stage_of b)) at)
 
   -- it is as little or as much on a processor as before
@@ -168,7 +158,7 @@ module _ (laws : Laws) (old : Board) (t cpu : ℕ) (entries : List Entry) (close
 
   -- and the block of the turn isn't
   own_on : (c : ℕ) → is_on c now t ≡ false
-  own_on c = let left = leaves laws old t cpu entries close may in ap (λ (b : Option BlockState). is_on_cpu c (turn_cpu (stage_of b))) left.own ∙ ap (is_on_cpu c) (own_off script blocks t close reply (private_with old t entries) left.state)
+  own_on c = let left = leaves laws old t cpu entries close may in ap (λ (b : Option BlockState). is_on_cpu c (turn_cpu (stage_of b))) left.own ∙ ap (is_on_cpu c) (own_off script blocks t close answered (private_with old t entries) left.state)
 
   -- the processor has no turn
   pub back_free : runner cpu 0 now ≡ None
@@ -193,28 +183,28 @@ module _ (laws : Laws) (old : Board) (t cpu : ℕ) (entries : List Entry) (close
   before = (the_turn old t cpu may.turn).0
 
   abbrev pub after : BlockState
-  after = own_by script blocks t close reply (private_with old t entries) (leaves laws old t cpu entries close may).state
+  after = own_by script blocks t close answered (private_with old t entries) (leaves laws old t cpu entries close may).state
 
-  after_stage : after.stage ≡ stage_closed script t close reply
-  after_stage = own_stage script blocks t close reply (private_with old t entries) (leaves laws old t cpu entries close may).state
+  after_stage : after.stage ≡ stage_closed script t close answered
+  after_stage = own_stage script blocks t close answered (private_with old t entries) (leaves laws old t cpu entries close may).state
 
   -- the areas of the user tasks
-  pub area_tally : tally (λ v stage. is_user script v && holds_area stage) 0 now + one (is_user script t && true) ≡ tally (λ v stage. is_user script v && holds_area stage) 0 (machine_in old).blocks + one (is_user script t && not (ends close))
+  pub area_tally : tally (λ v stage. is_user script v && holds_area stage) 0 now + one (is_user script t && true) ≡ tally (λ v stage. is_user script v && holds_area stage) 0 (machine_in old).blocks + one (is_user script t && not (ends close answered.fate))
   area_tally =
       let sum = tally_point (λ v stage. is_user script v && holds_area stage) 0 t t (machine_in old).blocks now before after many (here laws old t cpu may.is_board may.turn) (leaves laws old t cpu entries close may).own
       (λ u other n. ap (λ (b : Bool). is_user script n && b) (other_fact holds_area (λ k. refl) refl u other (λ k. refl))) (omega arith) in
       let was : one (is_user script t && holds_area before.stage) ≡ one (is_user script t && true) = ap (λ (s : Stage). one (is_user script t && holds_area s)) (the_turn old t cpu may.turn).2 in
-      let is : one (is_user script t && holds_area after.stage) ≡ one (is_user script t && not (ends close)) = ap (λ (s : Stage). one (is_user script t && holds_area s)) after_stage ∙ ap (λ (b : Bool). one (is_user script t && b)) (closed_area script t close reply) in
+      let is : one (is_user script t && holds_area after.stage) ≡ one (is_user script t && not (ends close answered.fate)) = ap (λ (s : Stage). one (is_user script t && holds_area s)) after_stage ∙ ap (λ (b : Bool). one (is_user script t && b)) (closed_area script t close answered) in
       omega (arith, sum, was, is)
 
   -- and who lives
   lives_as : (u : ℕ) → (u ≡ t → ⊥) → (child ≡ Some u → ⊥) → AreAlike (λ v stage. lives stage) (machine_in old).blocks now u
   lives_as u other apart n = other_fact lives (λ k. refl) refl u other (λ e. absurd (apart e))
 
-  pub own_lives : (one (lives before.stage) ≡ 1) × (one (lives after.stage) ≡ one (not (ends close)))
-  own_lives = (ap (λ (s : Stage). one (lives s)) (the_turn old t cpu may.turn).2, ap (λ (s : Stage). one (lives s)) after_stage ∙ ap one (closed_lives script t close reply))
+  pub own_lives : (one (lives before.stage) ≡ 1) × (one (lives after.stage) ≡ one (not (ends close answered.fate)))
+  own_lives = (ap (λ (s : Stage). one (lives s)) (the_turn old t cpu may.turn).2, ap (λ (s : Stage). one (lives s)) after_stage ∙ ap one (closed_lives script t close answered))
 
-  none_born : child ≡ None → tally (λ v stage. lives stage) 0 now + 1 ≡ tally (λ v stage. lives stage) 0 (machine_in old).blocks + one (not (ends close))
+  none_born : child ≡ None → tally (λ v stage. lives stage) 0 now + 1 ≡ tally (λ v stage. lives stage) 0 (machine_in old).blocks + one (not (ends close answered.fate))
   none_born none =
       let sum = tally_point (λ v stage. lives stage) 0 t t (machine_in old).blocks now before after many (here laws old t cpu may.is_board may.turn) (leaves laws old t cpu entries close may).own (λ u other. lives_as u other (λ e. cc (none, e))) (omega arith) in
       let parts = own_lives in
@@ -222,15 +212,15 @@ module _ (laws : Laws) (old : Board) (t cpu : ℕ) (entries : List Entry) (close
       let is = parts.1 in
       omega (arith, sum, was, is)
 
-  one_born : (c : ℕ) (b : BlockState) → child ≡ Some c → slice_get (machine_in old).blocks c ≡ Some b → b.stage ≡ Unborn → (t ≡ c → ⊥) → lives (others_by script blocks t close reply c b).stage ≡ true
-      → tally (λ v stage. lives stage) 0 now + 1 ≡ tally (λ v stage. lives stage) 0 (machine_in old).blocks + one (not (ends close)) + 1
+  one_born : (c : ℕ) (b : BlockState) → child ≡ Some c → slice_get (machine_in old).blocks c ≡ Some b → b.stage ≡ Unborn → (t ≡ c → ⊥) → lives (others_by script blocks t close answered c b).stage ≡ true
+      → tally (λ v stage. lives stage) 0 now + 1 ≡ tally (λ v stage. lives stage) 0 (machine_in old).blocks + one (not (ends close answered.fate)) + 1
   one_born c b born at unborn apart alive =
-      let sum = tally_two (λ v stage. lives stage) t c (machine_in old).blocks now before after b (others_by script blocks t close reply c b) many (here laws old t cpu may.is_board may.turn) (leaves laws old t cpu entries close may).own at (other_is c b (λ (e : c ≡ t). apart (sym e)) at) apart (λ u other far. lives_as u other (λ e. far (sym (same_Some c u (sym born ∙ e))))) in
+      let sum = tally_two (λ v stage. lives stage) t c (machine_in old).blocks now before after b (others_by script blocks t close answered c b) many (here laws old t cpu may.is_board may.turn) (leaves laws old t cpu entries close may).own at (other_is c b (λ (e : c ≡ t). apart (sym e)) at) apart (λ u other far. lives_as u other (λ e. far (sym (same_Some c u (sym born ∙ e))))) in
       let parts = own_lives in
       let was = parts.0 in
       let is = parts.1 in
       let first : one (lives b.stage) ≡ 0 = ap (λ (s : Stage). one (lives s)) unborn in
-      let second : one (lives (others_by script blocks t close reply c b).stage) ≡ 1 = ap one alive in
+      let second : one (lives (others_by script blocks t close answered c b).stage) ≡ 1 = ap one alive in
       omega (arith, sum, was, is, first, second)
 
 -- ---- how many live
@@ -256,18 +246,19 @@ count_is false (Some c) before now none some = let parts = some c refl in let su
 
 module _ (laws : Laws) (old : Board) (t cpu : ℕ) (entries : List Entry) (close : Close) (may : MayCommit old t cpu entries close) where
   -- an end bears nobody
-  end_bears : (c : Close) (v : ℕ) → newborn (deed_by old.script (close_command old.script t c)) ≡ Some v → ends c ≡ false
+  end_bears : (c : Close) (v : ℕ) → newborn (deed_by old.script (close_command old.script t c)) ≡ Some v → ends c (answer laws old t cpu entries close may).fate ≡ false
   end_bears Quantum v is = refl
   end_bears Yield v is = refl
   end_bears (Outer line) v is = refl
   end_bears (Refused error) v is = absurd (cc is)
+  end_bears Trap v is = absurd (cc is)
   end_bears End v is = absurd (cc is)
 
   -- how many live after the turn
-  pub back_living : (count : ℕ) → count ≡ tally (λ v stage. lives stage) 0 (machine_in old).blocks → living_after (ends close) (living_born (newborn (deed_by old.script (close_command old.script t close))) count) ≡ tally (λ v stage. lives stage) 0 (now laws old t cpu entries close may)
+  pub back_living : (count : ℕ) → count ≡ tally (λ v stage. lives stage) 0 (machine_in old).blocks → living_after (ends close (answer laws old t cpu entries close may).fate) (living_born (newborn (deed_by old.script (close_command old.script t close))) count) ≡ tally (λ v stage. lives stage) 0 (now laws old t cpu entries close may)
   back_living count count_before =
-      ap (λ (n : ℕ). living_after (ends close) (living_born (newborn (deed_by old.script (close_command old.script t close))) n)) count_before
-      ∙ count_is (ends close) (newborn (deed_by old.script (close_command old.script t close))) (tally (λ v stage. lives stage) 0 (machine_in old).blocks) (tally (λ v stage. lives stage) 0 (now laws old t cpu entries close may)) (none_born laws old t cpu entries close may) (λ c is.
+      ap (λ (n : ℕ). living_after (ends close (answer laws old t cpu entries close may).fate) (living_born (newborn (deed_by old.script (close_command old.script t close))) n)) count_before
+      ∙ count_is (ends close (answer laws old t cpu entries close may).fate) (newborn (deed_by old.script (close_command old.script t close))) (tally (λ v stage. lives stage) 0 (machine_in old).blocks) (tally (λ v stage. lives stage) 0 (now laws old t cpu entries close may)) (none_born laws old t cpu entries close may) (λ c is.
       let fork = is_fork old.script (close_command old.script t close) c is in
       let left = leaves laws old t cpu entries close may in
       let birth = (left.line (Fork fork.0) fork.1).born fork.0 refl in
@@ -278,14 +269,14 @@ module _ (laws : Laws) (old : Board) (t cpu : ℕ) (entries : List Entry) (close
       script : Script
       script = old.script
 
-      reply : Reply
-      reply = answer laws old t cpu entries close may
+      answered : Answer
+      answered = answer laws old t cpu entries close may
 
-      alive : (name : List ℕ) (b state : BlockState) → slice_get (closing laws old t cpu entries close may) t ≡ Some state → b.stage ≡ Unborn → (o : Option Command) → o ≡ Some (Fork name) → ends close ≡ false → lives (if ends close then outers.freed t b else reached_by script (closing laws old t cpu entries close may) t o reply (block_named script name) b).stage ≡ true
+      alive : (name : List ℕ) (b state : BlockState) → slice_get (closing laws old t cpu entries close may) t ≡ Some state → b.stage ≡ Unborn → (o : Option Command) → o ≡ Some (Fork name) → ends close (answer laws old t cpu entries close may).fate ≡ false → lives (if ends close (answer laws old t cpu entries close may).fate then outers.freed t b else reached_by script (closing laws old t cpu entries close may) t o answered.reply (block_named script name) b).stage ≡ true
       alive name b state there unborn o is off =
           let c = block_named script name in
-          ap (λ (x : Bool). lives (if x then outers.freed t b else reached_by script (closing laws old t cpu entries close may) t o reply c b).stage) off
-          ∙ ap (λ (k : Option Command). lives (reached_by script (closing laws old t cpu entries close may) t k reply c b).stage) is
+          ap (λ (x : Bool). lives (if x then outers.freed t b else reached_by script (closing laws old t cpu entries close may) t o answered.reply c b).stage) off
+          ∙ ap (λ (k : Option Command). lives (reached_by script (closing laws old t cpu entries close may) t k answered.reply c b).stage) is
           ∙ ap (λ (x : Bool). lives (if x then outers.born t (slice_get (closing laws old t cpu entries close may) t) b else b).stage) (eq-eqb c c refl)
           ∙ ap (λ (parent : Option BlockState). lives (outers.born t parent b).stage) there
           ∙ ap (λ (s : Stage). lives (outers.bear t state.task s b).stage) unborn

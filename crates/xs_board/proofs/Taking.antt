@@ -1,5 +1,5 @@
 -- A board that hands out its first ready block.
-use Rattle.std.proofs.Common.{◌≡◌, ℕ, ◌+◌, ◌==◌, ◌<◌, ◌≤◌, Bool, false, ◌&&◌, List, [], ◌∷◌, ◌++◌, length, reverse, refl, sym, ap, ◌∙◌, subst, arith, inl, inr, eq-eqb, ne_eqb}
+use Rattle.std.proofs.Common.{◌≡◌, ℕ, ◌+◌, ◌==◌, ◌<◌, ◌≤◌, Bool, false, ◌&&◌, List, [], ◌∷◌, ◌++◌, length, reverse, refl, sym, ap, ◌∙◌, subst, arith, inl, inr, eq-eqb, ne_eqb, length-append}
 use Rattle.std.proofs.lemmas.Bool.{cases_eq}
 use Rattle.std.proofs.lemmas.List.{length-set}
 use Rattle.std.proofs.lemmas.Option.{slice_get_within}
@@ -11,7 +11,7 @@ use Rattle.xs_model.specs.declared.event.Event.TheVariants as events
 use Rattle.xs_model.specs.declared.stage.Stage.{Stage}
 use Rattle.xs_model.specs.declared.stage.Stage.TheVariants.{Unborn, Ready, Turn}
 use Rattle.xs_model.specs.Bound.{most_events}
-use Rattle.xs_model.specs.Due.{how_of}
+use Rattle.xs_model.specs.Due.{how_of, large_count}
 use Rattle.xs_model.specs.Held.{held}
 use Rattle.xs_model.specs.Machine.{machine, may_act, started, IsStep, IsLegalPast}
 use Rattle.xs_model.specs.Note.{last}
@@ -168,9 +168,11 @@ module _ (laws : Laws) (old : Board) (t cpu : ℕ) (rest : List ℕ) (how : How)
         let sum = taken_tally (λ v stage. is_user old.script v && holds_area stage) in
         let alike : one (is_user old.script t && holds_area Ready) ≡ one (is_user old.script t && holds_area (Turn cpu 0)) = refl in
         let same_areas : areas old ≡ areas new = omega (arith, sum, alike) in
+        let same_large : large_count now ≡ large_count (machine_in old).blocks = told_is (λ past. large_count (machine old.script past).blocks ≡ large_count (machine_in old).blocks) (laws.large_stays old.script (past_of old) (start t cpu how signal) start_legal refl) in
+        let given = was.pool.given in
+        let longer : length history ≡ length old.history + 1 = ap length is ∙ length-append old.history (start t cpu how signal ∷ []) in
         record {
           valid = was.valid;
-          built = was.built;
           legal = taken_legal;
           order = told_is (AreInOrder old.script) (was.order, (rest, may.first));
           closed = told_is (λ past. (machine old.script past).committing ≡ None) refl;
@@ -184,9 +186,10 @@ module _ (laws : Laws) (old : Board) (t cpu : ℕ) (rest : List ℕ) (how : How)
           ];
           pool = record {
             rows = was.pool.rows;
-            small = was.pool.small ∙ same_areas;
-            large = was.pool.large;
-            given = was.pool.given;
+            large = was.pool.large ∙ sym same_large;
+            all = was.pool.all ∙ same_areas;
+            capacity = was.pool.capacity;
+            given = omega (arith, given, longer);
           };
           room = subst (λ (n : ℕ). most_events old.script ≤ n) (sym same_room) was.room;
         }

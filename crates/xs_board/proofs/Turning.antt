@@ -1,6 +1,7 @@
 -- The lines of a turn, one after another, up to the event that closes it.
-use Rattle.std.proofs.Common.{◌≡◌, ℕ, zero, suc, ◌+◌, ◌<◌, ◌≤◌, Bool, true, false, not, List, [], ◌∷◌, map, refl, sym, ap, ◌∙◌, subst, arith, inl, inr, eq-eqb}
+use Rattle.std.proofs.Common.{◌≡◌, ℕ, suc, ◌+◌, ◌<◌, Bool, true, false, not, List, [], ◌∷◌, map, refl, sym, ap, ◌∙◌, subst, arith, inl, inr, eq-eqb}
 use Rattle.std.proofs.lemmas.Bool.{and_parts, cases_Bool, cases_eq, ltb-true}
+use Rattle.std.proofs.lemmas.Option.{same_Some}
 use Rattle.std.specs.Prelude.{Option, Some, None, if◌then◌else◌, slice_get, nat_lt}
 use Rattle.xs_base.specs.declared.header.HeaderError.{HeaderError}
 use Rattle.xs_base.specs.Task.{PrivateTask}
@@ -15,26 +16,28 @@ use Rattle.xs_model.specs.declared.stage.Stage.{Stage}
 use Rattle.xs_model.specs.declared.stage.Stage.TheVariants.{Turn}
 use Rattle.xs_model.specs.Script.{IsValid, command_at, is_outer, is_yield}
 use Rattle.xs_model.specs.Laws.{IsInTurn}
-use Rattle.xs_model.specs.Line.{line_at, local_after, frame_cause}
+use Rattle.xs_model.specs.Line.{line_at, local_after, frame_cause, killed, traps}
 use Rattle.xs_model.specs.Note.{Section, Plain, is_section, last, last_after}
 use Rattle.xs_model.specs.State.{BlockState, turn_cpu, stage_of}
-use Rattle.xs_model.specs.Due.{due, violation}
+use Rattle.xs_model.specs.declared.event.Why.{Why}
+use Rattle.xs_model.specs.declared.event.Why.TheVariants.{Permission, Area}
+use Rattle.xs_model.specs.Due.{due, illegal, large_count, trap_event, violation}
 use Rattle.xs_model.specs.Machine.{machine, goes_on, ran_line, ran_in, may_act, open_commit, IsStep, IsLegalPast}
 use Rattle.xs_model.specs.Ready.{ready_list}
 use Rattle.xs_model.specs.Replay.{finish, told}
 use Rattle.xs_board.specs.declared.turn.Entry.{Entry}
 use Rattle.xs_board.specs.declared.turn.Close.{Close}
-use Rattle.xs_board.specs.declared.turn.Close.TheVariants.{Quantum, Yield, Outer, Refused, End}
+use Rattle.xs_board.specs.declared.turn.Close.TheVariants.{Quantum, Yield, Outer, Refused, Trap, End}
 use Rattle.xs_board.specs.Laws.{Laws}
 use Rattle.xs_board.specs.Member.{life_of, member_of}
 use Rattle.xs_board.specs.Starts.{AreInOrder}
-use Rattle.xs_board.specs.Turn.{IsEntry, AreAfter, AreLines, IsOuterLine, IsRefusedReturn, after_line, close_answer, closed_by, entry_event, line_answer, line_in, line_of, task_after, turn_events}
+use Rattle.xs_board.specs.Turn.{IsEntry, AreAfter, AreLines, Answer, IsOuterLine, IsRefusedReturn, IsTrapLine, after_line, close_reply, closed_by, entry_event, line_answer, line_in, line_of, task_after, trap_end, trap_fate, turn_events}
 use Rattle.xs_board.proofs.Events.{onto}
-use Rattle.xs_board.proofs.Tests.{if_false, if_true}
+use Rattle.xs_board.proofs.Tests.{if_true}
 
 -- the past after a turn
-abbrev pub past_closed : ℕ → List Entry → Close → Reply → List Event → List Event
-past_closed t entries close reply past = onto (turn_events t entries close reply) past
+abbrev pub past_closed : ℕ → List Entry → Close → Answer → List Event → List Event
+past_closed t entries close answer past = onto (turn_events t entries close answer) past
 
 -- the past after its entries
 abbrev pub past_ran : ℕ → List Entry → List Event → List Event
@@ -56,10 +59,11 @@ pub record HasGone (script : Script) (past later : List Event) (t : ℕ) : Type 
   pub ready : ready_list script later ≡ ready_list script past
   pub last_is : (u : ℕ) → last script later u ≡ last script past u
   pub order : AreInOrder script past → AreInOrder script later
+  pub large : large_count (machine script later).blocks ≡ large_count (machine script past).blocks
 
 -- no line
 not_gone : (script : Script) (past : List Event) (t : ℕ) → HasGone script past past t
-not_gone script past t = record { others = λ u other. refl; members = λ u. refl; ready = refl; last_is = λ u. refl; order = λ before. before }
+not_gone script past t = record { others = λ u other. refl; members = λ u. refl; ready = refl; last_is = λ u. refl; order = λ before. before; large = refl }
 
 -- more lines
 gone_on : (script : Script) (past mid later : List Event) (t : ℕ) → HasGone script past mid t → HasGone script mid later t → HasGone script past later t
@@ -69,6 +73,7 @@ gone_on script past mid later t first second = record {
   ready = second.ready ∙ first.ready;
   last_is = λ u. second.last_is u ∙ first.last_is u;
   order = λ before. second.order (first.order before);
+  large = second.large ∙ first.large;
 }
 
 -- no line of a replay
@@ -96,12 +101,22 @@ pub record IsOuterEnd (script : Script) (t line : ℕ) (lines : Block) (reply : 
   pub event_is : event ≡ events.Outer t line reply
   pub task_is : after ≡ before
 
-abbrev pub Closes : Script → ℕ → ℕ → Block → Reply → Event → PrivateTask → PrivateTask → Close → Type 0
-Closes script t ran lines reply event before after Quantum = IsLastLine script t ran event before after
-Closes script t ran lines reply event before after Yield = IsLastLine script t ran event before after
-Closes script t ran lines reply event before after (Outer line) = IsOuterEnd script t line lines reply event before after
-Closes script t ran lines reply event before after (Refused error) = (event ≡ events.Kill t violation (frame_cause error)) × (after ≡ before)
-Closes script t ran lines reply event before after End = (event ≡ events.End t) × (after ≡ before)
+-- It is that of a line that traps.
+pub record IsTrapEnd (script : Script) (t : ℕ) (lines : Block) (fate : Option Why) (event : Event) (before after : PrivateTask) : Type 0 where
+  pub order : Order
+  pub at : line_at lines before ≡ Some order
+  pub trap : traps before order.command ≡ true
+  pub event_is : event ≡ trap_end t fate
+  pub task_is : after ≡ before
+  pub stays : (why : Why) → fate ≡ Some why → killed why before ≡ before
+
+abbrev pub Closes : Script → ℕ → ℕ → Block → Answer → Event → PrivateTask → PrivateTask → Close → Type 0
+Closes script t ran lines answer event before after Quantum = IsLastLine script t ran event before after
+Closes script t ran lines answer event before after Yield = IsLastLine script t ran event before after
+Closes script t ran lines answer event before after (Outer line) = IsOuterEnd script t line lines answer.reply event before after
+Closes script t ran lines answer event before after (Refused error) = (event ≡ events.Kill t violation (frame_cause error)) × (after ≡ before)
+Closes script t ran lines answer event before after Trap = IsTrapEnd script t lines answer.fate event before after
+Closes script t ran lines answer event before after End = (event ≡ events.End t) × (after ≡ before)
 
 -- what holds of a close that no line of the block itself makes
 abbrev pub IfOpen : Close → Type 0 → Type 0
@@ -109,10 +124,11 @@ IfOpen Quantum Holds = Unit {0}
 IfOpen Yield Holds = Unit {0}
 IfOpen (Outer line) Holds = Holds
 IfOpen (Refused error) Holds = Holds
+IfOpen Trap Holds = Holds
 IfOpen End Holds = Holds
 
 -- The lines of a turn in which so many ran led to its closing event, by which the block has this task; the replay tells them.
-pub record HasCome (script : Script) (past : List Event) (t cpu start : ℕ) (entries : List Entry) (close : Close) (reply : Reply) (task : PrivateTask) (later : List Event) : Type 0 where
+pub record HasCome (script : Script) (past : List Event) (t cpu start : ℕ) (entries : List Entry) (close : Close) (answer : Answer) (task : PrivateTask) (later : List Event) : Type 0 where
   pub mid : List Event
   pub block : BlockState
   pub ran : ℕ
@@ -122,7 +138,7 @@ pub record HasCome (script : Script) (past : List Event) (t cpu start : ℕ) (en
   pub gone : HasGone script past mid t
   pub step : IsStep (machine script mid) event
   pub later_is : later ≡ event ∷ mid
-  pub closes : Closes script t ran lines reply event block.task task close
+  pub closes : Closes script t ran lines answer event block.task task close
   pub mid_is : IfOpen close (mid ≡ past_ran t entries past)
   pub steps : ℕ
   pub ran_is : ran ≡ start + steps
@@ -184,6 +200,7 @@ module _ (laws : Laws) (script : Script) (valid : IsValid script) (t cpu : ℕ) 
         ready = laws.local_keeps script past t entry.line cpu ran entry.reply block lines order.command turning.turn line_found on;
         last_is = line_last;
         order = λ before. (before, tt);
+        large = laws.large_stays script past line_event (turning.legal, line_step) refl;
       }
         where
           line_others : (u : ℕ) → (u ≡ t → ⊥) → slice_get (machine script (line_event ∷ past)).blocks u ≡ slice_get (machine script past).blocks u
@@ -198,22 +215,34 @@ module _ (laws : Laws) (script : Script) (valid : IsValid script) (t cpu : ℕ) 
       }
 
     -- it was the last line
-    over_come : goes_on script order.command ran ≡ false → (reply : Reply) → HasCome script past t cpu ran (entry ∷ []) (closed_by order.command) reply (local_after block.task order.command) (past_closed t (entry ∷ []) (closed_by order.command) reply past)
-    over_come off reply = by_yield (is_yield order.command)
+    over_come : goes_on script order.command ran ≡ false → (answer : Answer) → HasCome script past t cpu ran (entry ∷ []) (closed_by order.command) answer (local_after block.task order.command) (past_closed t (entry ∷ []) (closed_by order.command) answer past)
+    over_come off answer = by_yield (is_yield order.command)
       where
         last_line : IsLastLine script t ran line_event block.task (local_after block.task order.command)
         last_line = record { line = entry.line; reply = entry.reply; command = order.command; event_is = refl; found = line_found; off = off; task_is = refl }
 
-        by_yield : (b : Bool) → HasCome script past t cpu ran (entry ∷ []) (if b then Yield else Quantum) reply (local_after block.task order.command) (past_closed t (entry ∷ []) (if b then Yield else Quantum) reply past)
+        by_yield : (b : Bool) → HasCome script past t cpu ran (entry ∷ []) (if b then Yield else Quantum) answer (local_after block.task order.command) (past_closed t (entry ∷ []) (if b then Yield else Quantum) answer past)
         by_yield true = record { mid = past; block = block; ran = ran; lines = lines; event = line_event; turning = turning; gone = not_gone script past t; step = line_step; later_is = refl; closes = last_line; mid_is = tt; steps = 0; ran_is = omega arith; follow = told_so_far script t past }
         by_yield false = record { mid = past; block = block; ran = ran; lines = lines; event = line_event; turning = turning; gone = not_gone script past t; step = line_step; later_is = refl; closes = last_line; mid_is = tt; steps = 0; ran_is = omega arith; follow = told_so_far script t past }
 
   -- ---- the closes that have an event of their own
 
+  -- the event of a line that traps, by its cause
+  trap_told : (t : ℕ) (permitted free : Bool) → (if not permitted then events.Kill t illegal Permission else if free then events.Grow t else events.Kill t violation Area) ≡ trap_end t (if not permitted then Some Permission else if free then None else Some Area)
+  trap_told t true true = refl
+  trap_told t true false = refl
+  trap_told t false free = refl
+
+  -- a task that is killed at such a line is left as it is
+  trap_kills : (task : PrivateTask) (permitted free : Bool) (why : Why) → (if not permitted then Some Permission else if free then None else Some Area) ≡ Some why → killed why task ≡ task
+  trap_kills task true true why is = absurd (cc is)
+  trap_kills task true false why is = ap (λ (w : Why). killed w task) (sym (same_Some Area why is))
+  trap_kills task false free why is = ap (λ (w : Why). killed w task) (sym (same_Some Permission why is))
+
   module _ (past : List Event) (ran : ℕ) (block : BlockState) (lines : Block) (turning : IsTurning script t cpu past ran block lines) where
-    outer_come : (line : ℕ) (order : Order) → IsOuterLine script t block.task line order → (reply : Reply) → reply ≡ close_answer script (machine script past).blocks t (Outer line)
-        → HasCome script past t cpu ran [] (Outer line) reply block.task (past_closed t [] (Outer line) reply past)
-    outer_come line order is reply reply_is =
+    outer_come : (line : ℕ) (order : Order) → IsOuterLine script t block.task line order → (answer : Answer) → answer.reply ≡ close_reply script (machine script past).blocks t (Outer line)
+        → HasCome script past t cpu ran [] (Outer line) answer block.task (past_closed t [] (Outer line) answer past)
+    outer_come line order is answer reply_is =
         let at : line_at lines block.task ≡ Some order = sym (ap (λ (l : Option Block). line_in l block.task) turning.turn.lines_are) ∙ is.at in
         let found : command_at script t line ≡ Some order.command = sym (ap (command_at script t) is.number) ∙ laws.found script t lines block.task order valid turning.turn.lines_are at in
         let step = laws.outer_is script past t cpu ran block lines order turning.acts turning.turn at is.outer in
@@ -222,10 +251,10 @@ module _ (laws : Laws) (script : Script) (valid : IsValid script) (t cpu : ℕ) 
           block = block;
           ran = ran;
           lines = lines;
-          event = events.Outer t line reply;
+          event = events.Outer t line answer.reply;
           turning = turning;
           gone = not_gone script past t;
-          step = subst (λ (n : ℕ). IsStep (machine script past) (events.Outer t n reply)) is.number
+          step = subst (λ (n : ℕ). IsStep (machine script past) (events.Outer t n answer.reply)) is.number
               (subst (λ (r : Reply). IsStep (machine script past) (events.Outer t order.number r)) (sym (reply_is ∙ ap (line_answer script (machine script past).blocks t) found)) step);
           later_is = refl;
           closes = record { order = order; at = at; outer = is.outer; found = found; event_is = refl; task_is = refl };
@@ -235,8 +264,8 @@ module _ (laws : Laws) (script : Script) (valid : IsValid script) (t cpu : ℕ) 
           follow = told_so_far script t past;
         }
 
-    refused_come : (error : HeaderError) (order : Order) → IsRefusedReturn script t block.task error order → (reply : Reply) → HasCome script past t cpu ran [] (Refused error) reply block.task (past_closed t [] (Refused error) reply past)
-    refused_come error order is reply = record {
+    refused_come : (error : HeaderError) (order : Order) → IsRefusedReturn script t block.task error order → (answer : Answer) → HasCome script past t cpu ran [] (Refused error) answer block.task (past_closed t [] (Refused error) answer past)
+    refused_come error order is answer = record {
       mid = past;
       block = block;
       ran = ran;
@@ -253,8 +282,33 @@ module _ (laws : Laws) (script : Script) (valid : IsValid script) (t cpu : ℕ) 
       follow = told_so_far script t past;
     }
 
-    end_come : line_of script t block.task ≡ None → block.task.handling ≡ false → (reply : Reply) → HasCome script past t cpu ran [] End reply block.task (past_closed t [] End reply past)
-    end_come none outside reply = record {
+    trap_come : (order : Order) → IsTrapLine script t block.task order → (answer : Answer) → answer.fate ≡ trap_fate script (machine script past).blocks block.task → HasCome script past t cpu ran [] Trap answer block.task (past_closed t [] Trap answer past)
+    trap_come order is answer fate_is =
+        let m = machine script past in
+        let at : line_at lines block.task ≡ Some order = sym (ap (λ (l : Option Block). line_in l block.task) turning.turn.lines_are) ∙ is.at in
+        let told : trap_event m t block.task ≡ trap_end t answer.fate =
+        trap_told t block.task.permitted (nat_lt (large_count m.blocks) m.script.large)
+        ∙ ap (λ (s : Script). trap_end t (trap_fate s m.blocks block.task)) (laws.machine script past).0
+        ∙ ap (trap_end t) (sym fate_is) in
+        record {
+          mid = past;
+          block = block;
+          ran = ran;
+          lines = lines;
+          event = trap_end t answer.fate;
+          turning = turning;
+          gone = not_gone script past t;
+          step = subst (IsStep m) told (laws.trap_is script past t cpu ran block lines order turning.acts turning.turn at is.trap);
+          later_is = refl;
+          closes = record { order = order; at = at; trap = is.trap; event_is = refl; task_is = refl; stays = λ why cause. trap_kills block.task block.task.permitted (nat_lt (large_count m.blocks) script.large) why (sym fate_is ∙ cause) };
+          mid_is = refl;
+          steps = 0;
+          ran_is = omega arith;
+          follow = told_so_far script t past;
+        }
+
+    end_come : line_of script t block.task ≡ None → block.task.handling ≡ false → (answer : Answer) → HasCome script past t cpu ran [] End answer block.task (past_closed t [] End answer past)
+    end_come none outside answer = record {
       mid = past;
       block = block;
       ran = ran;
@@ -284,10 +338,10 @@ module _ (laws : Laws) (script : Script) (valid : IsValid script) (t cpu : ℕ) 
   stops false command entries close Lines off after = after
 
   -- a line more before the rest
-  more_come : (past : List Event) (ran : ℕ) (entry : Entry) (entries : List Entry) (close : Close) (reply : Reply) (task : PrivateTask) → HasGone script past (entry_event t entry ∷ past) t → due (machine script past) t ≡ Some (entry_event t entry)
-      → HasCome script (entry_event t entry ∷ past) t cpu (ran + 1) entries close reply task (past_closed t entries close reply (entry_event t entry ∷ past))
-      → HasCome script past t cpu ran (entry ∷ entries) close reply task (past_closed t (entry ∷ entries) close reply past)
-  more_come past ran entry entries close reply task first is_due rest = record {
+  more_come : (past : List Event) (ran : ℕ) (entry : Entry) (entries : List Entry) (close : Close) (answer : Answer) (task : PrivateTask) → HasGone script past (entry_event t entry ∷ past) t → due (machine script past) t ≡ Some (entry_event t entry)
+      → HasCome script (entry_event t entry ∷ past) t cpu (ran + 1) entries close answer task (past_closed t entries close answer (entry_event t entry ∷ past))
+      → HasCome script past t cpu ran (entry ∷ entries) close answer task (past_closed t (entry ∷ entries) close answer past)
+  more_come past ran entry entries close answer task first is_due rest = record {
     mid = rest.mid;
     block = rest.block;
     ran = rest.ran;
@@ -307,27 +361,29 @@ module _ (laws : Laws) (script : Script) (valid : IsValid script) (t cpu : ℕ) 
   }
 
   -- The lines of a turn lead to its close.
-  pub turn_comes : (entries : List Entry) (close : Close) (reply : Reply) (past : List Event) (ran : ℕ) (block : BlockState) (lines : Block) → IsTurning script t cpu past ran block lines → AreLines script t block.task ran entries close
-      → reply ≡ close_answer script (machine script (past_ran t entries past)).blocks t close
-      → HasCome script past t cpu ran entries close reply (task_after script t block.task entries) (past_closed t entries close reply past)
-  turn_comes [] Quantum reply past ran block lines turning are reply_is = absurd are
-  turn_comes [] Yield reply past ran block lines turning are reply_is = absurd are
-  turn_comes [] (Outer line) reply past ran block lines turning are reply_is = outer_come past ran block lines turning line are.0 are.1 reply reply_is
-  turn_comes [] (Refused error) reply past ran block lines turning are reply_is = refused_come past ran block lines turning error are.0 are.1 reply
-  turn_comes [] End reply past ran block lines turning are reply_is = end_come past ran block lines turning are.0 are.1 reply
-  turn_comes (entry ∷ entries) close reply past ran block lines turning are reply_is =
+  pub turn_comes : (entries : List Entry) (close : Close) (answer : Answer) (past : List Event) (ran : ℕ) (block : BlockState) (lines : Block) → IsTurning script t cpu past ran block lines → AreLines script t block.task ran entries close
+      → answer.reply ≡ close_reply script (machine script (past_ran t entries past)).blocks t close → answer.fate ≡ trap_fate script (machine script (past_ran t entries past)).blocks (task_after script t block.task entries)
+      → HasCome script past t cpu ran entries close answer (task_after script t block.task entries) (past_closed t entries close answer past)
+  turn_comes [] Quantum answer past ran block lines turning are reply_is fate_is = absurd are
+  turn_comes [] Yield answer past ran block lines turning are reply_is fate_is = absurd are
+  turn_comes [] (Outer line) answer past ran block lines turning are reply_is fate_is = outer_come past ran block lines turning line are.0 are.1 answer reply_is
+  turn_comes [] (Refused error) answer past ran block lines turning are reply_is fate_is = refused_come past ran block lines turning error are.0 are.1 answer
+  turn_comes [] Trap answer past ran block lines turning are reply_is fate_is = trap_come past ran block lines turning are.0 are.1 answer fate_is
+  turn_comes [] End answer past ran block lines turning are reply_is fate_is = end_come past ran block lines turning are.0 are.1 answer
+  turn_comes (entry ∷ entries) close answer past ran block lines turning are reply_is fate_is =
       let order = are.0 in
       let is = are.1 in
       let now = local_after block.task order.command in
       let Rest = AreLines script t now (ran + 1) entries close in
       let same : now ≡ after_line block.task (line_of script t block.task) = sym (ap (after_line block.task) is.at) in
-      subst (λ (x : PrivateTask). HasCome script past t cpu ran (entry ∷ entries) close reply (task_after script t x entries) (past_closed t (entry ∷ entries) close reply past)) same
+      subst (λ (x : PrivateTask). HasCome script past t cpu ran (entry ∷ entries) close answer (task_after script t x entries) (past_closed t (entry ∷ entries) close answer past)) same
       (elim (cases_Bool (goes_on script order.command ran)) [
-        | inl on ↦ more_come past ran entry entries close reply (task_after script t now entries) (on_gone past ran block lines turning entry order is on) (line_step past ran block lines turning entry order is).is_due
-            (turn_comes entries close reply (entry_event t entry ∷ past) (ran + 1) (went_on past ran block lines turning entry order is) lines (on_turning past ran block lines turning entry order is on) (goes (goes_on script order.command ran) order.command entries close Rest on are.2) reply_is)
+        | inl on ↦ more_come past ran entry entries close answer (task_after script t now entries) (on_gone past ran block lines turning entry order is on) (line_step past ran block lines turning entry order is).is_due
+            (turn_comes entries close answer (entry_event t entry ∷ past) (ran + 1) (went_on past ran block lines turning entry order is) lines (on_turning past ran block lines turning entry order is on) (goes (goes_on script order.command ran) order.command entries close Rest on are.2) reply_is
+            (fate_is ∙ ap (λ (x : PrivateTask). trap_fate script (machine script (past_ran t (entry ∷ entries) past)).blocks (task_after script t x entries)) (sym same)))
         | inr off ↦
             let none = stops (goes_on script order.command ran) order.command entries close Rest off are.2 in
-            subst (λ (es : List Entry). HasCome script past t cpu ran (entry ∷ es) close reply (task_after script t now es) (past_closed t (entry ∷ es) close reply past)) (sym none.0)
-            (subst (λ (c : Close). HasCome script past t cpu ran (entry ∷ []) c reply now (past_closed t (entry ∷ []) c reply past)) (sym none.1)
-            (over_come past ran block lines turning entry order is off reply))
+            subst (λ (es : List Entry). HasCome script past t cpu ran (entry ∷ es) close answer (task_after script t now es) (past_closed t (entry ∷ es) close answer past)) (sym none.0)
+            (subst (λ (c : Close). HasCome script past t cpu ran (entry ∷ []) c answer now (past_closed t (entry ∷ []) c answer past)) (sym none.1)
+            (over_come past ran block lines turning entry order is off answer))
       ])

@@ -1,10 +1,9 @@
 -- The parent that waits is ready, as the members have it.
-use Rattle.std.proofs.Common.{◌≡◌, ℕ, zero, suc, ◌==◌, ◌<◌, Bool, true, false, ◌&&◌, List, [], ◌∷◌, length, refl, sym, ap, ◌∙◌, subst, arith, inl, inr, eq-eqb, ne_eqb}
-use Rattle.std.proofs.lemmas.Bool.{cases_Bool, cases_eq, eqb-true}
+use Rattle.std.proofs.Common.{◌≡◌, ℕ, zero, suc, ◌==◌, ◌<◌, Bool, true, false, ◌&&◌, List, [], ◌∷◌, length, refl, sym, ap, ◌∙◌, subst, arith, inl, inr, eq-eqb}
+use Rattle.std.proofs.lemmas.Bool.{cases_eq, eqb-true}
 use Rattle.std.proofs.lemmas.List.{get_or-set_other, get_or-set_same, length-set}
 use Rattle.std.proofs.lemmas.Option.{same_Some, slice_get_within}
 use Rattle.std.specs.Prelude.{Option, Some, None, if◌then◌else◌, slice_get, slice_set}
-use Rattle.xs_base.specs.declared.words.Signo.{Signo}
 use Rattle.xs_model.specs.declared.stage.Stage.{Stage}
 use Rattle.xs_model.specs.declared.stage.Stage.TheVariants.{Unborn, Ready, Turn, Stopped, Waiting, Ended}
 use Rattle.xs_model.specs.Effects.{stopped_children}
@@ -12,9 +11,9 @@ use Rattle.xs_model.specs.Outer.{freed, let_go, wake, woken}
 use Rattle.xs_model.specs.State.{BlockState, is_parent, is_stopped, parent_of, stage_at, stage_of}
 use Rattle.xs_board.specs.declared.member.Life.{Life}
 use Rattle.xs_board.specs.declared.member.Life.TheVariants as lives
-use Rattle.xs_board.specs.Member.{Member, AreMembers, absent, ended, going, is_stopped_life, is_stopped_child, life_of, member_at, member_of, released, waiter_in, with_going, with_life}
-use Rattle.xs_board.specs.Putting.{AreReleased, children_in, members_ended, members_woken}
-use Rattle.xs_board.proofs.Mirror.{children_same, stopped_at, stopped_life, waiter_only, waiter_waits}
+use Rattle.xs_board.specs.Member.{Member, AreMembers, absent, ended, is_stopped_life, is_stopped_child, life_of, member_at, member_of, released, waiter_in, with_going, with_life}
+use Rattle.xs_board.specs.Putting.{AreReleased, children_in, members_ended}
+use Rattle.xs_board.proofs.Mirror.{children_same, stopped_life, waiter_only, waiter_waits}
 
 -- ---- places of the list
 

@@ -5,19 +5,18 @@ use Rattle.xs_base.specs.declared.words.Signo.{Signo}
 use Rattle.xs_base.specs.Frame.{delivered}
 use Rattle.xs_base.specs.Task.{PrivateTask, parked}
 use Rattle.xs_model.specs.declared.event.Event.{Event}
-use Rattle.xs_model.specs.declared.event.Reply.{Reply}
 use Rattle.xs_model.specs.declared.script.Script.{Script}
 use Rattle.xs_model.specs.declared.stage.Stage.{Stage}
 use Rattle.xs_model.specs.declared.stage.Stage.TheVariants.{Unborn, Ready, Turn, Stopped, Waiting, Ended}
 use Rattle.xs_model.specs.Bound.{most_events}
-use Rattle.xs_model.specs.Due.{signal_of}
+use Rattle.xs_model.specs.Due.{large_count, signal_of}
 use Rattle.xs_model.specs.History.{IsLegal, machine_of}
 use Rattle.xs_model.specs.Laws.{KeepsBlock}
 use Rattle.xs_model.specs.Machine.{machine}
 use Rattle.xs_model.specs.Note.{last}
 use Rattle.xs_model.specs.Ready.{ready_list}
 use Rattle.xs_model.specs.Replay.{runner}
-use Rattle.xs_model.specs.Script.{IsValid, IsBuilt, is_user}
+use Rattle.xs_model.specs.Script.{IsValid, is_user}
 use Rattle.xs_model.specs.State.{BlockState, Machine, stage_at, task_at, lives}
 use Rattle.xs_pool.specs.Pool.{Pool}
 use Rattle.xs_task.specs.declared.task.Task.{Task}
@@ -26,7 +25,7 @@ use Rattle.xs_board.specs.declared.turn.Entry.{Entry}
 use Rattle.xs_board.specs.Home.{IsClear, IsHome, is_resting}
 use Rattle.xs_board.specs.Member.{Member, AreMembers}
 use Rattle.xs_board.specs.Starts.{AreInOrder}
-use Rattle.xs_board.specs.Turn.{past_with, task_after, task_handed, task_closed, close_answer}
+use Rattle.xs_board.specs.Turn.{Answer, past_with, task_after, task_handed, task_closed, close_answer}
 
 -- A board: its script, the events so far, the task of each block that is home, the pool of areas, and how many events it has
 -- room for in all.
@@ -64,9 +63,9 @@ blocks_with board t entries = (machine board.script (past_with t entries (past_o
 abbrev pub private_with : Board → ℕ → List Entry → PrivateTask
 private_with board t entries = task_after board.script t (private_in board t) entries
 
--- what the outer line answers with which block t closes its turn after these lines
-abbrev pub answer_in : Board → ℕ → List Entry → Close → Reply
-answer_in board t entries close = close_answer board.script (blocks_with board t entries) t close
+-- what the board answers to the close of block t after these lines
+abbrev pub answer_in : Board → ℕ → List Entry → Close → Answer
+answer_in board t entries close = close_answer board.script (blocks_with board t entries) t close (private_with board t entries)
 
 -- the same task when it was switched out there for this close, and when its turn is closed
 abbrev pub private_after : Board → ℕ → List Entry → Close → PrivateTask
@@ -142,17 +141,18 @@ holds_area Ended = false
 abbrev pub areas : Board → ℕ
 areas board = tally (λ t stage. is_user board.script t && holds_area stage) 0 (machine_in board).blocks
 
--- Those are the Small areas of the pool that are out, and no Large one is.
+-- These are the areas of the pool that are out, of which those of the living blocks with room for TILEDATA are Large ones. The pool has
+-- as many Large ones in all as the script says.
 pub record IsPoolOf (board : Board) : Type 0 where
   pub rows : board.pool.rows ≡ board.script.layout
-  pub small : board.pool.small.out ≡ areas board
-  pub large : board.pool.large.out ≡ 0
-  pub given : board.pool.given ≤ length board.script.blocks
+  pub large : board.pool.large.out ≡ large_count (machine_in board).blocks
+  pub all : board.pool.small.out + board.pool.large.out ≡ areas board
+  pub capacity : board.pool.large.capacity ≡ board.script.large
+  pub given : board.pool.given ≤ length board.script.blocks + length board.history
 
 -- A board between calls: its history is legal, and each turn of it was that of the first ready block.
 pub record IsBoard (board : Board) : Type 0 where
   pub valid : IsValid board.script
-  pub built : IsBuilt board.script
   pub legal : IsLegal board.script board.history
   pub order : AreInOrder board.script (past_of board)
   pub closed : (machine_in board).committing ≡ None

@@ -1,9 +1,8 @@
 -- What an outer line does, by the blocks' numbers, as the board sees it: to the members, to whom it makes ready, to the tasks that
 -- are home, and what it answers. The rules are those of the private machine.
-use Rattle.std.specs.Prelude.{◌≡◌, ℕ, ◌+◌, ◌<◌, ◌≤◌, ◌^◌, Bool, true, false, ◌&&◌, List, [], ◌∷◌, ◌++◌, length, take, slice_index_or, slice_set, Option, Some, None, if◌then◌else◌}
+use Rattle.std.specs.Prelude.{◌≡◌, ℕ, ◌+◌, ◌≤◌, Bool, true, false, ◌&&◌, List, [], ◌∷◌, length, take, slice_index_or, slice_set, Option, Some, None, if◌then◌else◌}
 use Rattle.xs_base.specs.declared.component.Row.{Row}
 use Rattle.xs_base.specs.declared.words.Set.{Set}
-use Rattle.xs_base.specs.declared.words.Signo.{Signo}
 use Rattle.xs_base.specs.Bytes.{splice}
 use Rattle.xs_base.specs.RegisterSet.{set_errno, set_reply, set_result}
 use Rattle.xs_base.specs.Task.{PrivateTask, buffer_length}

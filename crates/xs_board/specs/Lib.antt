@@ -8,6 +8,7 @@ pub mod Member
 pub mod Birth
 pub mod Deed
 pub mod Putting
+pub mod Trapping
 pub mod Opening
 pub mod Board
 pub mod Taken

@@ -1,5 +1,5 @@
 -- What a board has before its first event.
-use Rattle.std.specs.Prelude.{◌≡◌, ℕ, ◌+◌, ◌<◌, Bool, true, false, List, [], ◌∷◌, ◌++◌, slice_get, slice_index_or, Option, Some, None, if◌then◌else◌}
+use Rattle.std.specs.Prelude.{◌≡◌, ℕ, ◌+◌, ◌<◌, true, List, [], ◌∷◌, ◌++◌, slice_get, slice_index_or, Option, Some, None, if◌then◌else◌}
 use Rattle.xs_base.specs.declared.class.Class.TheVariants as classes
 use Rattle.xs_base.specs.declared.component.Row.{Row}
 use Rattle.xs_base.specs.Task.{root_task}

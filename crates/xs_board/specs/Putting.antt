@@ -1,26 +1,34 @@
 -- What the board keeps after a task came back, by the close of its turn.
-use Rattle.std.specs.Prelude.{◌≡◌, ℕ, ◌+◌, ◌-◌, ◌<◌, Bool, true, false, not, ◌&&◌, List, [], ◌∷◌, ◌++◌, length, slice_set, Option, Some, None, if◌then◌else◌}
+use Rattle.std.specs.Prelude.{◌≡◌, ℕ, ◌+◌, ◌-◌, Bool, true, false, not, ◌&&◌, List, [], ◌∷◌, ◌++◌, slice_set, Option, Some, None, if◌then◌else◌}
 use Rattle.xs_area.specs.declared.area.Lease.{Lease}
+use Rattle.xs_model.specs.declared.event.Why.{Why}
 use Rattle.xs_pool.specs.Pool.{Pool, returned}
 use Rattle.xs_task.specs.declared.task.Task.{Task}
 use Rattle.xs_board.specs.declared.member.Life.{Life}
 use Rattle.xs_board.specs.declared.turn.Close.{Close}
-use Rattle.xs_board.specs.declared.turn.Close.TheVariants.{Quantum, Yield, Outer, Refused, End}
+use Rattle.xs_board.specs.declared.turn.Close.TheVariants.{Quantum, Yield, Outer, Refused, Trap, End}
 use Rattle.xs_board.specs.Member.{Member, child_if, ended, is_going, is_waiting, listed, member_at, released, waiter_in, with_going}
 
--- The task ends with its turn.
-abbrev pub ends : Close → Bool
-ends Quantum = false
-ends Yield = false
-ends (Outer line) = false
-ends (Refused error) = true
-ends End = true
+-- there is a cause to kill it
+abbrev pub kills : Option Why → Bool
+kills None = false
+kills (Some why) = true
+
+-- The task ends with its turn: a line that traps may kill it.
+abbrev pub ends : Close → Option Why → Bool
+ends Quantum fate = false
+ends Yield fate = false
+ends (Outer line) fate = false
+ends (Refused error) fate = true
+ends Trap fate = kills fate
+ends End fate = true
 
 abbrev pub is_outer : Close → Bool
 is_outer Quantum = false
 is_outer Yield = false
 is_outer (Outer line) = true
 is_outer (Refused error) = false
+is_outer Trap = false
 is_outer End = false
 
 -- what the line at the task's place does, where that line closes the turn
@@ -29,6 +37,7 @@ at_outer Quantum deed = None
 at_outer Yield deed = None
 at_outer (Outer line) deed = deed
 at_outer (Refused error) deed = None
+at_outer Trap deed = None
 at_outer End deed = None
 
 -- ---- the task

@@ -1,11 +1,15 @@
 -- A turn as a worker brings it back: the lines that ran and how it came to its end. The rules are those of the private machine.
-use Rattle.std.specs.Prelude.{◌≡◌, ℕ, ◌+◌, Bool, true, false, List, [], ◌∷◌, ◌++◌, map, reverse, slice_get, Option, Some, None, if◌then◌else◌}
+use Rattle.std.specs.Prelude.{◌≡◌, ℕ, ◌+◌, Bool, true, false, not, nat_lt, List, [], ◌∷◌, ◌++◌, map, reverse, slice_get, Option, Some, None, if◌then◌else◌}
 use Rattle.xs_base.specs.declared.header.HeaderError.{HeaderError}
+use Rattle.xs_base.specs.declared.words.Signo.{Signo}
 use Rattle.xs_base.specs.Frame.{refused_file}
+use Rattle.xs_base.specs.Tile.{grown}
 use Rattle.xs_base.specs.Task.{PrivateTask}
 use Rattle.xs_model.specs.declared.event.Event.{Event}
 use Rattle.xs_model.specs.declared.event.Event.TheVariants.{Local}
 use Rattle.xs_model.specs.declared.event.Event.TheVariants as events
+use Rattle.xs_model.specs.declared.event.Why.{Why}
+use Rattle.xs_model.specs.declared.event.Why.TheVariants.{Permission, Area}
 use Rattle.xs_model.specs.declared.event.Reply.{Reply}
 use Rattle.xs_model.specs.declared.event.Reply.TheVariants as replies
 use Rattle.xs_model.specs.declared.script.Block.{Block}
@@ -19,28 +23,46 @@ use Rattle.xs_model.specs.Script.{block_named, command_at, command_of, is_outer,
 use Rattle.xs_model.specs.Line.{line_at, local_reply, local_after, traps, refusal, frame_cause}
 use Rattle.xs_model.specs.Note.{is_count}
 use Rattle.xs_model.specs.Outer.{outer_reply, with_registers, stage_left, task_left}
-use Rattle.xs_model.specs.Due.{violation}
+use Rattle.xs_model.specs.Due.{illegal, violation, large_count}
 use Rattle.xs_model.specs.Machine.{goes_on}
 use Rattle.xs_model.specs.State.{BlockState}
 use Rattle.xs_board.specs.declared.turn.Entry.{Entry}
 use Rattle.xs_board.specs.declared.turn.Close.{Close}
-use Rattle.xs_board.specs.declared.turn.Close.TheVariants.{Quantum, Yield, Outer, Refused, End}
+use Rattle.xs_board.specs.declared.turn.Close.TheVariants.{Quantum, Yield, Outer, Refused, Trap, End}
 
 -- ---- the events of a turn after its Start
 
 abbrev pub entry_event : ℕ → Entry → Event
 entry_event t entry = Local t entry.line entry.reply
 
--- A close may have an event of its own: that of an outer line with its reply, the kill by a refused return, or the end.
-abbrev pub close_events : ℕ → Close → Reply → List Event
-close_events t Quantum reply = []
-close_events t Yield reply = []
-close_events t (Outer line) reply = events.Outer t line reply ∷ []
-close_events t (Refused error) reply = events.Kill t violation (frame_cause error) ∷ []
-close_events t End reply = events.End t ∷ []
+-- What the board answers to a close: what the outer line replies, and where a line traps, why that kills the task. Where it doesn't
+-- kill it, the task grows.
+pub record Answer : Type 0 where
+  pub reply : Reply
+  pub fate : Option Why
 
-abbrev pub turn_events : ℕ → List Entry → Close → Reply → List Event
-turn_events t entries close reply = map (entry_event t) entries ++ close_events t close reply
+-- SIGILL where the task may not use tiles, and SIGSEGV where no area is free (Linux 6.6, arch/x86/kernel/fpu/xstate.c,
+-- __xfd_enable_feature, and arch/x86/kernel/traps.c, handle_xfd_event)
+abbrev pub trap_signal : Why → Signo
+trap_signal Permission = illegal
+trap_signal other = violation
+
+abbrev pub trap_end : ℕ → Option Why → Event
+trap_end t None = events.Grow t
+trap_end t (Some why) = events.Kill t (trap_signal why) why
+
+-- A close may have an event of its own: that of an outer line with its reply, the kill by a refused return, a Grow or a kill by a
+-- line that traps, or the end.
+abbrev pub close_events : ℕ → Close → Answer → List Event
+close_events t Quantum answer = []
+close_events t Yield answer = []
+close_events t (Outer line) answer = events.Outer t line answer.reply ∷ []
+close_events t (Refused error) answer = events.Kill t violation (frame_cause error) ∷ []
+close_events t Trap answer = trap_end t answer.fate ∷ []
+close_events t End answer = events.End t ∷ []
+
+abbrev pub turn_events : ℕ → List Entry → Close → Answer → List Event
+turn_events t entries close answer = map (entry_event t) entries ++ close_events t close answer
 
 -- the past after the lines of these entries, the latest event first
 abbrev pub past_with : ℕ → List Entry → List Event → List Event
@@ -54,6 +76,7 @@ close_command script t Quantum = None
 close_command script t Yield = None
 close_command script t (Outer line) = command_at script t line
 close_command script t (Refused error) = None
+close_command script t Trap = None
 close_command script t End = None
 
 -- the stage in which an outer line with this reply leaves its block
@@ -61,13 +84,18 @@ abbrev pub line_stage : Script → Option Command → Reply → Stage
 line_stage script None reply = Ready
 line_stage script (Some command) reply = stage_left script command reply
 
--- the stage in which a turn leaves its block, where the outer line with which it closes has this reply
-abbrev pub stage_closed : Script → ℕ → Close → Reply → Stage
-stage_closed script t Quantum reply = Ready
-stage_closed script t Yield reply = Ready
-stage_closed script t (Outer line) reply = line_stage script (command_at script t line) reply
-stage_closed script t (Refused error) reply = Ended
-stage_closed script t End reply = Ended
+abbrev pub trap_stage : Option Why → Stage
+trap_stage None = Ready
+trap_stage (Some why) = Ended
+
+-- the stage in which a turn leaves its block, where the board answers this
+abbrev pub stage_closed : Script → ℕ → Close → Answer → Stage
+stage_closed script t Quantum answer = Ready
+stage_closed script t Yield answer = Ready
+stage_closed script t (Outer line) answer = line_stage script (command_at script t line) answer.reply
+stage_closed script t (Refused error) answer = Ended
+stage_closed script t Trap answer = trap_stage answer.fate
+stage_closed script t End answer = Ended
 
 -- the task that its processor hands back at the close: a refused return left it no registers
 abbrev pub task_handed : Close → PrivateTask → PrivateTask
@@ -75,6 +103,7 @@ task_handed Quantum task = task
 task_handed Yield task = task
 task_handed (Outer line) task = task
 task_handed (Refused error) task = record task { file = refused_file task }
+task_handed Trap task = task
 task_handed End task = task
 
 -- the task with what its outer line put into its buffer
@@ -87,22 +116,35 @@ abbrev pub line_closed : Script → List BlockState → Option Command → Reply
 line_closed script blocks None reply task = task
 line_closed script blocks (Some command) reply task = task_left command reply (filled_by script blocks command reply task)
 
+abbrev pub trap_closed : Option Why → PrivateTask → PrivateTask
+trap_closed None task = grown task
+trap_closed (Some why) task = task
+
 -- the task after the close
-abbrev pub task_closed : Script → List BlockState → ℕ → Close → Reply → PrivateTask → PrivateTask
-task_closed script blocks t Quantum reply task = task
-task_closed script blocks t Yield reply task = task
-task_closed script blocks t (Outer line) reply task = line_closed script blocks (command_at script t line) reply task
-task_closed script blocks t (Refused error) reply task = record task { file = refused_file task }
-task_closed script blocks t End reply task = task
+abbrev pub task_closed : Script → List BlockState → ℕ → Close → Answer → PrivateTask → PrivateTask
+task_closed script blocks t Quantum answer task = task
+task_closed script blocks t Yield answer task = task
+task_closed script blocks t (Outer line) answer task = line_closed script blocks (command_at script t line) answer.reply task
+task_closed script blocks t (Refused error) answer task = record task { file = refused_file task }
+task_closed script blocks t Trap answer task = trap_closed answer.fate task
+task_closed script blocks t End answer task = task
 
 -- what an outer line answers, where the blocks are in these states
 abbrev pub line_answer : Script → List BlockState → ℕ → Option Command → Reply
 line_answer script blocks t None = replies.Done
 line_answer script blocks t (Some command) = outer_reply script blocks t command
 
--- what the outer line answers with which block t closes its turn, if it closes it so
-abbrev pub close_answer : Script → List BlockState → ℕ → Close → Reply
-close_answer script blocks t close = line_answer script blocks t (close_command script t close)
+-- what the outer line replies with which block t closes its turn, if it closes it so
+abbrev pub close_reply : Script → List BlockState → ℕ → Close → Reply
+close_reply script blocks t close = line_answer script blocks t (close_command script t close)
+
+-- why a line that traps kills this task, if it does: it may not use tiles, or no Large area is free
+abbrev pub trap_fate : Script → List BlockState → PrivateTask → Option Why
+trap_fate script blocks task = if not task.permitted then Some Permission else if nat_lt (large_count blocks) script.large then None else Some Area
+
+-- what the board answers to the close of block t, which has this task and where the blocks are in these states
+abbrev pub close_answer : Script → List BlockState → ℕ → Close → PrivateTask → Answer
+close_answer script blocks t close task = record { reply = close_reply script blocks t close; fate = trap_fate script blocks task }
 
 -- ---- the lines of a turn
 
@@ -147,13 +189,19 @@ pub record IsRefusedReturn (script : Script) (t : ℕ) (task : PrivateTask) (err
   pub at : line_of script t task ≡ Some order
   pub why : refusal task order.command ≡ Some (frame_cause error)
 
--- Three closes come in a turn in which more Local events could come: an outer line at the task's place, a refused return there, and
--- the end, where no line stands there and no handler runs.
+-- The line at the task's place traps: it uses tiles for which the task has no room.
+pub record IsTrapLine (script : Script) (t : ℕ) (task : PrivateTask) (order : Order) : Type 0 where
+  pub at : line_of script t task ≡ Some order
+  pub trap : traps task order.command ≡ true
+
+-- Four closes come in a turn in which more Local events could come: an outer line at the task's place, a refused return or a line
+-- that traps there, and the end, where no line stands there and no handler runs.
 abbrev pub IsOpenClose : Script → ℕ → PrivateTask → Close → Type 0
 IsOpenClose script t task Quantum = ⊥
 IsOpenClose script t task Yield = ⊥
 IsOpenClose script t task (Outer line) = (order : Order) × IsOuterLine script t task line order
 IsOpenClose script t task (Refused error) = (order : Order) × IsRefusedReturn script t task error order
+IsOpenClose script t task Trap = (order : Order) × IsTrapLine script t task order
 IsOpenClose script t task End = (line_of script t task ≡ None) × (task.handling ≡ false)
 
 -- What follows an entry: these lines where the turn goes on, and else nothing.

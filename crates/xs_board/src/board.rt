@@ -7,7 +7,7 @@ ghost use Rattle.xs_model.specs.declared.stage.Stage.TheVariants as stages;
 ghost use Rattle.xs_model.specs.History.{IsLegal};
 ghost use Rattle.xs_model.specs.Note as notes;
 ghost use Rattle.xs_model.specs.Replay.{entry};
-ghost use Rattle.xs_model.specs.Script.{IsValid, IsBuilt, is_user};
+ghost use Rattle.xs_model.specs.Script.{IsValid, is_user};
 ghost use Rattle.xs_model.specs.State.{none_lives};
 ghost use Rattle.xs_board.specs.Board.{past_of, machine_in, ready_of, stage_in, private_in, private_with, private_after, private_closed, begun, answer_in, turn_on, IsBoard, KeepsOthers, OthersKept, KeepsTurns};
 ghost use Rattle.xs_board.specs.Home.{IsHome};
@@ -21,6 +21,7 @@ use crate::member::Member;
 use crate::opening::{born_blocks, first_members, first_tasks, users};
 use crate::putting::put_back;
 use crate::telling::{tell, tell_turn};
+use crate::trapping::settle;
 use crate::turn::{Close, Entries, Taken, Turn, start_how};
 use std::alloc::{AllocError, Global};
 use std::collections::VecDeque;
@@ -66,7 +67,6 @@ impl Board {
     /// and then the script is dropped.
     pub fn open(alloc: Global, script: Script) -> Result<Board, AllocError>
         requires valid { IsValid script }
-        requires built { IsBuilt script }
         ensures script { IfOk result (λ board. board.script ≡ script) }
         ensures history { IfOk result (λ board. board.history ≡ []) }
     {
@@ -161,8 +161,9 @@ impl Board {
     /// Takes a task back after its turn, with the lines that ran and the turn's close. Their events join the history, and the outer
     /// line with which it closes is done: a fork bears its child, a `kill` adds its signal to those that are pending of a block that
     /// lives, a `stop` holds the block while its parent lives, a `wait` blocks it while its child goes on, `getregs` and `setregs`
-    /// read and write the registers of a child that is stopped, and `cont` lets it go on. At End and after a refused return the
-    /// task's area goes back to the pool and the task is dropped. The ready list gets the parent that waited, then the children that
+    /// read and write the registers of a child that is stopped, and `cont` lets it go on. A line that traps makes the task
+    /// grow, where it may use tiles and a Large area is free, and else kills it. At End and where it is killed the task's area goes
+    /// back to the pool and the task is dropped. The ready list gets the parent that waited, then the children that
     /// were freed, let go or born, and then the block itself, if it goes on. Takes no memory.
     ///
     /// The block is in this turn, and the lines and the close are the script's from the task's place on. The task stands for the
@@ -195,7 +196,7 @@ impl Board {
         let mut task = task;
         let name = task.name;
         let deed = find_deed(&self.script, name, task.place, close);
-        let answer = perform(
+        let reply = perform(
             &self.script.layout,
             &mut self.tasks,
             &mut self.members,
@@ -204,7 +205,15 @@ impl Board {
             &mut task,
             deed,
         );
-        tell_turn(&mut self.events, name, entries.as_slice(), close, answer);
+        let fate = settle(&self.script.layout, &mut self.pool, &mut task, close);
+        tell_turn(
+            &mut self.events,
+            name,
+            entries.as_slice(),
+            close,
+            reply,
+            fate,
+        );
         put_back(
             &mut self.tasks,
             &mut self.ready,
@@ -213,6 +222,7 @@ impl Board {
             &mut self.pool,
             task,
             close,
+            fate,
         );
     }
 

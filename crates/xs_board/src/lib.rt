@@ -3,8 +3,8 @@
 //! ran. What reaches another block happens at that commit: a fork, a signal that is sent, and tracing, in which a child stops, its
 //! parent waits for it, reads and writes its registers and lets it go on. The crate's contract is that the history is legal: each
 //! event is a step of the private machine of `xs_model`, and each task that is home stands for that machine's private task. It
-//! stands on scripts and the machine in `xs_model`, on tasks in `xs_task`, on register sets in `xs_regset` and on the pool of
-//! `xs_pool`.
+//! stands on scripts and the machine in `xs_model`, on tasks in `xs_task`, on register sets in `xs_regset`, on tiles in `xs_tile` and on
+//! the pool of `xs_pool`.
 #![tactic(auto)]
 
 mod board;
@@ -17,6 +17,7 @@ mod pending;
 mod putting;
 mod registers;
 mod telling;
+mod trapping;
 mod turn;
 
 pub use board::Board;

@@ -107,7 +107,7 @@ pub fn first_tasks(
     ensures first { IfOk result (λ tasks. AreFirst layout.now blocks.now (length blocks.now) tasks.items) }
     ensures rows { pool.new.rows ≡ pool.old.rows }
     ensures out { OnOk result (pool.new.small.out ≡ users_in blocks.now) }
-    ensures large { OnOk result (pool.new.large.out ≡ pool.old.large.out) }
+    ensures large { OnOk result (pool.new.large ≡ pool.old.large) }
     ensures given { OnOk result (pool.new.given ≡ users_in blocks.now) }
 {
     let mut tasks = Vec::with_capacity(alloc, blocks.len())?;

@@ -13,10 +13,11 @@ use crate::member::{Life, Member};
 use crate::turn::Close;
 use std::collections::VecDeque;
 use xs_area::Lease;
+use xs_model::Why;
 use xs_pool::AreaPool;
 use xs_task::Task;
 
-/// Puts the task of a turn back by the turn's close. Where it has ended its area goes to the pool, it is dropped with its pending
+/// Puts the task of a turn back by the turn's close, and by why a line that trapped kills it, if it does. Where it has ended its area goes to the pool, it is dropped with its pending
 /// signals, its parent is ready if it waits for it, and then its stopped children in the order of their blocks. Else it is home,
 /// and the last of the ready list if it goes on. Takes no memory.
 pub fn put_back(
@@ -27,24 +28,25 @@ pub fn put_back(
     pool: &mut AreaPool,
     task: Task,
     close: Close,
+    fate: Option<Why>,
 )
-    requires lives { Where (closes.ends close) (0 < living.old) }
-    requires out { Where (closes.ends close) (IfSome task.lease (λ lease. (stock_of pool.old lease.class).out ≡ 0 → ⊥)) }
-    requires len { Where (closes.ends close) (IfSome task.lease (λ lease. length lease.area.bytes.items ≡ class_size pool.old.rows lease.class)) }
+    requires lives { Where (closes.ends close fate) (0 < living.old) }
+    requires out { Where (closes.ends close fate) (IfSome task.lease (λ lease. (stock_of pool.old lease.class).out ≡ 0 → ⊥)) }
+    requires len { Where (closes.ends close fate) (IfSome task.lease (λ lease. length lease.area.bytes.items ≡ class_size pool.old.rows lease.class)) }
     requires member { task.name < length members.old.items }
     requires known { task.name < length tasks.old.items }
     requires few { length members.old.items < 2 ^ 32 }
-    requires room { length ready.old.items + length (ready_after (closes.ends close) task.name members.old.items) ≤ deque_capacity ready.old }
+    requires room { length ready.old.items + length (ready_after (closes.ends close fate) task.name members.old.items) ≤ deque_capacity ready.old }
     requires place { Where (closes.moves_on close (member_at members.old.items task.name).life) (task.place + 1 < 2 ^ 32) }
-    ensures home { tasks.new.items ≡ home_after (closes.ends close) (moved_on (closes.moves_on close (member_at members.old.items task.name).life) task) tasks.old.items }
-    ensures ready { ready.new.items ≡ ready.old.items ++ ready_after (closes.ends close) task.name members.old.items }
+    ensures home { tasks.new.items ≡ home_after (closes.ends close fate) (moved_on (closes.moves_on close (member_at members.old.items task.name).life) task) tasks.old.items }
+    ensures ready { ready.new.items ≡ ready.old.items ++ ready_after (closes.ends close fate) task.name members.old.items }
     ensures capacity { deque_capacity ready.new ≡ deque_capacity ready.old }
-    ensures living { living.new ≡ living_after (closes.ends close) living.old }
-    ensures members { AreLeft (closes.ends close) task.name members.old.items members.new.items }
+    ensures living { living.new ≡ living_after (closes.ends close fate) living.old }
+    ensures members { AreLeft (closes.ends close fate) task.name members.old.items members.new.items }
     ensures each { length members.new.items ≡ length members.old.items }
-    ensures pool { pool.new ≡ pool_after (closes.ends close) task.lease pool.old }
+    ensures pool { pool.new ≡ pool_after (closes.ends close fate) task.lease pool.old }
 {
-    if ends(close) {
+    if ends(close, fate) {
         *living -= 1;
         free_others(ready, members, task.name);
         let Task { lease, .. } = task;
@@ -56,10 +58,14 @@ pub fn put_back(
 }
 
 /// Whether the task ends with its turn.
-fn ends(close: Close) -> bool
-    ensures { result ≡ closes.ends close }
+fn ends(close: Close, fate: Option<Why>) -> bool
+    ensures { result ≡ closes.ends close fate }
 {
-    matches!(close, Close::Refused(_) | Close::End)
+    match close {
+        Close::Quantum | Close::Yield | Close::Outer(_) => false,
+        Close::Refused(_) | Close::End => true,
+        Close::Trap => fate.is_some(),
+    }
 }
 
 /// The task is home, behind the outer line that closed its turn unless it waits there, and ready if it goes on.

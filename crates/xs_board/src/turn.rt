@@ -66,6 +66,8 @@ pub enum Close {
     Outer(u32),
     /// By a return from a handler, at which the task stands: its frame is refused with this error, and the task ends.
     Refused(HeaderError),
+    /// By a line, at which the task stands, that uses tiles for which the task has no room: it grows, or it is killed.
+    Trap,
     /// At the end of the body.
     End,
 }

@@ -1,11 +1,9 @@
 -- The deeds that reach the registers of a stopped child.
-use Rattle.std.proofs.Common.{◌≡◌, List, refl, sym, ap, ◌∙◌, subst}
+use Rattle.std.proofs.Common.{◌≡◌, refl, sym, ap, ◌∙◌, subst}
 use Rattle.std.specs.Prelude.{Option, Some}
-use Rattle.xs_task.specs.declared.task.Task.{Task}
 use Rattle.xs_board.specs.declared.deed.Deed.{Deed}
 use Rattle.xs_board.specs.declared.deed.Deed.TheVariants.{Get, Put}
-use Rattle.xs_board.specs.Deed.{CanDo, HasRead, IfDeed, IfStopped, IsDoneBy}
-use Rattle.xs_board.specs.Member.{Member, is_stopped_life, member_at}
+use Rattle.xs_board.specs.Deed.{CanDo, IfDeed, IsDoneBy}
 use Rattle.xs_board.proofs.doing.perform.Goals as goal
 
 pub get_registers-requires-clause-reached : goal.get_registers-requires-clause-reached

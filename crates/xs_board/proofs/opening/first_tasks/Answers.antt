@@ -26,7 +26,7 @@ each-preserved c =
       rows = c.in_ok-task.ensures.rows ∙ c.each.invariant.rows;
       out = omega arith;
       capacity = ap (λ (p : Pool). p.small.capacity) after ∙ pool_capacity kind pool ∙ c.each.invariant.capacity;
-      large = ap (λ (p : Pool). p.large.out) after ∙ pool_large kind pool ∙ c.each.invariant.large;
+      large = ap (λ (p : Pool). p.large) after ∙ pool_large kind pool ∙ c.each.invariant.large;
       given = omega arith;
     }
 

@@ -11,6 +11,6 @@ invariant-each l = record {
   rows : l.pool.rows ≡ l.initial.pool.rows;
   out : l.pool.small.out + users_in (drop l.block-index l.blocks) ≡ users_in l.blocks;
   capacity : l.pool.small.capacity ≡ l.initial.pool.small.capacity;
-  large : l.pool.large.out ≡ l.initial.pool.large.out;
+  large : l.pool.large ≡ l.initial.pool.large;
   given : l.pool.given ≡ l.pool.small.out;
 }

@@ -1,5 +1,5 @@
 -- The slot of a stopped target has its task.
-use Rattle.std.proofs.Common.{◌≡◌, ℕ, length, take, refl, ap, ◌∙◌, sym, subst, true}
+use Rattle.std.proofs.Common.{◌≡◌, ℕ, take, ap, ◌∙◌, sym, subst, true}
 use Rattle.std.proofs.lemmas.List.{get_or_default, length-take-le}
 use Rattle.std.specs.Prelude.{Some, None, slice_set}
 use Rattle.xs_board.specs.Deed.{IsReached, WasWritten}

@@ -1,8 +1,6 @@
 -- The task in the slot has the registers of the bytes, or is as it was.
-use Rattle.std.proofs.Common.{◌≡◌, List, length, refl, sym, ap, ◌∙◌, subst}
+use Rattle.std.proofs.Common.{◌≡◌, length, refl, sym, ap, ◌∙◌, subst}
 use Rattle.std.proofs.lemmas.Option.{same_Some}
-use Rattle.std.specs.Prelude.{Option}
-use Rattle.xs_base.specs.declared.words.Errno.{Errno}
 use Rattle.xs_base.specs.RegisterSet.{SetResult, set_errno}
 use Rattle.xs_base.specs.Task.{PrivateTask}
 use Rattle.xs_model.specs.declared.event.Reply.TheVariants as replies

@@ -1,5 +1,5 @@
 -- The board with the task again, or without it where it has ended.
-use Rattle.std.proofs.Common.{◌≡◌, ℕ, ◌+◌, ◌<◌, ◌≤◌, ◌^◌, List, ◌++◌, length, reverse, refl, sym, ap, ◌∙◌, subst, arith}
+use Rattle.std.proofs.Common.{◌≡◌, Bool, ℕ, ◌+◌, ◌<◌, ◌≤◌, ◌^◌, List, ◌++◌, length, reverse, refl, sym, ap, ◌∙◌, subst, arith, length-append}
 use Rattle.std.specs.Prelude.{Option, IfSome, vec_capacity}
 use Rattle.std.specs.VecDeque.{deque_capacity}
 use Rattle.xs_model.specs.declared.event.Event.{Event}
@@ -14,20 +14,22 @@ use Rattle.xs_task.specs.declared.task.Task.{Task}
 use Rattle.xs_board.specs.declared.deed.Deed.{Deed}
 use Rattle.xs_board.specs.declared.turn.Entry.{Entry}
 use Rattle.xs_board.specs.declared.turn.Close.{Close}
-use Rattle.xs_board.specs.Board.{Board, answer_in, machine_in, IsBoard, IsKeptBeside, past_of, stage_in, private_in, private_with, private_after, private_closed}
+use Rattle.xs_board.specs.Board.{Board, answer_in, machine_in, IsBoard, IsKeptBeside, past_of, stage_in, private_in, private_after, private_closed}
 use Rattle.xs_board.specs.Deed.{CanDo, IfDeed, IsDoneBy, deed_by, living_born, members_by, named_in, newborn, ready_by}
 use Rattle.xs_board.specs.Home.{IsHome}
 use Rattle.xs_board.specs.Laws.{Laws}
 use Rattle.xs_board.specs.Member.{Member, AreMembers, member_at}
 use Rattle.xs_board.specs.Putting.{AreLeft, at_outer, ends, home_after, living_after, moved_on, moves_on, pool_after, ready_after}
-use Rattle.xs_board.specs.Turn.{AreLines, body_command, close_command, stage_closed, turn_events}
+use Rattle.xs_board.specs.Trapping.{CanTrap, IfTrap}
+use Rattle.xs_board.specs.Turn.{Answer, AreLines, body_command, close_command, stage_closed, turn_events}
 use Rattle.xs_board.proofs.Again.{beside_back, board_back, done_length}
 use Rattle.xs_board.proofs.Giving.{area_is_long, area_is_out, lives_then, members_length, place_then}
-use Rattle.xs_board.proofs.Asked.{deed_can, deed_found, deed_named, deed_room, few_live, next_place, put_room}
-use Rattle.xs_board.proofs.Committing.{MayCommit, answer, later, leaves, turn_fits, turn_in_range, turn_lives, turn_replays}
+use Rattle.xs_board.proofs.Asked.{deed_can, deed_found, deed_named, deed_room, few_live, put_room}
+use Rattle.xs_board.proofs.Committing.{MayCommit, later, leaves, turn_in_range, turn_replays}
 use Rattle.xs_board.proofs.Kept.{performed}
 use Rattle.xs_board.proofs.Moving.{reverse_onto_past}
-use Rattle.xs_board.proofs.Returning.{after_is, reply_known}
+use Rattle.xs_board.proofs.Returning.{Settles, after_is, can_trap, reply_known, settled_name, settled_place}
+use Rattle.xs_board.proofs.Settling.{ends_is, events_are, events_fit, settles, some_events}
 use Rattle.xs_board.proofs.Seen.{back_free, back_private, back_stage, back_turns}
 use Rattle.xs_board.proofs.board.Board.commit.Goals as goal
 
@@ -63,14 +65,14 @@ module _ (laws : Laws) (board : Board) (task : Task) (cpu : ℕ) (entries : List
   own = let known = turn_in_range laws board t cpu is_board turn in let each = kept.each in omega (arith, known, each)
 
   -- what the machine answers
-  abbrev answered : Reply
+  abbrev answered : Answer
   answered = answer_in board t entries close
 
   module _ (code : Option Deed) (code_is : code ≡ deed) (reply : Reply) (tasks : List (Option Task)) (after : Task) (done : IsDoneBy board.script.layout members t code reply board.home tasks task after) where
-    reply_is : reply ≡ answered
+    reply_is : reply ≡ answered.reply
     reply_is = reply_known laws board t cpu entries close may task home members kept.each kept.member tasks after reply (subst (λ (d : Option Deed). IsDoneBy board.script.layout members t d reply board.home tasks task after) code_is done)
 
-    done_is : IsDoneBy board.script.layout members t deed answered board.home tasks task after
+    done_is : IsDoneBy board.script.layout members t deed answered.reply board.home tasks task after
     done_is =
         subst (λ (r : Reply). IsDoneBy board.script.layout members t deed r board.home tasks task after) reply_is
         (subst (λ (d : Option Deed). IsDoneBy board.script.layout members t d reply board.home tasks task after) code_is done)
@@ -84,8 +86,14 @@ module _ (laws : Laws) (board : Board) (task : Task) (cpu : ℕ) (entries : List
         are_is : AreMembers (machine_in board).blocks members
         are_is = kept.member
 
-    fits : length board.history + length (turn_events t entries close reply) ≤ board.room
-    fits = subst (λ (r : Reply). length board.history + length (turn_events t entries close r) ≤ board.room) (sym reply_is) (turn_fits laws board t cpu entries close may)
+    trapping : IfTrap close (CanTrap board.script.layout board.pool after) (Unit {0})
+    trapping = can_trap laws board t cpu entries close may task home members each_is are_is tasks after done_is
+      where
+        each_is : length members ≡ length board.script.blocks
+        each_is = kept.each
+
+        are_is : AreMembers (machine_in board).blocks members
+        are_is = kept.member
 
     -- what is put back
     module _ (members_now : List Member) (members_are : members_now ≡ members_by t code members) where
@@ -95,10 +103,10 @@ module _ (laws : Laws) (board : Board) (task : Task) (cpu : ℕ) (entries : List
       many_now : length members_now ≡ length members
       many_now = ap length members_are ∙ members_length t code members
 
-      room_then : (list_now : List ℕ) → list_now ≡ list ++ ready_by t code members → length list_now + length (ready_after (ends close) t members_now) ≤ capacity
+      room_then : (list_now : List ℕ) → list_now ≡ list ++ ready_by t code members → length list_now + length (ready_after (ends close answered.fate) t members_now) ≤ capacity
       room_then list_now is =
-          subst (λ (l : List ℕ). length l + length (ready_after (ends close) t members_now) ≤ capacity) (sym (is ∙ ap (λ (d : Option Deed). list ++ ready_by t d members) code_is))
-          (subst (λ (ms : List Member). length (list ++ ready_by t deed members) + length (ready_after (ends close) t ms) ≤ capacity) (sym performed_is) (put_room laws board t cpu entries close may list capacity count members kept))
+          subst (λ (l : List ℕ). length l + length (ready_after (ends close answered.fate) t members_now) ≤ capacity) (sym (is ∙ ap (λ (d : Option Deed). list ++ ready_by t d members) code_is))
+          (subst (λ (ms : List Member). length (list ++ ready_by t deed members) + length (ready_after (ends close answered.fate) t ms) ≤ capacity) (sym performed_is) (put_room laws board t cpu entries close may list capacity count members kept))
 
 -- ---- as the code has it
 
@@ -110,8 +118,8 @@ find_deed-deed-requires c =
       few = c.self.invariant.0.valid.few;
     }
 
-pub perform-answer-requires : goal.perform-answer-requires
-perform-answer-requires c =
+pub perform-reply-requires : goal.perform-reply-requires
+perform-reply-requires c =
     let board : Board = record { script = c.self.inside.script; history = c.self.inside.events.items; home = c.self.inside.tasks.items; pool = c.self.inside.pool; room = vec_capacity c.self.inside.events } in
     let laws = c.machine_laws.ensures in
     let turn = rw (← c.self.view_is) at c.requires.turn in
@@ -137,6 +145,27 @@ perform-answer-requires c =
       few = few laws board task cpu entries close is_board turn lines home list capacity count members kept;
     }
 
+pub settle-fate-requires : goal.settle-fate-requires
+settle-fate-requires c =
+    let board : Board = record { script = c.self.inside.script; history = c.self.inside.events.items; home = c.self.inside.tasks.items; pool = c.self.inside.pool; room = vec_capacity c.self.inside.events } in
+    let laws = c.machine_laws.ensures in
+    let turn = rw (← c.self.view_is) at c.requires.turn in
+    let lines = rw (← c.self.view_is) at c.requires.lines in
+    let home = rw (← c.self.view_is) at c.requires.task in
+    let task = c.args.turn.task in
+    let cpu = c.args.turn.cpu in
+    let entries = c.args.entries.now.items in
+    let close = c.args.close in
+    let is_board = c.self.invariant.0 in
+    let kept = c.self.invariant.1 in
+    let list = c.self.inside.ready.items in
+    let capacity = deque_capacity c.self.inside.ready in
+    let count = c.self.inside.living in
+    let members = c.self.inside.members.items in
+    let code = c.find_deed-deed.result in
+    let code_is = found laws board task cpu entries close is_board turn lines home list capacity count members kept code c.find_deed-deed.ensures in
+    record { can = trapping laws board task cpu entries close is_board turn lines home list capacity count members kept code code_is c.perform-reply.result c.perform-reply.new.tasks.items c.perform-reply.new.task c.perform-reply.ensures.done }
+
 pub tell_turn-requires : goal.tell_turn-requires
 tell_turn-requires c =
     let board : Board = record { script = c.self.inside.script; history = c.self.inside.events.items; home = c.self.inside.tasks.items; pool = c.self.inside.pool; room = vec_capacity c.self.inside.events } in
@@ -156,7 +185,10 @@ tell_turn-requires c =
     let members = c.self.inside.members.items in
     let code = c.find_deed-deed.result in
     let code_is = found laws board task cpu entries close is_board turn lines home list capacity count members kept code c.find_deed-deed.ensures in
-    record { room = rw c.as_slice.ensures.value (fits laws board task cpu entries close is_board turn lines home list capacity count members kept code code_is c.perform-answer.result c.perform-answer.new.tasks.items c.perform-answer.new.task c.perform-answer.ensures.done) }
+    let may_is = may laws board task cpu entries close is_board turn lines home list capacity count members kept in
+    let reply_now = reply_is laws board task cpu entries close is_board turn lines home list capacity count members kept code code_is c.perform-reply.result c.perform-reply.new.tasks.items c.perform-reply.new.task c.perform-reply.ensures.done in
+    let done_now = done_is laws board task cpu entries close is_board turn lines home list capacity count members kept code code_is c.perform-reply.result c.perform-reply.new.tasks.items c.perform-reply.new.task c.perform-reply.ensures.done in
+    record { room = rw c.as_slice.ensures.value (events_fit laws board task.name cpu entries close may_is task home members kept.each kept.member c.perform-reply.new.tasks.items c.perform-reply.new.task done_now c.settle-fate.result c.settle-fate.new.pool c.settle-fate.new.task c.settle-fate.ensures c.perform-reply.result reply_now) }
 
 pub put_back-requires : goal.put_back-requires
 put_back-requires c =
@@ -178,28 +210,33 @@ put_back-requires c =
     let code = c.find_deed-deed.result in
     let code_is = found laws board task cpu entries close is_board turn lines home list capacity count members kept code c.find_deed-deed.ensures in
     let may_is = may laws board task cpu entries close is_board turn lines home list capacity count members kept in
-    let done = c.perform-answer.ensures.done in
-    let after = c.perform-answer.new.task in
-    let same : after ≡ record task { buffer = after.buffer } = after_same laws board task cpu entries close is_board turn lines home list capacity count members kept code code_is c.perform-answer.result c.perform-answer.new.tasks.items after done in
-    let members_now = c.perform-answer.new.members.items in
-    let many = many_now laws board task cpu entries close is_board turn lines home list capacity count members kept code code_is c.perform-answer.result c.perform-answer.new.tasks.items after done members_now c.perform-answer.ensures.members in
+    let reply_now = reply_is laws board task cpu entries close is_board turn lines home list capacity count members kept code code_is c.perform-reply.result c.perform-reply.new.tasks.items c.perform-reply.new.task c.perform-reply.ensures.done in
+    let done_now = done_is laws board task cpu entries close is_board turn lines home list capacity count members kept code code_is c.perform-reply.result c.perform-reply.new.tasks.items c.perform-reply.new.task c.perform-reply.ensures.done in
+    let done = c.perform-reply.ensures.done in
+    let after = c.perform-reply.new.task in
+    let pool = c.settle-fate.new.pool in
+    let settled = c.settle-fate.new.task in
+    let fate = c.settle-fate.result in
+    let settles_now = settles laws board task.name cpu entries close may_is task home members kept.each kept.member c.perform-reply.new.tasks.items after done_now fate pool settled c.settle-fate.ensures in
+    let end_is = ends_is laws board task.name cpu entries close may_is task home members kept.each kept.member c.perform-reply.new.tasks.items after done_now fate pool settled c.settle-fate.ensures in
+    let members_now = c.perform-reply.new.members.items in
+    let many = many_now laws board task cpu entries close is_board turn lines home list capacity count members kept code code_is c.perform-reply.result c.perform-reply.new.tasks.items after done members_now c.perform-reply.ensures.members in
     let own_is = own laws board task cpu entries close is_board turn lines home list capacity count members kept in
     let each = kept.each in
     let few_blocks = is_board.valid.few in
-    let tasks_many = done_length board.script board.script.layout members task.name (close_command board.script task.name close) (answer_in board task.name entries close) board.home c.perform-answer.new.tasks.items task after (done_is laws board task cpu entries close is_board turn lines home list capacity count members kept code code_is c.perform-answer.result c.perform-answer.new.tasks.items after done) in
+    let tasks_many = done_length board.script board.script.layout members task.name (close_command board.script task.name close) (answer_in board task.name entries close).reply board.home c.perform-reply.new.tasks.items task after done_now in
     let homes = is_board.count in
-    let name_is : after.name ≡ task.name = ap (λ (x : Task). x.name) same in
-    let lease_is : after.lease ≡ task.lease = ap (λ (x : Task). x.lease) same in
-    let place_is : after.place ≡ task.place = ap (λ (x : Task). x.place) same in
+    let name_is : settled.name ≡ task.name = settled_name laws board task.name cpu entries close may_is task home members kept.each kept.member c.perform-reply.new.tasks.items after done_now pool settled settles_now in
+    let place_is : settled.place ≡ task.place = settled_place laws board task.name cpu entries close may_is task home members kept.each kept.member c.perform-reply.new.tasks.items after done_now pool settled settles_now in
     record {
-      lives = λ end. rw c.perform-answer.ensures.living (lives_then laws board task.name cpu entries close may_is task home list capacity count members kept (newborn code));
-      out = rw lease_is (area_is_out laws board task.name cpu entries close may_is task home);
-      len = rw lease_is (area_is_long laws board task.name cpu entries close may_is task home);
+      lives = λ end. rw c.perform-reply.ensures.living (lives_then laws board task.name cpu entries close may_is task home list capacity count members kept (newborn code));
+      out = rw end_is (area_is_out laws board task.name cpu entries close may_is task home members kept.each kept.member c.perform-reply.new.tasks.items after done_now pool settled settles_now);
+      len = rw end_is (area_is_long laws board task.name cpu entries close may_is task home members kept.each kept.member c.perform-reply.new.tasks.items after done_now pool settled settles_now);
       member = omega (arith, name_is, many, own_is);
       known = omega (arith, name_is, tasks_many, homes, own_is, each);
       few = omega (arith, many, each, few_blocks);
-      room = rw (name_is, c.perform-answer.ensures.capacity) (room_then laws board task cpu entries close is_board turn lines home list capacity count members kept code code_is c.perform-answer.result c.perform-answer.new.tasks.items after done members_now c.perform-answer.ensures.members c.perform-answer.new.ready.items c.perform-answer.ensures.ready);
-      place = rw place_is (place_then laws board task.name cpu entries close may_is task home members kept.member (member_at members_now after.name).life);
+      room = rw (name_is, end_is, c.perform-reply.ensures.capacity) (room_then laws board task cpu entries close is_board turn lines home list capacity count members kept code code_is c.perform-reply.result c.perform-reply.new.tasks.items after done members_now c.perform-reply.ensures.members c.perform-reply.new.ready.items c.perform-reply.ensures.ready);
+      place = rw place_is (place_then laws board task.name cpu entries close may_is task home members kept.member (member_at members_now settled.name).life);
     }
 
 -- ---- after all
@@ -227,34 +264,41 @@ code_found : (c : goal.After-put_back) → c.find_deed-deed.result ≡ deed_by (
 code_found c = c.find_deed-deed.ensures ∙ deed_found c.machine_laws.ensures (old c) (came c).name c.args.turn.cpu (ran c) c.args.close (may_be c) (came c) (home_is c) c.self.inside.members.items c.self.invariant.1.member
 
 -- what it answered
-replied : (c : goal.After-put_back) → c.perform-answer.result ≡ answer_in (old c) (came c).name (ran c) c.args.close
+replied : (c : goal.After-put_back) → c.perform-reply.result ≡ (answer_in (old c) (came c).name (ran c) c.args.close).reply
 replied c =
-    reply_known c.machine_laws.ensures (old c) (came c).name c.args.turn.cpu (ran c) c.args.close (may_be c) (came c) (home_is c) c.self.inside.members.items c.self.invariant.1.each c.self.invariant.1.member c.perform-answer.new.tasks.items c.perform-answer.new.task c.perform-answer.result
-    (subst (λ (d : Option Deed). IsDoneBy (old c).script.layout c.self.inside.members.items (came c).name d c.perform-answer.result (old c).home c.perform-answer.new.tasks.items (came c) c.perform-answer.new.task) (code_found c) c.perform-answer.ensures.done)
+    reply_known c.machine_laws.ensures (old c) (came c).name c.args.turn.cpu (ran c) c.args.close (may_be c) (came c) (home_is c) c.self.inside.members.items c.self.invariant.1.each c.self.invariant.1.member c.perform-reply.new.tasks.items c.perform-reply.new.task c.perform-reply.result
+    (subst (λ (d : Option Deed). IsDoneBy (old c).script.layout c.self.inside.members.items (came c).name d c.perform-reply.result (old c).home c.perform-reply.new.tasks.items (came c) c.perform-reply.new.task) (code_found c) c.perform-reply.ensures.done)
 
 -- what it did
-did : (c : goal.After-put_back) → IsDoneBy (old c).script.layout c.self.inside.members.items (came c).name (deed_by (old c).script (close_command (old c).script (came c).name c.args.close)) (answer_in (old c) (came c).name (ran c) c.args.close) (old c).home c.perform-answer.new.tasks.items (came c) c.perform-answer.new.task
+did : (c : goal.After-put_back) → IsDoneBy (old c).script.layout c.self.inside.members.items (came c).name (deed_by (old c).script (close_command (old c).script (came c).name c.args.close)) (answer_in (old c) (came c).name (ran c) c.args.close).reply (old c).home c.perform-reply.new.tasks.items (came c) c.perform-reply.new.task
 did c =
-    subst (λ (r : Reply). IsDoneBy (old c).script.layout c.self.inside.members.items (came c).name (deed_by (old c).script (close_command (old c).script (came c).name c.args.close)) r (old c).home c.perform-answer.new.tasks.items (came c) c.perform-answer.new.task) (replied c)
-    (subst (λ (d : Option Deed). IsDoneBy (old c).script.layout c.self.inside.members.items (came c).name d c.perform-answer.result (old c).home c.perform-answer.new.tasks.items (came c) c.perform-answer.new.task) (code_found c) c.perform-answer.ensures.done)
+    subst (λ (r : Reply). IsDoneBy (old c).script.layout c.self.inside.members.items (came c).name (deed_by (old c).script (close_command (old c).script (came c).name c.args.close)) r (old c).home c.perform-reply.new.tasks.items (came c) c.perform-reply.new.task) (replied c)
+    (subst (λ (d : Option Deed). IsDoneBy (old c).script.layout c.self.inside.members.items (came c).name d c.perform-reply.result (old c).home c.perform-reply.new.tasks.items (came c) c.perform-reply.new.task) (code_found c) c.perform-reply.ensures.done)
+
+-- what became of it, if its line trapped
+settles_it : (c : goal.After-put_back) → Settles c.args.close (old c).script.layout (answer_in (old c) (came c).name (ran c) c.args.close).fate (old c).pool c.settle-fate.new.pool c.perform-reply.new.task c.settle-fate.new.task
+settles_it c = settles c.machine_laws.ensures (old c) (came c).name c.args.turn.cpu (ran c) c.args.close (may_be c) (came c) (home_is c) c.self.inside.members.items c.self.invariant.1.each c.self.invariant.1.member c.perform-reply.new.tasks.items c.perform-reply.new.task (did c) c.settle-fate.result c.settle-fate.new.pool c.settle-fate.new.task c.settle-fate.ensures
+
+ends_it : (c : goal.After-put_back) → ends c.args.close c.settle-fate.result ≡ ends c.args.close (answer_in (old c) (came c).name (ran c) c.args.close).fate
+ends_it c = ends_is c.machine_laws.ensures (old c) (came c).name c.args.turn.cpu (ran c) c.args.close (may_be c) (came c) (home_is c) c.self.inside.members.items c.self.invariant.1.each c.self.invariant.1.member c.perform-reply.new.tasks.items c.perform-reply.new.task (did c) c.settle-fate.result c.settle-fate.new.pool c.settle-fate.new.task c.settle-fate.ensures
 
 -- what joins the history
 told : (c : goal.After-put_back) → history c ≡ (old c).history ++ turn_events (came c).name (ran c) c.args.close (answer_in (old c) (came c).name (ran c) c.args.close)
 told c =
     c.tell_turn.ensures.told
-    ∙ ap (λ (entries : List Entry). (old c).history ++ turn_events (came c).name entries c.args.close c.perform-answer.result) c.as_slice.ensures.value
-    ∙ ap (λ (reply : Reply). (old c).history ++ turn_events (came c).name (ran c) c.args.close reply) (replied c)
+    ∙ ap (λ (entries : List Entry). (old c).history ++ turn_events (came c).name entries c.args.close (record { reply = c.perform-reply.result; fate = c.settle-fate.result })) c.as_slice.ensures.value
+    ∙ ap (λ (all : List Event). (old c).history ++ all) (events_are c.machine_laws.ensures (old c) (came c).name c.args.turn.cpu (ran c) c.args.close (may_be c) (came c) (home_is c) c.self.inside.members.items c.self.invariant.1.each c.self.invariant.1.member c.perform-reply.new.tasks.items c.perform-reply.new.task (did c) c.settle-fate.result c.settle-fate.new.pool c.settle-fate.new.task c.settle-fate.ensures c.perform-reply.result (replied c))
 
 past_is : (c : goal.After-put_back) → reverse (history c) ≡ later c.machine_laws.ensures (old c) (came c).name c.args.turn.cpu (ran c) c.args.close (may_be c)
 past_is c = ap reverse (told c) ∙ reverse_onto_past (turn_events (came c).name (ran c) c.args.close (answer_in (old c) (came c).name (ran c) c.args.close)) (old c).history
 
 -- the members after the deed
-members_then : (c : goal.After-put_back) → c.perform-answer.new.members.items ≡ performed (old c).script (came c).name c.self.inside.members.items c.args.close
-members_then c = c.perform-answer.ensures.members ∙ ap (λ (d : Option Deed). members_by (came c).name d c.self.inside.members.items) (code_found c)
+members_then : (c : goal.After-put_back) → c.perform-reply.new.members.items ≡ performed (old c).script (came c).name c.self.inside.members.items c.args.close
+members_then c = c.perform-reply.ensures.members ∙ ap (λ (d : Option Deed). members_by (came c).name d c.self.inside.members.items) (code_found c)
 
 -- the task has its name
-same_name : (c : goal.After-put_back) → c.perform-answer.new.task.name ≡ (came c).name
-same_name c = ap (λ (x : Task). x.name) (after_is c.machine_laws.ensures (old c) (came c).name c.args.turn.cpu (ran c) c.args.close (may_be c) (came c) (home_is c) c.self.inside.members.items c.self.invariant.1.each c.self.invariant.1.member c.perform-answer.new.tasks.items c.perform-answer.new.task (did c))
+same_name : (c : goal.After-put_back) → c.settle-fate.new.task.name ≡ (came c).name
+same_name c = settled_name c.machine_laws.ensures (old c) (came c).name c.args.turn.cpu (ran c) c.args.close (may_be c) (came c) (home_is c) c.self.inside.members.items c.self.invariant.1.each c.self.invariant.1.member c.perform-reply.new.tasks.items c.perform-reply.new.task (did c) c.settle-fate.new.pool c.settle-fate.new.task (settles_it c)
 
 -- the same queue, capacity and count
 beside_same : (board : Board) (list list' : List ℕ) (capacity capacity' count count' : ℕ) (members : List Member) → list' ≡ list → capacity' ≡ capacity → count' ≡ count → IsKeptBeside board list capacity count members → IsKeptBeside board list' capacity' count' members
@@ -267,11 +311,12 @@ beside_same board list list' capacity capacity' count count' members l p n kept 
 }
 
 -- the tasks that are home then
-homes : (c : goal.After-put_back) → c.put_back.new.tasks.items ≡ home_after (ends c.args.close) (moved_on (moves_on c.args.close (member_at (performed (old c).script (came c).name c.self.inside.members.items c.args.close) (came c).name).life) c.perform-answer.new.task) c.perform-answer.new.tasks.items
+homes : (c : goal.After-put_back) → c.put_back.new.tasks.items ≡ home_after (ends c.args.close (answer_in (old c) (came c).name (ran c) c.args.close).fate) (moved_on (moves_on c.args.close (member_at (performed (old c).script (came c).name c.self.inside.members.items c.args.close) (came c).name).life) c.settle-fate.new.task) c.perform-reply.new.tasks.items
 homes c =
     c.put_back.ensures.home
-    ∙ ap (λ (n : ℕ). home_after (ends c.args.close) (moved_on (moves_on c.args.close (member_at c.perform-answer.new.members.items n).life) c.perform-answer.new.task) c.perform-answer.new.tasks.items) (same_name c)
-    ∙ ap (λ (ms : List Member). home_after (ends c.args.close) (moved_on (moves_on c.args.close (member_at ms (came c).name).life) c.perform-answer.new.task) c.perform-answer.new.tasks.items) (members_then c)
+    ∙ ap (λ (b : Bool). home_after b (moved_on (moves_on c.args.close (member_at c.perform-reply.new.members.items c.settle-fate.new.task.name).life) c.settle-fate.new.task) c.perform-reply.new.tasks.items) (ends_it c)
+    ∙ ap (λ (n : ℕ). home_after (ends c.args.close (answer_in (old c) (came c).name (ran c) c.args.close).fate) (moved_on (moves_on c.args.close (member_at c.perform-reply.new.members.items n).life) c.settle-fate.new.task) c.perform-reply.new.tasks.items) (same_name c)
+    ∙ ap (λ (ms : List Member). home_after (ends c.args.close (answer_in (old c) (came c).name (ran c) c.args.close).fate) (moved_on (moves_on c.args.close (member_at ms (came c).name).life) c.settle-fate.new.task) c.perform-reply.new.tasks.items) (members_then c)
 
 pub invariant_of-self : goal.invariant_of-self
 invariant_of-self c =
@@ -284,24 +329,32 @@ invariant_of-self c =
     let room = vec_capacity c.tell_turn.new.events in
     let members = c.self.inside.members.items in
     let kept = c.self.invariant.1 in
-    let tasks = c.perform-answer.new.tasks.items in
-    let after = c.perform-answer.new.task in
+    let tasks = c.perform-reply.new.tasks.items in
+    let after = c.perform-reply.new.task in
+    let pool = c.settle-fate.new.pool in
+    let settled = c.settle-fate.new.task in
+    let end = ends close (answer_in (old c) (came c).name (ran c) c.args.close).fate in
     let list = c.self.inside.ready.items in
     let performed_now = performed script t members close in
     let final = c.put_back.new.members.items in
     let ready_is =
     c.put_back.ensures.ready
-    ∙ ap (λ (n : ℕ). c.perform-answer.new.ready.items ++ ready_after (ends close) n c.perform-answer.new.members.items) (same_name c)
-    ∙ ap (λ (ms : List Member). c.perform-answer.new.ready.items ++ ready_after (ends close) t ms) (members_then c)
-    ∙ ap (λ (l : List ℕ). l ++ ready_after (ends close) t performed_now) (c.perform-answer.ensures.ready ∙ ap (λ (d : Option Deed). list ++ ready_by t d members) (code_found c)) in
-    let living_is = c.put_back.ensures.living ∙ ap (living_after (ends close)) (c.perform-answer.ensures.living ∙ ap (λ (d : Option Deed). living_born (newborn d) c.self.inside.living) (code_found c)) in
-    let are_left : AreLeft (ends close) t performed_now final = subst (λ (ms : List Member). AreLeft (ends close) t ms final) (members_then c) (subst (λ (n : ℕ). AreLeft (ends close) n c.perform-answer.new.members.items final) (same_name c) c.put_back.ensures.members) in
-    let many : length final ≡ length members = c.put_back.ensures.each ∙ ap length c.perform-answer.ensures.members ∙ members_length t c.find_deed-deed.result members in (
+    ∙ ap (λ (b : Bool). c.perform-reply.new.ready.items ++ ready_after b settled.name c.perform-reply.new.members.items) (ends_it c)
+    ∙ ap (λ (n : ℕ). c.perform-reply.new.ready.items ++ ready_after end n c.perform-reply.new.members.items) (same_name c)
+    ∙ ap (λ (ms : List Member). c.perform-reply.new.ready.items ++ ready_after end t ms) (members_then c)
+    ∙ ap (λ (l : List ℕ). l ++ ready_after end t performed_now) (c.perform-reply.ensures.ready ∙ ap (λ (d : Option Deed). list ++ ready_by t d members) (code_found c)) in
+    let living_is = c.put_back.ensures.living ∙ ap (λ (b : Bool). living_after b c.perform-reply.new.living) (ends_it c) ∙ ap (living_after end) (c.perform-reply.ensures.living ∙ ap (λ (d : Option Deed). living_born (newborn d) c.self.inside.living) (code_found c)) in
+    let are_left : AreLeft end t performed_now final = subst (λ (ms : List Member). AreLeft end t ms final) (members_then c) (subst (λ (n : ℕ). AreLeft end n c.perform-reply.new.members.items final) (same_name c) (subst (λ (b : Bool). AreLeft b settled.name c.perform-reply.new.members.items final) (ends_it c) c.put_back.ensures.members)) in
+    let events = turn_events t (ran c) close (answer_in (old c) (came c).name (ran c) c.args.close) in
+    let longer : length (history c) ≡ length (old c).history + length events = ap length (told c) ∙ length-append (old c).history events in
+    let some = some_events (old c).script t (ran c) close (answer_in (old c) (came c).name (ran c) c.args.close) (private_in (old c) t) 0 (may_be c).lines in
+    let pool_is = c.put_back.ensures.pool ∙ ap (λ (b : Bool). pool_after b settled.lease pool) (ends_it c) in
+    let many : length final ≡ length members = c.put_back.ensures.each ∙ ap length c.perform-reply.ensures.members ∙ members_length t c.find_deed-deed.result members in (
       subst (λ (home : List (Option Task)). IsBoard (record { script = script; history = history c; home = home; pool = c.put_back.new.pool; room = room })) (sym (homes c))
-          (board_back laws (old c) t cpu (ran c) close (may_be c) (came c) refl (home_is c) last members kept.each kept.member tasks after (did c) (history c) (past_is c) c.put_back.new.pool room c.put_back.ensures.pool c.tell_turn.ensures.capacity),
+          (board_back laws (old c) t cpu (ran c) close (may_be c) (came c) refl (home_is c) last members kept.each kept.member tasks after (did c) pool settled (settles_it c) (history c) (past_is c) c.put_back.new.pool room pool_is c.tell_turn.ensures.capacity (omega (arith, longer, some))),
       subst (λ (home : List (Option Task)). IsKeptBeside (record { script = script; history = history c; home = home; pool = c.put_back.new.pool; room = room }) c.put_back.new.ready.items (deque_capacity c.put_back.new.ready) c.put_back.new.living final) (sym (homes c))
-          (beside_same _ _ _ _ _ _ _ _ ready_is (c.put_back.ensures.capacity ∙ c.perform-answer.ensures.capacity) living_is
-          (beside_back laws (old c) t cpu (ran c) close (may_be c) (came c) refl (home_is c) last members kept.each kept.member tasks after (did c) (history c) (past_is c) c.put_back.new.pool room list (deque_capacity c.self.inside.ready) c.self.inside.living kept final are_left many)),
+          (beside_same _ _ _ _ _ _ _ _ ready_is (c.put_back.ensures.capacity ∙ c.perform-reply.ensures.capacity) living_is
+          (beside_back laws (old c) t cpu (ran c) close (may_be c) (came c) refl (home_is c) last members kept.each kept.member tasks after (did c) pool settled (settles_it c) (history c) (past_is c) c.put_back.new.pool room list (deque_capacity c.self.inside.ready) c.self.inside.living kept final are_left many)),
     )
 
 pub returns-clause-history : goal.returns-clause-history

@@ -1,11 +1,11 @@
 -- The board before its first event.
-use Rattle.std.proofs.Common.{◌≡◌, ◌≤◌, List, length, map, refl, ap, sym, subst, ◌∙◌, arith}
+use Rattle.std.proofs.Common.{◌≡◌, ◌≤◌, List, length, map, ap, sym, subst, ◌∙◌, arith}
 use Rattle.std.specs.Prelude.{vec_capacity}
 use Rattle.std.specs.VecDeque.{deque_capacity}
 use Rattle.xs_model.specs.declared.event.Event.{Event}
 use Rattle.xs_model.specs.declared.script.Block.{Block}
 use Rattle.xs_model.specs.Bound.{most_events, most_of}
-use Rattle.xs_pool.specs.Pool.{Pool}
+use Rattle.xs_pool.specs.Pool.{Pool, Stock}
 use Rattle.xs_board.specs.Board.{IsBoard, IsKeptBeside}
 use Rattle.xs_board.specs.Opening.{first_member, users_in, born_from, AreFirst}
 use Rattle.xs_board.proofs.Beginning.{bound_small, board_open, beside_open, born_few_all}
@@ -28,12 +28,13 @@ invariant_of-result c =
     let opened = c.in_ok-pool.ensures.opened in
     let most : most_events script ≤ room = omega (arith, c.most_events-room.ensures ∙ ap most_of blocks, c.in_ok-events.ensures.capacity) in (
       subst (λ (history : List Event). IsBoard (record { script = script; history = history; home = tasks; pool = pool; room = room })) (sym c.in_ok-events.ensures.items)
-          (board_open script tasks pool room c.requires.valid c.requires.built
+          (board_open script tasks pool room c.requires.valid
           (c.in_ok-tasks.ensures.count ∙ ap length blocks)
           (subst (λ (all : List Block). AreFirst script.layout all (length all) tasks) blocks c.in_ok-tasks.ensures.first)
           (c.in_ok-tasks.ensures.rows ∙ ap (λ (p : Pool). p.rows) opened)
           (c.in_ok-tasks.ensures.out ∙ ap users_in blocks)
-          (c.in_ok-tasks.ensures.large ∙ ap (λ (p : Pool). p.large.out) opened)
+          (ap (λ (s : Stock). s.out) c.in_ok-tasks.ensures.large ∙ ap (λ (p : Pool). p.large.out) opened)
+          (ap (λ (s : Stock). s.capacity) c.in_ok-tasks.ensures.large ∙ ap (λ (p : Pool). p.large.capacity) opened)
           (c.in_ok-tasks.ensures.given ∙ ap users_in blocks)
           most),
       subst (λ (history : List Event). IsKeptBeside (record { script = script; history = history; home = tasks; pool = pool; room = room }) queue.items (deque_capacity queue) c.len-living.result members) (sym c.in_ok-events.ensures.items)
