@@ -167,7 +167,7 @@ held_same old new p q file armed same held = rw same (record { file = rw file he
 
 module _ {B : Type 0} (script : Script) (i t : ℕ) (old new : Board) (p : PrivateTask) (task : Task) (cpu : Cpu B) (before bank : banks.Bank)
     (left : HasLeft script t i (past_of old) (past_of new) before p task cpu bank)
-    (old_is : old.script ≡ script) (new_is : new.script ≡ script) (leaves : LeavesBlocks script t old new) (same_file : (private_in new t).file ≡ p.file) (same_class : (private_in new t).large ≡ p.large)
+    (old_is : old.script ≡ script) (new_is : new.script ≡ script) (leaves : LeavesBlocks script t old new) (same_file : (private_in new t).file ≡ p.file) (same_class : last script (past_of new) t ≡ Some i → (private_in new t).large ≡ p.large)
     (latest : told.file_after script (past_of new) i t ≡ told.file_of (slice_get (machine_in new).blocks t))
     (was : IsTold script old i before)
     (held : (u : ℕ) → mark script (past_of old) i ≡ Some u → last script (past_of old) u ≡ Some i → Holds before (private_in old u)) where
@@ -189,7 +189,8 @@ module _ {B : Type 0} (script : Script) (i t : ℕ) (old new : Board) (p : Priva
   holds_home u is last = elim (cases_Bool (is_user script t)) [
     | inl user ↦
         let own = left.own user u is in
-        rw own.0 (record { file = rw same_file own.1.file; armed = rw (same_file, same_class) own.1.armed })
+        let class = same_class (rw own.0 at last) in
+        rw own.0 (record { file = rw same_file own.1.file; armed = rw (same_file, class) own.1.armed })
     | inr kernel ↦
         let alien = left.alien kernel u is in
         let ne = no_mark script (past_of new) i t u kernel is in

@@ -1,5 +1,5 @@
 -- A command of a user task whose registers are in the bank.
-use Rattle.std.proofs.Common.{◌≡◌, ℕ, zero, suc, ◌+◌, ◌<◌, ◌≤◌, ◌^◌, Bool, true, false, ◌&&◌, nat_le, List, [], ◌∷◌, length, Some, None, if◌then◌else◌, refl, sym, ap, ◌∙◌, inl, inr, arith}
+use Rattle.std.proofs.Common.{◌≡◌, ℕ, zero, suc, ◌+◌, ◌<◌, ◌≤◌, ◌^◌, Bool, true, false, not, ◌&&◌, ◌||◌, ◌==◌, nat_le, List, [], ◌∷◌, length, Option, Some, None, if◌then◌else◌, refl, sym, ap, subst, ◌∙◌, inl, inr, arith}
 use Rattle.std.proofs.lemmas.Bool.{and_parts, cases_Bool, cases_eq, cases_lt, leb-true}
 use Rattle.std.proofs.lemmas.List.{get_or_past}
 use Rattle.std.proofs.Math.ListN.{length-set}
@@ -10,7 +10,11 @@ use Rattle.xs_base.specs.declared.component.Row.{Row}
 use Rattle.xs_base.specs.declared.component.Place.{Place}
 use Rattle.xs_base.specs.Bytes.{splice}
 use Rattle.xs_base.specs.File.{File, IsFile, is_mxcsr, part, with_part, write_place}
-use Rattle.xs_base.specs.Register.{IsRegister, place_of}
+use Rattle.xs_base.specs.declared.words.Errno.{Errno}
+use Rattle.xs_base.specs.Layout.{has_row}
+use Rattle.xs_base.specs.Register.{IsNamed, IsRegister, place_of}
+use Rattle.xs_base.specs.Tile.{released_file}
+use Rattle.xs_base.proofs.ValidLemmas.{permitted_is_private, released_is_private}
 use Rattle.xs_base.specs.Task.{PrivateTask, IsPrivateTask, frame_length, buffer_length}
 use Rattle.xs_base.specs.Trail.{read_numbers, write_numbers}
 use Rattle.xs_base.proofs.FileLemmas.{part_here, part_other, with_control, write_is_file}
@@ -20,12 +24,12 @@ use Rattle.xs_bank.specs.Bank.{IsReady, counts_of}
 use Rattle.xs_bank.specs.Holds.{Holds}
 use Rattle.xs_model.specs.declared.script.Command.TheVariants as commands
 use Rattle.xs_model.specs.Counts.{exec_of, is_pkru}
-use Rattle.xs_model.specs.Line.{next_line, local_after}
-use Rattle.xs_model.specs.Script.{IsCommand, IsBuiltName, fits_memory}
+use Rattle.xs_model.specs.Line.{asked, next_line, traps}
+use Rattle.xs_model.specs.Script.{IsCommand, fits_memory}
 use Rattle.xs_task.specs.declared.task.Task.{Task}
-use Rattle.xs_task.specs.Private.{private_of}
-use Rattle.xs_machine.specs.Line.{IsOn, IsUserOn, after_get, after_set}
-use Rattle.xs_machine.proofs.BuiltRegisters.{built_place, built_not_tiles, pkru_place, pkru_written, register_of, set_length, set_control}
+use Rattle.xs_task.specs.Private.{HasForm, private_of}
+use Rattle.xs_machine.specs.Line.{IsOn, IsUserOn, after_get, after_set, in_place}
+use Rattle.xs_machine.proofs.RegisterLemmas.{pkru_place, pkru_written, register_of, set_length, set_control}
 
 -- ---- the file after a write
 
@@ -50,9 +54,14 @@ part_bytes file c bytes small all d k = elim (cases_eq d c) [
 ]
 
 -- A task whose register is set to bytes that fit it stays a valid one.
-module _ (rows : List Row) (task : PrivateTask) (reg bytes : List ℕ) (valid : IsPrivateTask rows task) (known : IsCommand rows (commands.Set reg bytes)) (built : IsBuiltName reg) where
-  place : Place
-  place = place_of reg
+module _ (rows : List Row) (task : PrivateTask) (reg bytes : List ℕ) (valid : IsPrivateTask rows task) (known : IsCommand rows (commands.Set reg bytes)) (free : traps task (commands.Set reg bytes) ≡ false) where
+  -- without room for TILEDATA it isn't a register of it
+  not_tiles : task.large ≡ false → (place_of reg).comp.0 ≡ 18 → ⊥
+  not_tiles small is =
+      let row : has_row task.file.rows 18 ≡ true = rw valid.file.rows_are (subst (λ (c : ℕ). has_row rows c ≡ true) is (register_of rows reg known.0 (known.1.0, known.1.1)).1) in
+      let plain : (has_row task.file.rows 18 && not task.large && (((place_of reg).comp.0 == 18) || (true && ((place_of reg).comp.0 == 17)))) ≡ false = free in
+      let no : true ≡ false = rw (row, small, is) at plain in
+      cc no
 
   file_bytes : AreBytes bytes
   file_bytes = byte_at bytes known.3
@@ -84,7 +93,7 @@ module _ (rows : List Row) (task : PrivateTask) (reg bytes : List ℕ) (valid : 
             bytes = part_bytes task.file (place_of reg).comp.0 (splice (place_of reg).offset bytes (part task.file (place_of reg).comp.0)) (splice_are (place_of reg).offset bytes (part task.file (place_of reg).comp.0) file_bytes (valid.file.bytes (place_of reg).comp.0)) valid.file.bytes;
             control = valid.file.control;
           };
-          tiles_are = λ small. part_other task.file (place_of reg).comp.0 18 (splice (place_of reg).offset bytes (part task.file (place_of reg).comp.0)) (λ e. built_not_tiles (place_of reg) (built_place reg built) (sym e)) ∙ valid.tiles_are small;
+          tiles_are = λ small. part_other task.file (place_of reg).comp.0 18 (splice (place_of reg).offset bytes (part task.file (place_of reg).comp.0)) (λ e. not_tiles small (sym e)) ∙ valid.tiles_are small;
           frame_size = valid.frame_size;
           frame_bytes = valid.frame_bytes;
           buffer_size = valid.buffer_size;
@@ -102,11 +111,11 @@ module _ (old new : banks.Bank) (reg bytes : List ℕ) (after : new ≡ after_se
   set_armed : new.armed ≡ old.armed
   set_armed = elim (cases_Bool (is_pkru (place_of reg))) [ inl nine ↦ rw (after, nine) refl | inr other ↦ rw (after, other) refl ]
 
-  set_file : IsFile old.file → IsBuiltName reg → length bytes ≡ (place_of reg).len → AreBytes bytes → new.file ≡ write_place old.file (place_of reg) bytes
-  set_file good built len small = elim (cases_Bool (is_pkru (place_of reg))) [
+  set_file : IsFile old.file → (place : Place) → IsNamed reg place → length bytes ≡ (place_of reg).len → AreBytes bytes → new.file ≡ write_place old.file (place_of reg) bytes
+  set_file good place named len small = elim (cases_Bool (is_pkru (place_of reg))) [
     | inl nine ↦
-        let four : length bytes ≡ 4 = len ∙ ap (λ (p : Place). p.len) (pkru_place reg built nine) in
-        rw (after, nine) (pkru_written old.file reg bytes good built nine four small)
+        let four : length bytes ≡ 4 = len ∙ ap (λ (p : Place). p.len) (pkru_place reg place named nine) in
+        rw (after, nine) (pkru_written old.file reg bytes good place named nine four small)
     | inr other ↦ rw (after, other) refl
   ]
 
@@ -144,43 +153,65 @@ pub advanced : (user : Bool) (rows : List Row) (task : Task) (bank : banks.Bank)
 advanced true rows task bank p on = next_on rows task bank p (record task { place = task.place + 1 }) refl on
 advanced false rows task bank p on = record { home = record { lease = on.home.lease; frame = on.home.frame; buffer = on.home.buffer; place = ap (λ n. n + 1) on.home.place }; outside = on.outside; pkru = on.pkru }
 
--- A register of the task in the bank is set.
-module _ (rows : List Row) (task : Task) (old new : banks.Bank) (reg bytes : List ℕ) (known : IsCommand rows (commands.Set reg bytes)) (built : IsBuiltName reg) (loaded : task.need_load ≡ false)
-    (after : new ≡ after_set old (place_of reg) bytes)
-    (ready : (id m : ℕ) (area : List ℕ) → IsReady old id m area → IsReady new id m area)
-    (p : PrivateTask) (on : IsUserOn rows task old (next_line p)) where
-  file_is : new.file ≡ write_place p.file (place_of reg) bytes
-  file_is =
-      let was : old.file ≡ p.file = on.running.whole loaded in
-      set_file old new reg bytes after (rw was on.running.valid.file.is_file) built (set_length rows reg bytes known) (byte_at bytes known.3) ∙ ap (λ f. write_place f (place_of reg) bytes) was
-
-  armed_is : new.armed ≡ old.armed
-  armed_is = set_armed old new reg bytes after
-
-  pub set_on : IsUserOn rows task new (local_after p (commands.Set reg bytes))
-  set_on = record {
+-- The file of the task in the bank has changed, as the bank's has.
+module _ (rows : List Row) (task : Task) (old new : banks.Bank) (file : File) (loaded : task.need_load ≡ false)
+    (file_is : new.file ≡ file) (armed_is : new.armed ≡ old.armed) (ready : (id m : ℕ) (area : List ℕ) → IsReady old id m area → IsReady new id m area)
+    (p : PrivateTask) (on : IsUserOn rows task old p) where
+  changed_on : IsPrivateTask rows (record p { file = file }) → IsUserOn rows task new (record p { file = file })
+  changed_on valid = record {
     whole = on.whole;
     ready = λ _ lease is. record { armed = armed_is ∙ (on.ready loaded lease is).armed; ready = ready _ _ _ (on.ready loaded lease is).ready };
     running = record {
-      valid = set_is_private rows (next_line p) reg bytes on.running.valid known built;
-      form = ap (λ (q : PrivateTask). record q { file = write_place p.file (place_of reg) bytes }) on.running.form;
+      valid = valid;
+      form = ap (λ (q : PrivateTask). record q { file = file }) on.running.form;
       pkru = ap (λ f. part f 9) file_is;
       saved = λ needs. absurd (cc);
       whole = λ _. file_is;
     };
   }
 
-  pub set_holds : Holds old p → Holds new (local_after p (commands.Set reg bytes))
-  set_holds holds = record {
+  changed_holds : file.rows ≡ p.file.rows → Holds old p → Holds new (record p { file = file })
+  changed_holds same holds = record {
     file = rw file_is (record { rows_are = refl; parts = λ c apart. refl; control = refl });
-    armed = rw (armed_is, write_rows p.file (place_of reg) bytes) holds.armed;
+    armed = rw (armed_is, same) holds.armed;
   }
+
+-- A register of the task in the bank is set.
+module _ (rows : List Row) (task : Task) (old new : banks.Bank) (reg bytes : List ℕ) (known : IsCommand rows (commands.Set reg bytes)) (loaded : task.need_load ≡ false)
+    (after : new ≡ after_set old (place_of reg) bytes)
+    (ready : (id m : ℕ) (area : List ℕ) → IsReady old id m area → IsReady new id m area)
+    (p : PrivateTask) (on : IsUserOn rows task old p) where
+  file_is : new.file ≡ write_place p.file (place_of reg) bytes
+  file_is =
+      let was : old.file ≡ p.file = on.running.whole loaded in
+      set_file old new reg bytes after (rw was on.running.valid.file.is_file) known.0 known.1.0 (set_length rows reg bytes known) (byte_at bytes known.3) ∙ ap (λ f. write_place f (place_of reg) bytes) was
+
+  pub set_on : traps p (commands.Set reg bytes) ≡ false → IsUserOn rows task new (in_place p (commands.Set reg bytes))
+  set_on free =
+      changed_on rows task old new (write_place p.file (place_of reg) bytes) loaded file_is (set_armed old new reg bytes after) ready p on (set_is_private rows p reg bytes on.running.valid known free)
+
+  pub set_holds : Holds old p → Holds new (in_place p (commands.Set reg bytes))
+  set_holds =
+      changed_holds rows task old new (write_place p.file (place_of reg) bytes) loaded file_is (set_armed old new reg bytes after) ready p on (write_rows p.file (place_of reg) bytes)
+
+-- The tiles of the task in the bank are released.
+module _ (rows : List Row) (task : Task) (old new : banks.Bank) (loaded : task.need_load ≡ false)
+    (file : new.file ≡ released_file old.file) (armed : new.armed ≡ old.armed) (ready : (id m : ℕ) (area : List ℕ) → IsReady old id m area → IsReady new id m area)
+    (p : PrivateTask) (on : IsUserOn rows task old p) where
+  released_is : new.file ≡ released_file p.file
+  released_is = file ∙ ap released_file (on.running.whole loaded)
+
+  pub release_on : IsUserOn rows task new (in_place p commands.Tilerelease)
+  release_on = changed_on rows task old new (released_file p.file) loaded released_is armed ready p on (released_is_private rows p on.running.valid)
+
+  pub release_holds : Holds old p → Holds new (in_place p commands.Tilerelease)
+  release_holds = changed_holds rows task old new (released_file p.file) loaded released_is armed ready p on refl
 
 -- A register of the task in the bank is read.
 module _ (rows : List Row) (task : Task) (old new : banks.Bank) (reg bytes : List ℕ) (loaded : task.need_load ≡ false)
     (after : new ≡ after_get old (place_of reg) bytes)
-    (p : PrivateTask) (on : IsUserOn rows task old (next_line p)) where
-  pub read_on : IsUserOn rows task new (next_line p)
+    (p : PrivateTask) (on : IsUserOn rows task old p) where
+  pub read_on : IsUserOn rows task new p
   read_on = elim (cases_Bool (is_pkru (place_of reg))) [
     | inl nine ↦ rw (after, nine) on
     | inr other ↦
@@ -197,11 +228,46 @@ module _ (rows : List Row) (task : Task) (old new : banks.Bank) (reg bytes : Lis
         })
   ]
 
-  pub read_holds : Holds old p → Holds new (next_line p)
+  pub read_holds : Holds old p → Holds new p
   read_holds holds = elim (cases_Bool (is_pkru (place_of reg))) [
     | inl nine ↦ rw (after, nine) (record { file = holds.file; armed = holds.armed })
     | inr other ↦ rw (after, other) (record { file = holds.file; armed = holds.armed })
   ]
+
+-- ---- leave to use TILEDATA
+
+-- a request leaves the place, the handler, the registers and the room
+pub asked_same : (error : Option Errno) (p : PrivateTask) → ((asked error p).place ≡ p.place) × ((asked error p).handling ≡ p.handling) × ((asked error p).file ≡ p.file) × ((asked error p).large ≡ p.large)
+asked_same None p = (refl, refl, refl, refl)
+asked_same (Some error) p = (refl, refl, refl, refl)
+
+asked_valid : (rows : List Row) (error : Option Errno) (p : PrivateTask) → IsPrivateTask rows p → IsPrivateTask rows (asked error p)
+asked_valid rows None p valid = permitted_is_private rows p valid
+asked_valid rows (Some error) p valid = valid
+
+-- The task in the bank has asked.
+pub ask_on : (rows : List Row) (task new_task : Task) (bank : banks.Bank) (error : Option Errno) (p : PrivateTask) → new_task ≡ record task { permitted = new_task.permitted } → HasForm new_task (asked error p) → IsUserOn rows task bank p
+    → IsUserOn rows new_task bank (asked error p)
+ask_on rows task new_task bank error p rest form on =
+    let same = asked_same error p in
+    let lease : new_task.lease ≡ task.lease = ap (λ (x : Task). x.lease) rest in
+    let flag : new_task.need_load ≡ task.need_load = ap (λ (x : Task). x.need_load) rest in
+    record {
+      whole = record {
+        frame = ap (λ (x : Task). length x.frame.items) rest ∙ on.whole.frame;
+        buffer = ap (λ (x : Task). length x.buffer.items) rest ∙ on.whole.buffer;
+        some = λ none. on.whole.some (sym lease ∙ none);
+        area = λ area is. on.whole.area area (sym lease ∙ is);
+      };
+      ready = λ off area is. on.ready (sym flag ∙ off) area (sym lease ∙ is);
+      running = record {
+        valid = asked_valid rows error p on.running.valid;
+        form = form;
+        pkru = on.running.pkru ∙ ap (λ f. part f 9) (sym same.2);
+        saved = λ off area is. rw same.2 (on.running.saved (sym flag ∙ off) area (sym lease ∙ is));
+        whole = λ off. on.running.whole (sym flag ∙ off) ∙ sym same.2;
+      };
+    }
 
 -- ---- the two memories
 
@@ -216,21 +282,21 @@ fits_within size at len fits =
 module _ (rows : List Row) (task new_task : Task) (bank : banks.Bank) (frame buffer : List ℕ)
     (others : new_task ≡ record task { frame = new_task.frame; buffer = new_task.buffer }) (frame_is : new_task.frame.items ≡ frame) (buffer_is : new_task.buffer.items ≡ buffer)
     (frame_size : length new_task.frame.items ≡ frame_length) (buffer_size : length new_task.buffer.items ≡ buffer_length) (frame_bytes : AreBytes frame) (buffer_bytes : AreBytes buffer)
-    (p : PrivateTask) (on : IsUserOn rows task bank (next_line p)) where
+    (p : PrivateTask) (on : IsUserOn rows task bank p) where
   lease_is : new_task.lease ≡ task.lease
   lease_is = ap (λ (x : Task). x.lease) others
 
   flag_is : new_task.need_load ≡ task.need_load
   flag_is = ap (λ (x : Task). x.need_load) others
 
-  memories_form : record (next_line p) { frame = frame; buffer = buffer } ≡ private_of new_task p.file p.marks
+  memories_form : record p { frame = frame; buffer = buffer } ≡ private_of new_task p.file p.marks
   memories_form =
       ap (λ (q : PrivateTask). record q { frame = frame; buffer = buffer }) on.running.form
       ∙ ap (λ (f : List ℕ). record (private_of task p.file p.marks) { frame = f; buffer = buffer }) (sym frame_is)
       ∙ ap (λ (b : List ℕ). record (private_of task p.file p.marks) { frame = new_task.frame.items; buffer = b }) (sym buffer_is)
       ∙ sym (ap (λ (x : Task). private_of x p.file p.marks) others)
 
-  memories_on : IsUserOn rows new_task bank (record (next_line p) { frame = frame; buffer = buffer })
+  memories_on : IsUserOn rows new_task bank (record p { frame = frame; buffer = buffer })
   memories_on = record {
     whole = record {
       frame = frame_size;
@@ -256,7 +322,7 @@ module _ (rows : List Row) (task new_task : Task) (bank : banks.Bank) (frame buf
   }
 
 -- Bytes of the frame are written, or bytes of the buffer.
-module _ (rows : List Row) (task new_task : Task) (bank : banks.Bank) (at : ℕ) (bytes : List ℕ) (p : PrivateTask) (on : IsUserOn rows task bank (next_line p)) where
+module _ (rows : List Row) (task new_task : Task) (bank : banks.Bank) (at : ℕ) (bytes : List ℕ) (p : PrivateTask) (on : IsUserOn rows task bank p) where
   frame_was : task.frame.items ≡ p.frame
   frame_was = sym (ap (λ (q : PrivateTask). q.frame) on.running.form)
 
@@ -264,7 +330,7 @@ module _ (rows : List Row) (task new_task : Task) (bank : banks.Bank) (at : ℕ)
   buffer_was = sym (ap (λ (q : PrivateTask). q.buffer) on.running.form)
 
   pub poke_on : IsCommand rows (commands.Poke at bytes) → new_task ≡ record task { frame = new_task.frame } → new_task.frame.items ≡ splice at bytes task.frame.items → length new_task.frame.items ≡ length task.frame.items
-      → IsUserOn rows new_task bank (local_after p (commands.Poke at bytes))
+      → IsUserOn rows new_task bank (in_place p (commands.Poke at bytes))
   poke_on known others written len =
       let kept = ap (λ (x : Task). x.buffer) others in
       memories_on rows task new_task bank (splice at bytes p.frame) p.buffer
@@ -272,7 +338,7 @@ module _ (rows : List Row) (task new_task : Task) (bank : banks.Bank) (at : ℕ)
       (len ∙ on.whole.frame) (ap (λ b. length b.items) kept ∙ on.whole.buffer) (splice_are at bytes p.frame (byte_at bytes known.1) on.running.valid.frame_bytes) on.running.valid.buffer_bytes p on
 
   pub bpoke_on : IsCommand rows (commands.Bpoke at bytes) → new_task ≡ record task { buffer = new_task.buffer } → new_task.buffer.items ≡ splice at bytes task.buffer.items → length new_task.buffer.items ≡ length task.buffer.items
-      → IsUserOn rows new_task bank (local_after p (commands.Bpoke at bytes))
+      → IsUserOn rows new_task bank (in_place p (commands.Bpoke at bytes))
   bpoke_on known others written len =
       let kept = ap (λ (x : Task). x.frame) others in
       memories_on rows task new_task bank p.frame (splice at bytes p.buffer)

@@ -1,6 +1,6 @@
 -- An entry of the schedule: what its turn leaves.
-use Rattle.std.proofs.Common.{◌≡◌, ℕ, Bool, true, false, List, [], ◌∷◌, ◌++◌, ◌<◌, length, reverse, Option, Some, None, if◌then◌else◌, slice_get, refl, sym, ap, ◌∙◌, subst}
-use Rattle.std.proofs.lemmas.Bool.{ne_eqb}
+use Rattle.std.proofs.Common.{◌≡◌, ℕ, Bool, true, false, List, [], ◌∷◌, ◌++◌, ◌<◌, length, reverse, Option, Some, None, if◌then◌else◌, is_none, not, nat_lt, slice_get, refl, sym, ap, ◌∙◌, inl, inr, subst}
+use Rattle.std.proofs.lemmas.Bool.{cases_Bool, ne_eqb}
 use Rattle.std.proofs.lemmas.List.{reverse-append}
 use Rattle.xs_base.specs.declared.component.Row.{Row}
 use Rattle.xs_base.specs.declared.words.How.TheVariants as hows
@@ -12,11 +12,14 @@ use Rattle.xs_bank.specs.Bank as banks
 use Rattle.xs_model.specs.declared.event.Event.{Event}
 use Rattle.xs_model.specs.declared.event.Event.TheVariants as events
 use Rattle.xs_model.specs.declared.event.Reply.{Reply}
+use Rattle.xs_model.specs.declared.event.Why.{Why}
+use Rattle.xs_model.specs.declared.event.Why.TheVariants.{Permission, Area}
 use Rattle.xs_model.specs.declared.script.Command.{Command}
 use Rattle.xs_model.specs.declared.script.Command.TheVariants as commands
 use Rattle.xs_model.specs.declared.script.Script.{Script}
 use Rattle.xs_model.specs.declared.stage.Stage.TheVariants as stages
 use Rattle.xs_model.specs.Counts as told
+use Rattle.xs_model.specs.Due.{large_count}
 use Rattle.xs_model.specs.History.{IsLegal}
 use Rattle.xs_model.specs.Laws.{KeepsBlock, OthersKeep, ThreadsQuiet, TurnsKnown}
 use Rattle.xs_model.specs.Line.{next_line}
@@ -35,11 +38,13 @@ use Rattle.xs_board.specs.Board.{Board, past_of, machine_in, stage_in, private_i
 use Rattle.xs_board.specs.Board as boards
 use Rattle.xs_board.specs.Home.{IsHome}
 use Rattle.xs_board.specs.Taken.{is_user_how, IsTurnOf}
-use Rattle.xs_board.specs.Turn.{AreLines, filled_by, line_closed, task_after, task_closed, task_handed, turn_events}
-use Rattle.xs_machine.specs.Line.{KeepsCpu}
+use Rattle.xs_board.specs.Turn.{Answer, AreLines, filled_by, line_closed, past_with, task_after, task_closed, task_handed, trap_closed, trap_end, trap_fate, turn_events}
+use Rattle.xs_machine.specs.Line.{Halted, KeepsCpu}
 use Rattle.xs_machine.specs.Processors.{KeepsProcessor}
 use Rattle.xs_machine.specs.Running.{IsRun, IsAt, LeavesOthers, MayBegin, Begun}
-use Rattle.xs_machine.specs.Turn.{Continues, HasLeft, SomeRunning, past_after}
+use Rattle.xs_machine.specs.Turn.{Continues, HasLeft, SomeRunning, may_be_fate, past_after}
+use Rattle.xs_machine.proofs.Histories.{last_grown}
+use Rattle.xs_machine.proofs.LineLemmas.{past_trap}
 use Rattle.xs_machine.proofs.BoardLemmas.{LeavesBlocks, on_cpu, came_home, leaves_others, start_continues, begun_at, start_running}
 use Rattle.xs_machine.proofs.ScriptLemmas.{turn_known}
 
@@ -65,6 +70,12 @@ keeps_bank {B} old new keeps = record {
   initial = ap (λ (x : Cpu B). x.initial) keeps;
 }
 
+-- where a line didn't run
+pub keeps_halted : {B : Type 0} (user : Bool) (command : Command) (close : Close) (old new : Task) (before after : Cpu B) (bank_before bank_after : banks.Bank) → Halted user command close old new before after bank_before bank_after → KeepsProcessor before after
+keeps_halted user command (closes.Refused error) old new before after bank_before bank_after halted = keeps_cpu before after halted.cpu
+keeps_halted user command closes.Trap old new before after bank_before bank_after halted = keeps_bank before after halted.cpu
+keeps_halted user command other old new before after bank_before bank_after halted = absurd halted
+
 -- ---- a turn comes back
 
 -- the first of a turn's lines may run
@@ -87,48 +98,76 @@ known_home script board turn cpu bank run at count name is =
     let known = turn_known script (past_of board) turn.task.name turn.cpu 0 count stage in
     subst (λ (u : ℕ). u < length script.blocks) (sym is) known
 
--- what a close leaves of a private task's registers is what was handed over
-record KeepsRegisters (new old : PrivateTask) : Type 0 where
+-- what a close leaves of a private task's registers is what was handed over, and its room too where it doesn't grow
+record KeepsRegisters (grows : Bool) (new old : PrivateTask) : Type 0 where
   file : new.file ≡ old.file
-  large : new.large ≡ old.large
+  large : grows ≡ false → new.large ≡ old.large
 
-same_registers : (p : PrivateTask) → KeepsRegisters p p
-same_registers p = record { file = refl; large = refl }
+same_registers : (p : PrivateTask) → KeepsRegisters false p p
+same_registers p = record { file = refl; large = λ _. refl }
 
 -- also where it puts a register set into its buffer, and where it waits
-left_registers : (command : Command) (reply : Reply) (p : PrivateTask) → KeepsRegisters (task_left command reply p) p
+left_registers : (command : Command) (reply : Reply) (p : PrivateTask) → KeepsRegisters false (task_left command reply p) p
 left_registers (commands.Wait name) reply p = by_blocked (is_blocked reply)
   where
-    by_blocked : (b : Bool) → KeepsRegisters (if b then p else next_line p) p
-    by_blocked true = record { file = refl; large = refl }
-    by_blocked false = record { file = refl; large = refl }
-left_registers other reply p = record { file = refl; large = refl }
+    by_blocked : (b : Bool) → KeepsRegisters false (if b then p else next_line p) p
+    by_blocked true = record { file = refl; large = λ _. refl }
+    by_blocked false = record { file = refl; large = λ _. refl }
+left_registers other reply p = record { file = refl; large = λ _. refl }
 
-with_same : (set : Set) (child : Option BlockState) (p : PrivateTask) → KeepsRegisters (with_registers set child p) p
+with_same : (set : Set) (child : Option BlockState) (p : PrivateTask) → KeepsRegisters false (with_registers set child p) p
 with_same set None p = same_registers p
-with_same set (Some child) p = record { file = refl; large = refl }
+with_same set (Some child) p = record { file = refl; large = λ _. refl }
 
-filled_registers : (script : Script) (blocks : List BlockState) (command : Command) (reply : Reply) (p : PrivateTask) → KeepsRegisters (filled_by script blocks command reply p) p
+filled_registers : (script : Script) (blocks : List BlockState) (command : Command) (reply : Reply) (p : PrivateTask) → KeepsRegisters false (filled_by script blocks command reply p) p
 filled_registers script blocks (commands.Getregs name set) reply p = by_count (is_count reply)
   where
-    by_count : (b : Bool) → KeepsRegisters (if b then with_registers set (slice_get blocks (block_named script name)) p else p) p
+    by_count : (b : Bool) → KeepsRegisters false (if b then with_registers set (slice_get blocks (block_named script name)) p else p) p
     by_count true = with_same set (slice_get blocks (block_named script name)) p
     by_count false = same_registers p
 filled_registers script blocks other reply p = same_registers p
 
-line_registers : (script : Script) (blocks : List BlockState) (command : Option Command) (reply : Reply) (p : PrivateTask) → KeepsRegisters (line_closed script blocks command reply p) p
+line_registers : (script : Script) (blocks : List BlockState) (command : Option Command) (reply : Reply) (p : PrivateTask) → KeepsRegisters false (line_closed script blocks command reply p) p
 line_registers script blocks None reply p = same_registers p
 line_registers script blocks (Some command) reply p =
     let filled = filled_registers script blocks command reply p in
     let left = left_registers command reply (filled_by script blocks command reply p) in
-    record { file = left.file ∙ filled.file; large = left.large ∙ filled.large }
+    record { file = left.file ∙ filled.file; large = λ same. left.large same ∙ filled.large same }
 
-closed_registers : (script : Script) (blocks : List BlockState) (t : ℕ) (close : Close) (reply : Reply) (p : PrivateTask) → KeepsRegisters (task_closed script blocks t close reply p) (task_handed close p)
-closed_registers script blocks t closes.Quantum reply p = same_registers p
-closed_registers script blocks t closes.Yield reply p = same_registers p
-closed_registers script blocks t (closes.Outer line) reply p = line_registers script blocks (command_at script t line) reply p
-closed_registers script blocks t (closes.Refused error) reply p = same_registers (record p { file = refused_file p })
-closed_registers script blocks t closes.End reply p = same_registers p
+-- a line that traps makes the task grow, where it doesn't kill it
+abbrev grows_by : Close → Option Why → Bool
+grows_by closes.Trap fate = is_none fate
+grows_by other fate = false
+
+trap_registers : (fate : Option Why) (p : PrivateTask) → KeepsRegisters (is_none fate) (trap_closed fate p) p
+trap_registers None p = record { file = refl; large = λ no. absurd (cc) }
+trap_registers (Some why) p = record { file = refl; large = λ _. refl }
+
+closed_registers : (script : Script) (blocks : List BlockState) (t : ℕ) (close : Close) (answer : Answer) (p : PrivateTask) → KeepsRegisters (grows_by close answer.fate) (task_closed script blocks t close answer p) (task_handed close p)
+closed_registers script blocks t closes.Quantum answer p = same_registers p
+closed_registers script blocks t closes.Yield answer p = same_registers p
+closed_registers script blocks t (closes.Outer line) answer p = line_registers script blocks (command_at script t line) answer.reply p
+closed_registers script blocks t (closes.Refused error) answer p = same_registers (record p { file = refused_file p })
+closed_registers script blocks t closes.Trap answer p = trap_registers answer.fate p
+closed_registers script blocks t closes.End answer p = same_registers p
+
+-- After a Grow the block has no last processor.
+grown_home : (script : Script) (t : ℕ) (items : List Entry) (close : Close) (answer : Answer) (past : List Event) (i : ℕ) → grows_by close answer.fate ≡ true → last script (past_after t items close answer past) t ≡ Some i → ⊥
+grown_home script t items closes.Trap answer past i grows home = by_fate answer.fate grows (ap (λ (told_events : List Event). last script told_events t) (sym (past_trap t items answer past)) ∙ home)
+  where
+    by_fate : (fate : Option Why) → is_none fate ≡ true → last script (trap_end t fate ∷ past_with t items past) t ≡ Some i → ⊥
+    by_fate None grows home = let no : Some i ≡ None = sym home ∙ last_grown script (past_with t items past) t in cc no
+    by_fate (Some why) grows home = cc grows
+grown_home script t items other answer past i grows home = cc grows
+
+-- What the board answers to a trap is no frame's kill.
+pub fate_fits : (script : Script) (blocks : List BlockState) (p : PrivateTask) → may_be_fate (trap_fate script blocks p) ≡ true
+fate_fits script blocks p = by_two (not p.permitted) (nat_lt (large_count blocks) script.large)
+  where
+    by_two : (a b : Bool) → may_be_fate (if a then Some Permission else if b then None else Some Area) ≡ true
+    by_two true b = refl
+    by_two false true = refl
+    by_two false false = refl
 
 -- a turn is on one processor
 two_cpus : (d i : ℕ) → stages.Turn d 0 ≡ stages.Turn i 0 → d ≡ i
@@ -138,7 +177,6 @@ two_cpus d i same = cc
 run_more : (script : Script) (old new : Board) → IsRun script old → new.script ≡ old.script → IsLegal new.script new.history → IsRun script new
 run_more script old new run same legal = record {
   valid = run.valid;
-  built = run.built;
   script_is = same ∙ run.script_is;
   legal = subst (λ (s : Script). IsLegal s new.history) (same ∙ run.script_is) legal;
 }
@@ -187,14 +225,21 @@ module _ {B : Type 0} (script : Script) (old : Board) (turn : Turn) (task : Task
     private_new : private_in new turn.task.name ≡ private_closed old turn.task.name items close
     private_new = ap (private_in new) (sym left.name) ∙ private ∙ ap (λ (u : ℕ). private_closed old u items close) left.name
 
-    registers_new : KeepsRegisters (private_in new turn.task.name) (task_handed close (task_after script turn.task.name (private_in old turn.task.name) items))
+    registers_new : KeepsRegisters (grows_by close (answer_in old turn.task.name items close).fate) (private_in new turn.task.name) (task_handed close (task_after script turn.task.name (private_in old turn.task.name) items))
     registers_new =
         let closed = closed_registers old.script (blocks_with old turn.task.name items) turn.task.name close (answer_in old turn.task.name items close) (private_with old turn.task.name items) in
         let handed = ap (λ (s : Script). task_handed close (task_after s turn.task.name (private_in old turn.task.name) items)) run.script_is in
         record {
           file = ap (λ (p : PrivateTask). p.file) private_new ∙ closed.file ∙ ap (λ (p : PrivateTask). p.file) handed;
-          large = ap (λ (p : PrivateTask). p.large) private_new ∙ closed.large ∙ ap (λ (p : PrivateTask). p.large) handed;
+          large = λ same. ap (λ (p : PrivateTask). p.large) private_new ∙ closed.large same ∙ ap (λ (p : PrivateTask). p.large) handed;
         }
+
+    -- and its room, where the processor is still its last one
+    class_new : last script (past_of new) turn.task.name ≡ Some turn.cpu → (private_in new turn.task.name).large ≡ (task_handed close (task_after script turn.task.name (private_in old turn.task.name) items)).large
+    class_new home = elim (cases_Bool (grows_by close (answer_in old turn.task.name items close).fate)) [
+      | inl grows ↦ absurd (grown_home script turn.task.name items close (answer_in old turn.task.name items close) (past_of old) turn.cpu grows (ap (λ (past : List Event). last script past turn.task.name) (sym past_new) ∙ home))
+      | inr stays ↦ registers_new.large stays
+    ]
 
     -- it is still one of a run
     pub run_home : IsRun script new
@@ -204,7 +249,7 @@ module _ {B : Type 0} (script : Script) (old : Board) (turn : Turn) (task : Task
     pub at_home : IsAt script new turn.cpu None new_cpu new_bank
     at_home =
         came_home script turn.cpu turn.task.name old new (task_handed close (task_after script turn.task.name (private_in old turn.task.name) items)) task new_cpu bank new_bank
-        left_new run.script_is script_new leaves registers_new.file registers_new.large
+        left_new run.script_is script_new leaves registers_new.file class_new
         (left_new.latest ∙ ap (λ (s : Script). told.file_of (slice_get (machine s (past_of new)).blocks turn.task.name)) (sym script_new))
         at.told_is at.processor.holds free
 

@@ -2,6 +2,7 @@
 use Rattle.std.proofs.Common.{◌≡◌, ℕ, Bool, true, false, ◌&&◌, ◌==◌, List, [], ◌∷◌, slice_get, Option, Some, None, if◌then◌else◌, refl, sym, ◌∙◌}
 use Rattle.std.proofs.lemmas.Bool.{ne_eqb, eq-eqb}
 use Rattle.xs_model.specs.declared.event.Event.{Event}
+use Rattle.xs_model.specs.declared.event.Event.TheVariants.{Grow}
 use Rattle.xs_model.specs.declared.script.Script.{Script}
 use Rattle.xs_model.specs.Counts as told
 use Rattle.xs_model.specs.Counts.{in_section, is_event_on, is_section_act, counted_by}
@@ -47,6 +48,13 @@ pub record IsClosing (act : Act) : Type 0 where
 pub plain_closes : IsClosing Plain
 plain_closes = record { within = refl; cpu = λ older. refl; section = refl; mark_is = λ user t older. refl }
 
+grows_mark : (user : Bool) (t : ℕ) (older : Option ℕ) → mark_after user t Grows older ≡ mark_after user t Plain older
+grows_mark true t older = refl
+grows_mark false t older = refl
+
+pub grows_closes : IsClosing Grows
+grows_closes = record { within = refl; cpu = λ older. refl; section = refl; mark_is = grows_mark }
+
 sets_mark : (u : ℕ) (user : Bool) (t : ℕ) (older : Option ℕ) → mark_after user t (Sets u) older ≡ mark_after user t Plain older
 sets_mark u true t older = refl
 sets_mark u false t older = refl
@@ -56,6 +64,10 @@ pub outer_closes : (target : Option ℕ) (accepted : Bool) → IsClosing (set_ac
 outer_closes None accepted = plain_closes
 outer_closes (Some u) true = record { within = refl; cpu = λ older. refl; section = refl; mark_is = sets_mark u }
 outer_closes (Some u) false = plain_closes
+
+-- after a Grow a block has no last processor
+pub last_grown : (script : Script) (past : List Event) (t : ℕ) → last script (Grow t ∷ past) t ≡ None
+last_grown script past t = rw (eq-eqb t t refl) refl
 
 -- ---- an event of block t that is on processor c
 

@@ -1,5 +1,7 @@
 -- Lemmas of the crate.
-pub mod BuiltRegisters
+pub mod RegisterLemmas
+pub mod TrapLemmas
+pub mod TileLemmas
 pub mod Commands
 pub mod RanLemmas
 pub mod SwitchLemmas

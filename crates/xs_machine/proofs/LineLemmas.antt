@@ -17,18 +17,18 @@ use Rattle.xs_model.specs.declared.script.Command.{Command}
 use Rattle.xs_model.specs.declared.script.Order.{Order}
 use Rattle.xs_model.specs.declared.script.Script.{Script}
 use Rattle.xs_model.specs.Due.{violation}
-use Rattle.xs_model.specs.Line.{frame_cause, local_after, traps}
+use Rattle.xs_model.specs.Line.{frame_cause, local_after}
 use Rattle.xs_model.specs.Machine.{goes_on, machine}
 use Rattle.xs_model.specs.Script.{command_at, is_outer, is_user, is_yield}
 use Rattle.xs_task.specs.declared.task.Task.{Task}
 use Rattle.xs_board.specs.declared.turn.Close.{Close}
-use Rattle.xs_board.specs.declared.turn.Close.TheVariants.{Quantum, Yield, Outer, Refused, End}
+use Rattle.xs_board.specs.declared.turn.Close.TheVariants.{Quantum, Yield, Outer, Refused, Trap, End}
 use Rattle.xs_board.specs.declared.turn.Entry.{Entry}
-use Rattle.xs_board.specs.Turn.{AreLines, HaveRun, IsEntry, closed_by, entry_event, line_of, past_with, task_after, task_handed}
-use Rattle.xs_machine.specs.Line.{CameBack, IsOn, RanLine, StandsAt, WasRefused}
+use Rattle.xs_board.specs.Turn.{Answer, AreLines, HaveRun, IsEntry, IsRefusedReturn, IsTrapLine, trap_end, closed_by, entry_event, line_of, past_with, task_after, task_handed}
+use Rattle.xs_machine.specs.Line.{CameBack, Halted, IsOn, RanLine, StandsAt}
 use Rattle.xs_machine.specs.Turn.{AfterLine, AreOver, AreRunning, IsTurning, past_after}
 use Rattle.xs_machine.proofs.ScriptLemmas.{turn_known}
-use Rattle.xs_machine.proofs.TurnLemmas.{line_turned, end_turned, outer_turned, refused_turned}
+use Rattle.xs_machine.proofs.TurnLemmas.{line_turned, end_turned, outer_turned, refused_turned, trap_turned}
 
 -- ---- pasts
 
@@ -38,23 +38,26 @@ reverse_more xs ys x = simp reverse-append
 pub past_more : (t : ℕ) (entries : List Entry) (entry : Entry) (first : List Event) → past_with t (entries ++ entry ∷ []) first ≡ entry_event t entry ∷ past_with t entries first
 past_more t entries entry first = ap (λ es. reverse es ++ first) (map-append (entry_event t) entries (entry ∷ [])) ∙ reverse_more (map (entry_event t) entries) first (entry_event t entry)
 
-past_end : (t : ℕ) (entries : List Entry) (reply : Reply) (first : List Event) → past_after t entries End reply first ≡ events.End t ∷ past_with t entries first
-past_end t entries reply first = reverse_more (map (entry_event t) entries) first (events.End t)
+past_end : (t : ℕ) (entries : List Entry) (answer : Answer) (first : List Event) → past_after t entries End answer first ≡ events.End t ∷ past_with t entries first
+past_end t entries answer first = reverse_more (map (entry_event t) entries) first (events.End t)
 
-past_outer : (t line : ℕ) (entries : List Entry) (reply : Reply) (first : List Event) → past_after t entries (Outer line) reply first ≡ events.Outer t line reply ∷ past_with t entries first
-past_outer t line entries reply first = reverse_more (map (entry_event t) entries) first (events.Outer t line reply)
+past_outer : (t line : ℕ) (entries : List Entry) (answer : Answer) (first : List Event) → past_after t entries (Outer line) answer first ≡ events.Outer t line answer.reply ∷ past_with t entries first
+past_outer t line entries answer first = reverse_more (map (entry_event t) entries) first (events.Outer t line answer.reply)
 
-past_refused : (t : ℕ) (error : HeaderError) (entries : List Entry) (reply : Reply) (first : List Event) → past_after t entries (Refused error) reply first ≡ events.Kill t violation (frame_cause error) ∷ past_with t entries first
-past_refused t error entries reply first = reverse_more (map (entry_event t) entries) first (events.Kill t violation (frame_cause error))
+past_refused : (t : ℕ) (error : HeaderError) (entries : List Entry) (answer : Answer) (first : List Event) → past_after t entries (Refused error) answer first ≡ events.Kill t violation (frame_cause error) ∷ past_with t entries first
+past_refused t error entries answer first = reverse_more (map (entry_event t) entries) first (events.Kill t violation (frame_cause error))
+
+pub past_trap : (t : ℕ) (entries : List Entry) (answer : Answer) (first : List Event) → past_after t entries Trap answer first ≡ trap_end t answer.fate ∷ past_with t entries first
+past_trap t entries answer first = reverse_more (map (entry_event t) entries) first (trap_end t answer.fate)
 
 append_none : (xs : List Event) → xs ++ [] ≡ xs
 append_none [] = refl
 append_none (x ∷ xs) = ap (λ ys. x ∷ ys) (append_none xs)
 
-past_closed : (t : ℕ) (entries : List Entry) (reply : Reply) (first : List Event) (command : Command) → past_after t entries (closed_by command) reply first ≡ past_with t entries first
-past_closed t entries reply first command = by_yield (is_yield command) refl
+past_closed : (t : ℕ) (entries : List Entry) (answer : Answer) (first : List Event) (command : Command) → past_after t entries (closed_by command) answer first ≡ past_with t entries first
+past_closed t entries answer first command = by_yield (is_yield command) refl
   where
-    by_yield : (b : Bool) → is_yield command ≡ b → past_after t entries (closed_by command) reply first ≡ past_with t entries first
+    by_yield : (b : Bool) → is_yield command ≡ b → past_after t entries (closed_by command) answer first ≡ past_with t entries first
     by_yield true yields = rw yields (ap (λ es. reverse es ++ first) (append_none (map (entry_event t) entries)))
     by_yield false other = rw other (ap (λ es. reverse es ++ first) (append_none (map (entry_event t) entries)))
 
@@ -112,23 +115,28 @@ module _ {B : Type 0} (script : Script) (t c : ℕ) (first : List Event) (before
   pub body_over : AreLines script t start 0 entries End → AreOver script t c first before start entries End task1 cpu1 bank1
   body_over lines = record {
     lines = lines;
-    turning = λ reply. rw (past_end t entries reply first, are.run.task_is) (end_turned script t c first (past_with t entries first) before (length entries) p task cpu bank are.turning task1 cpu1 bank1 back);
+    turning = λ answer _. rw (past_end t entries answer first, are.run.task_is) (end_turned script t c first (past_with t entries first) before (length entries) p task cpu bank are.turning task1 cpu1 bank1 back);
   }
 
   -- an outer line is left to the board
   pub outer_over : (line : ℕ) → AreLines script t start 0 entries (Outer line) → AreOver script t c first before start entries (Outer line) task1 cpu1 bank1
   outer_over line lines = record {
     lines = lines;
-    turning = λ reply. rw (past_outer t line entries reply first, are.run.task_is) (outer_turned script t c first (past_with t entries first) before (length entries) p task cpu bank are.turning task1 cpu1 bank1 back line reply);
+    turning = λ answer _. rw (past_outer t line entries answer first, are.run.task_is) (outer_turned script t c first (past_with t entries first) before (length entries) p task cpu bank are.turning task1 cpu1 bank1 back line answer.reply);
   }
 
-  -- a return was refused
-  pub refused_over : (command : Command) (error : HeaderError) (task2 : Task) (cpu2 : Cpu B) (bank2 : banks.Bank) → WasRefused (is_user script t) command error task1 task2 cpu1 cpu2 bank1 bank2
-      → AreLines script t start 0 entries (Refused error) → AreOver script t c first before start entries (Refused error) task2 cpu2 bank2
-  refused_over command error task2 cpu2 bank2 refused lines = record {
+  -- a return was refused, or a line trapped
+  pub halted_over : (command : Command) (close : Close) (task2 : Task) (cpu2 : Cpu B) (bank2 : banks.Bank) → Halted (is_user script t) command close task1 task2 cpu1 cpu2 bank1 bank2
+      → AreLines script t start 0 entries close → AreOver script t c first before start entries close task2 cpu2 bank2
+  halted_over command (Refused error) task2 cpu2 bank2 halted lines = record {
     lines = lines;
-    turning = λ reply. rw (past_refused t error entries reply first, are.run.task_is) (refused_turned script t c first (past_with t entries first) before (length entries) p task cpu bank are.turning task1 cpu1 bank1 back command error task2 cpu2 bank2 refused);
+    turning = λ answer _. rw (past_refused t error entries answer first, are.run.task_is) (refused_turned script t c first (past_with t entries first) before (length entries) p task cpu bank are.turning task1 cpu1 bank1 back command error task2 cpu2 bank2 halted);
   }
+  halted_over command Trap task2 cpu2 bank2 halted lines = record {
+    lines = lines;
+    turning = λ answer fits. rw (past_trap t entries answer first, are.run.task_is) (trap_turned script t c first (past_with t entries first) before (length entries) p task cpu bank are.turning task1 cpu1 bank1 back command answer.fate fits task2 cpu2 bank2 halted);
+  }
+  halted_over command other task2 cpu2 bank2 halted lines = absurd halted
 
   -- one more line ran
   module _ (order : Order) (found : command_at script t order.number ≡ Some order.command) (entry : Entry) (line : entry.line ≡ order.number)
@@ -162,7 +170,7 @@ module _ {B : Type 0} (script : Script) (t c : ℕ) (first : List Event) (before
     )
     after_line (Some close) over = record {
       lines = rw over.1 (last over.0);
-      turning = λ reply. rw (over.1, past_closed t (entries ++ entry ∷ []) reply first order.command, last_task, handed_closed order.command (local_after p order.command)) (any_ran script t c first (past_with t (entries ++ entry ∷ []) first) before (not (goes_on script order.command (length entries))) (length entries + 1) (local_after p order.command) task2 cpu2 bank2 (ap not over.0) turned);
+      turning = λ answer _. rw (over.1, past_closed t (entries ++ entry ∷ []) answer first order.command, last_task, handed_closed order.command (local_after p order.command)) (any_ran script t c first (past_with t (entries ++ entry ∷ []) first) before (not (goes_on script order.command (length entries))) (length entries + 1) (local_after p order.command) task2 cpu2 bank2 (ap not over.0) turned);
     }
 
 -- ---- the line of a turn that runs
@@ -202,16 +210,23 @@ module _ {B : Type 0} (script : Script) (t c : ℕ) (first : List Event) (before
     pub line_here : (order : Order) → ((q : PrivateTask) → StandsAt user task1 q → line_of script task1.name q ≡ Some order) → line_of script t p ≡ Some order
     line_here order at = rw name_here at (at p stands_here)
 
-    pub entry_here : (order : Order) (reply : Reply) (task2 : Task) (cpu2 : Cpu B) (bank2 : banks.Bank) → line_of script t p ≡ Some order → traps p order.command ≡ false → is_outer order.command ≡ false
+    pub entry_here : (order : Order) (reply : Reply) (task2 : Task) (cpu2 : Cpu B) (bank2 : banks.Bank) → line_of script t p ≡ Some order → is_outer order.command ≡ false
         → RanLine user order.command reply task1 task2 cpu1 cpu2 bank1 bank2 → IsEntry script t p (record { line = order.number; reply = reply }) order
-    entry_here order reply task2 cpu2 bank2 at free inner done = record {
+    entry_here order reply task2 cpu2 bank2 at inner done = record {
       at = at;
       inner = inner;
-      free = free;
+      free = done.free p on_here;
       whole = done.whole p on_here;
       line = refl;
       reply = done.reply_is p on_here;
     }
+
+    -- how the turn closes at a line that didn't run
+    pub halted_lines : (order : Order) (close : Close) (task2 : Task) (cpu2 : Cpu B) (bank2 : banks.Bank) → line_of script t p ≡ Some order → Halted user order.command close task1 task2 cpu1 cpu2 bank1 bank2
+        → ((error : HeaderError) → IsRefusedReturn script t p error order → AreLines script t start 0 entries (Refused error)) → (IsTrapLine script t p order → AreLines script t start 0 entries Trap) → AreLines script t start 0 entries close
+    halted_lines order (Refused error) task2 cpu2 bank2 at halted refused trap = refused error (record { at = at; why = halted.why p on_here })
+    halted_lines order Trap task2 cpu2 bank2 at halted refused trap = trap (record { at = at; trap = halted.why p on_here })
+    halted_lines order other task2 cpu2 bank2 at halted refused trap = absurd halted
 
   -- No line is left: no handler runs, as one that runs has a line left.
   pub handler_over : line_of script t p ≡ None → p.handling ≡ false

@@ -20,7 +20,7 @@ use Rattle.xs_model.specs.History.{IsLegal, machine_of}
 use Rattle.xs_model.specs.Machine.{machine}
 use Rattle.xs_model.specs.Note.{mark, last}
 use Rattle.xs_model.specs.Replay.{IsReplay, entries, rounds, runner, schedule_of}
-use Rattle.xs_model.specs.Script.{IsValid, IsBuilt}
+use Rattle.xs_model.specs.Script.{IsValid}
 use Rattle.xs_model.specs.State.{Machine, is_on_cpu, none_lives, opening, opening_block, opening_stage, turn_cpu}
 
 -- a number is below a bound or not
@@ -57,10 +57,9 @@ module _ (script : Script) (board : Board) (script_is : board.script ≡ script)
   opened : machine_in board ≡ opening script
   opened = ap (λ (s : Script). machine_of s board.history) script_is ∙ ap (λ (h : List Event). machine_of script h) new
 
-  pub run_opened : IsValid script → IsBuilt script → IsRun script board
-  run_opened valid built = record {
+  pub run_opened : IsValid script → IsRun script board
+  run_opened valid = record {
     valid = valid;
-    built = built;
     script_is = script_is;
     legal = subst (IsLegal script) (sym new) tt;
   }

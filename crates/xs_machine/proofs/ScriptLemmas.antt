@@ -17,9 +17,11 @@ use Rattle.xs_model.specs.declared.stage.Stage.TheVariants as stages
 use Rattle.xs_model.specs.Due.{block_event, due, place_event}
 use Rattle.xs_model.specs.Line.{line_at, local_after, next_line, return_cause, refusal}
 use Rattle.xs_model.specs.Machine.{machine}
-use Rattle.xs_model.specs.Script.{AreBuilt, AreRising, order_numbers, IsBody, IsValid, IsBuilt, IsCommand, IsBuiltCommand, fits_kind, is_handler, is_handler_from, is_kernel_command, is_outer, is_return, is_user, is_user_kind}
+use Rattle.xs_model.specs.Script.{AreRising, order_numbers, IsBody, IsValid, IsCommand, fits_kind, is_handler, is_handler_from, is_kernel_command, is_outer, is_return, is_user, is_user_kind}
 use Rattle.xs_model.specs.State.{BlockState, Machine, stage_at, stage_of, task_of_state}
 use Rattle.xs_board.specs.Turn.{line_of, line_in}
+use Rattle.xs_base.specs.Tile.{feature_error}
+use Rattle.xs_machine.proofs.Commands.{asked_same}
 use Rattle.xs_machine.proofs.Histories.{and_no}
 use Rattle.xs_machine.proofs.Stages.{in_turn, script_stays}
 
@@ -133,10 +135,12 @@ over_return p true is (LegacyOnly file) whole on = cc on
 over_return p true is (Refused error) whole on = cc whole
 over_return p false is r whole on = let no : true ≡ false = sym on ∙ is in cc no
 
-stays_inside : (p : PrivateTask) (command : Command) → IsBuiltCommand command → refusal p command ≡ None → (local_after p command).handling ≡ true → StaysInside p command
-stays_inside p (commands.Perm feature) built whole on = absurd built
-stays_inside p commands.Sigreturn built whole on = absurd (over_return p p.handling refl (return_of p) whole on)
-stays_inside p other built whole on = record { inside = on; stays = refl; place = refl }
+stays_inside : (p : PrivateTask) (command : Command) → refusal p command ≡ None → (local_after p command).handling ≡ true → StaysInside p command
+stays_inside p (commands.Perm feature) whole on =
+    let same = asked_same (feature_error p.file.rows feature) p in
+    record { inside = sym same.1 ∙ on; stays = refl; place = ap (λ (n : ℕ). n + 1) same.0 }
+stays_inside p commands.Sigreturn whole on = absurd (over_return p p.handling refl (return_of p) whole on)
+stays_inside p other whole on = record { inside = on; stays = refl; place = refl }
 
 -- The handler of a block in a turn has a line at the task's place, since the block has a next event.
 handler_due : (m : Machine) (t c ran : ℕ) (block : Option BlockState) (lines : Option Block) (event : Event) → block_event m t block lines ≡ Some event → stage_of block ≡ stages.Turn c ran
@@ -170,18 +174,12 @@ line_all P lines p order body handler at = by_lines p.handling at
     by_lines true at = all_at P lines.handler p.place order handler at
     by_lines false at = all_at P lines.body p.place order body at
 
-module _ (script : Script) (valid : IsValid script) (built : IsBuilt script) (t : ℕ) (p : PrivateTask) (order : Order) (is : line_of script t p ≡ Some order) where
+module _ (script : Script) (valid : IsValid script) (t : ℕ) (p : PrivateTask) (order : Order) (is : line_of script t p ≡ Some order) where
   fits : IsBody script.layout (line_found script t p order is).lines
   fits = all_at (λ (block : Block). IsBody script.layout block) script.blocks t (line_found script t p order is).lines valid.bodies (line_found script t p order is).known
 
   pub known_line : IsCommand script.layout order.command
   known_line = line_all (λ (o : Order). IsCommand script.layout o.command) (line_found script t p order is).lines p order fits.body fits.handler (line_found script t p order is).at
-
-  pub built_line : IsBuiltCommand order.command
-  built_line =
-      let body = all_at (λ (block : Block). AreBuilt block.body) script.blocks t (line_found script t p order is).lines built.bodies (line_found script t p order is).known in
-      let handler = all_at (λ (block : Block). AreBuilt block.handler) script.blocks t (line_found script t p order is).lines built.handlers (line_found script t p order is).known in
-      line_all (λ (o : Order). IsBuiltCommand o.command) (line_found script t p order is).lines p order body handler (line_found script t p order is).at
 
   pub kernel_line : p.handling ≡ false → is_user script t ≡ false → is_kernel_command order.command ≡ true
   kernel_line outside kernel =
@@ -199,7 +197,7 @@ module _ (script : Script) (valid : IsValid script) (built : IsBuilt script) (t 
   -- While a handler runs, a line follows each of its lines but the return.
   pub line_follows : refusal p order.command ≡ None → (local_after p order.command).handling ≡ true → line_of script t (local_after p order.command) ≡ None → ⊥
   line_follows whole inside none =
-      let moved = stays_inside p order.command built_line whole inside in
+      let moved = stays_inside p order.command whole inside in
       let at = sym (ap (λ (h : Bool). slice_get (if h then (line_found script t p order is).lines.handler else (line_found script t p order is).lines.body) p.place) moved.inside) ∙ (line_found script t p order is).at in
       let last : line_in (Some (line_found script t p order is).lines) (local_after p order.command) ≡ None = rw (line_found script t p order is).known at none in
       let next : slice_get (line_found script t p order is).lines.handler (local_after p order.command).place ≡ None = rw inside at last in

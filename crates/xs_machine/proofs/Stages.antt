@@ -11,7 +11,7 @@ use Rattle.xs_model.specs.declared.script.Script.{Script}
 use Rattle.xs_model.specs.declared.stage.Stage.TheVariants.{Ready, Turn, Stopped, Waiting}
 use Rattle.xs_model.specs.Counts.{ends_turn}
 use Rattle.xs_model.specs.Line.{killed}
-use Rattle.xs_model.specs.Machine.{machine, goes_on, own, reach, ran_line, ended_with}
+use Rattle.xs_model.specs.Machine.{machine, goes_on, own, reach, ran_line, grew, ended_with}
 use Rattle.xs_model.specs.Outer.{freed, is_held, is_blocked, outer_own, stage_left}
 use Rattle.xs_model.specs.Script.{block_named, command_at}
 use Rattle.xs_model.specs.State.{BlockState, changed, stage_of, stage_at, turn_cpu}
@@ -72,7 +72,7 @@ changed_leaves i f [] leaves = refl
 changed_leaves zero f (block ∷ blocks) leaves = leaves block
 changed_leaves (suc i) f (block ∷ blocks) leaves = changed_leaves i f blocks leaves
 
--- after the end of its body the block isn't in its turn, and neither is it after a kill
+-- after the end of its body the block isn't in its turn, and neither is it after a kill or a Grow
 pub end_ends : (script : Script) (past : List Event) (t : ℕ) → ends_turn script past (events.End t) ≡ true
 end_ends script past t =
     ap is_none (changed_leaves t (λ (block : BlockState). ended_with block.task block) (map (freed t) (machine script past).blocks) (λ block. refl))
@@ -80,6 +80,9 @@ end_ends script past t =
 pub kill_ends : (script : Script) (past : List Event) (t : ℕ) (signo : Signo) (why : Why) → ends_turn script past (events.Kill t signo why) ≡ true
 kill_ends script past t signo why =
     ap is_none (changed_leaves t (λ (block : BlockState). ended_with (killed why block.task) block) (map (freed t) (machine script past).blocks) (λ block. refl))
+
+pub grow_ends : (script : Script) (past : List Event) (t : ℕ) → ends_turn script past (events.Grow t) ≡ true
+grow_ends script past t = ap is_none (changed_leaves t grew (machine script past).blocks (λ block. refl))
 
 -- nor after an outer line, which leaves it ready, stopped or waiting
 held_leaves : (held : Bool) → turn_cpu (if held then Stopped else Ready) ≡ None

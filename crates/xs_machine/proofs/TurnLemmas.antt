@@ -13,6 +13,7 @@ use Rattle.xs_bank.specs.SetUp.{WasSetUp}
 use Rattle.xs_model.specs.declared.event.Event.{Event}
 use Rattle.xs_model.specs.declared.event.Event.TheVariants as events
 use Rattle.xs_model.specs.declared.event.Reply.{Reply}
+use Rattle.xs_model.specs.declared.event.Why.{Why}
 use Rattle.xs_model.specs.declared.script.Command.{Command}
 use Rattle.xs_model.specs.declared.script.Script.{Script}
 use Rattle.xs_model.specs.Counts as told
@@ -24,10 +25,11 @@ use Rattle.xs_model.specs.Held.{is_start}
 use Rattle.xs_model.specs.Note.{Section, Plain, act_of, task_of, cpu_of, notes_of, is_count, is_section, set_target, mark, mark_after, last, start_cpu}
 use Rattle.xs_model.specs.Script.{command_at, is_user, is_return}
 use Rattle.xs_task.specs.declared.task.Task.{Task}
-use Rattle.xs_machine.specs.Line.{IsOn, CameBack, KeepsCpu, RanLine, WasRefused}
-use Rattle.xs_machine.specs.Turn.{IsTurning}
-use Rattle.xs_machine.proofs.Histories.{IsClosing, plain_closes, outer_closes, last_within, one_event, then_on, counts_here, mark_here, section_here, file_here}
-use Rattle.xs_machine.proofs.Stages.{line_stage, line_ends, end_ends, kill_ends, outer_ends}
+use Rattle.xs_board.specs.Turn.{trap_end, trap_signal}
+use Rattle.xs_machine.specs.Line.{IsOn, CameBack, KeepsCpu, RanLine, WasRefused, WasTrapped}
+use Rattle.xs_machine.specs.Turn.{IsTurning, may_be_fate}
+use Rattle.xs_machine.proofs.Histories.{IsClosing, plain_closes, grows_closes, outer_closes, last_within, one_event, then_on, counts_here, mark_here, section_here, file_here}
+use Rattle.xs_machine.proofs.Stages.{line_stage, line_ends, end_ends, grow_ends, kill_ends, outer_ends}
 
 -- ---- acts
 
@@ -42,6 +44,10 @@ section_by false = refl
 start_by : (section : Bool) (older : Option ℕ) → start_cpu (if section then Section else Plain) older ≡ older
 start_by true older = refl
 start_by false older = refl
+
+not_on : (b : Bool) → not b ≡ true → b ≡ false
+not_on true on = absurd (cc)
+not_on false on = refl
 
 not_off : (b : Bool) → not b ≡ false → b ≡ true
 not_off true off = refl
@@ -175,7 +181,7 @@ module _ {B : Type 0} (script : Script) (t c : ℕ) (first past : List Event) (b
 
     counts2 : counts_of bank2 ≡ exec_of (numbers_of script (Some command) reply) (save_if (is_user script t && is_section (Some command)) loaded)
     unfolding loaded
-    counts2 = done.counts script ∙ ap (λ n. exec_of (numbers_of script (Some command) reply) (save_if (is_user script t && is_section (Some command)) (load_if (is_return command) n))) counts1
+    counts2 = done.counts script (sym cpu1_layout) ∙ ap (λ n. exec_of (numbers_of script (Some command) reply) (save_if (is_user script t && is_section (Some command)) (load_if (is_return command) n))) counts1
 
     counts_is : told.counts_of script (events.Local t line reply ∷ past) c ≡ save_if (not (goes_on script command ran) && is_user script t && not task2.need_load) (counts_of bank2)
     unfolding counted loaded
@@ -300,3 +306,27 @@ module _ {B : Type 0} (script : Script) (t c : ℕ) (first past : List Event) (b
         counts = refused.counts ∙ ap (λ b. load_if b (counts_of bank1)) (sym (is_cause error));
       } in
       close_turned (events.Kill t violation (frame_cause error)) refl plain_closes (kill_ends script past t violation (frame_cause error)) (is_frame_cause (frame_cause error)) (λ n. refl) (record p { file = refused_file p }) task2 cpu2 bank2 closed
+
+  -- a line that traps, whatever becomes of its task
+  trapped_here : (task2 : Task) (cpu2 : Cpu B) (bank2 : banks.Bank) (command : Command) → WasTrapped (is_user script t) command task1 task2 cpu1 cpu2 bank1 bank2 → IsClosed (is_user script t) false p task1 task2 cpu1 cpu2 bank1 bank2
+  trapped_here task2 cpu2 bank2 command trapped =
+      let mark : cpu2.mark ≡ cpu1.mark = ap (λ (x : Cpu B). x.mark) trapped.cpu in
+      record {
+        set_up = rw (trapped.bank, ap (λ (x : Cpu B). x.initial) trapped.cpu) closed_here.set_up;
+        cpu = trapped.cpu ∙ ap (λ (m : Option ℕ). record cpu1 { bank = cpu2.bank; mark = m }) (sym mark);
+        mark_is = mark;
+        name = ap (λ (x : Task). x.name) trapped.task;
+        loaded = λ user. ap (λ (x : Task). x.need_load) trapped.task ∙ back.loaded user;
+        on = rw (trapped.task, trapped.bank) closed_here.on;
+        holds = λ user. rw trapped.bank (closed_here.holds user);
+        still = λ kernel. trapped.bank;
+        counts = ap counts_of trapped.bank;
+      }
+
+  pub trap_turned : (command : Command) (fate : Option Why) → may_be_fate fate ≡ true → (task2 : Task) (cpu2 : Cpu B) (bank2 : banks.Bank) → WasTrapped (is_user script t) command task1 task2 cpu1 cpu2 bank1 bank2
+      → IsTurning script t c first (trap_end t fate ∷ past) before true 0 p task2 cpu2 bank2
+  trap_turned command None fits task2 cpu2 bank2 trapped =
+      close_turned (events.Grow t) refl grows_closes (grow_ends script past t) false (λ n. refl) p task2 cpu2 bank2 (trapped_here task2 cpu2 bank2 command trapped)
+  trap_turned command (Some why) fits task2 cpu2 bank2 trapped =
+      close_turned (events.Kill t (trap_signal why) why) refl plain_closes (kill_ends script past t (trap_signal why) why) false
+      (λ n. ap (λ b. save_if (saves script past (events.Kill t (trap_signal why) why)) (load_if b (load_if (reloads script past t) n))) (not_on (is_frame_cause why) fits)) p task2 cpu2 bank2 (trapped_here task2 cpu2 bank2 command trapped)

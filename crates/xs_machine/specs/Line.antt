@@ -21,12 +21,14 @@ use Rattle.xs_model.specs.declared.event.Reply.TheVariants as replies
 use Rattle.xs_model.specs.declared.script.Command.{Command}
 use Rattle.xs_model.specs.declared.script.Script.{Script}
 use Rattle.xs_model.specs.Counts.{exec_of, numbers_of, is_pkru}
-use Rattle.xs_model.specs.Line.{frame_cause, local_after, local_reply, next_line, refusal}
+use Rattle.xs_model.specs.Line.{frame_cause, local_after, local_reply, refusal, traps}
 use Rattle.xs_model.specs.Note.{is_section}
 use Rattle.xs_model.specs.Script.{is_return}
 use Rattle.xs_task.specs.declared.task.Task.{Task}
 use Rattle.xs_task.specs.TaskArea.{IsTask}
 use Rattle.xs_switch.specs.Running.{CanSave, IsRunning}
+use Rattle.xs_board.specs.declared.turn.Close.{Close}
+use Rattle.xs_board.specs.declared.turn.Close.TheVariants as closes
 use Rattle.xs_board.specs.Home.{IsThreadHome}
 
 -- The bank after a task set a register, and after it read one. Of PKRU that's WRPKRU and RDPKRU (SDM volume 2), which aren't counted.
@@ -71,18 +73,24 @@ pub record CameBack {B : Type 0} (user : Bool) (old new : Task) (before after : 
   pub counts : counts_of bank_after ≡ load_if (user && old.need_load) (counts_of bank_before)
   pub still : user ≡ false → bank_after ≡ bank_before
 
--- A command of the task's line ran, which is no return from a handler. The task has its place behind the line from before on. A
--- section leaves the registers in the area.
+-- the private task after a local command, before it goes on to the next line
+abbrev pub in_place : PrivateTask → Command → PrivateTask
+in_place private command = record (local_after private command) { place = private.place }
+
+-- A command of the task's line ran, which is no return from a handler. The task is still at its line. A section leaves the registers
+-- in the area.
 pub record Ran {B : Type 0} (user : Bool) (command : Command) (reply : Reply) (old new : Task) (before after : Cpu B) (bank_before bank_after : banks.Bank) : Type 0 where
   pub set_up : WasSetUp before.layout bank_after after.initial
   pub cpu : KeepsCpu before after
   pub mark : after.mark ≡ (if is_section (Some command) then None else before.mark)
   pub name : new.name ≡ old.name
+  pub place : new.place ≡ old.place
   pub loaded : user ≡ true → new.need_load ≡ is_section (Some command)
-  pub on : (p : PrivateTask) → IsOn user before.layout old bank_before (next_line p) → IsOn user before.layout new bank_after (local_after p command)
-  pub reply_is : (p : PrivateTask) → IsOn user before.layout old bank_before (next_line p) → reply ≡ local_reply p command
-  pub holds : user ≡ true → is_section (Some command) ≡ false → (p : PrivateTask) → IsOn user before.layout old bank_before (next_line p) → Holds bank_before p → Holds bank_after (local_after p command)
-  pub counts : (script : Script) → counts_of bank_after ≡ exec_of (numbers_of script (Some command) reply) (save_if (user && is_section (Some command)) (counts_of bank_before))
+  pub on : (p : PrivateTask) → IsOn user before.layout old bank_before p → IsOn user before.layout new bank_after (in_place p command)
+  pub free : (p : PrivateTask) → IsOn user before.layout old bank_before p → traps p command ≡ false
+  pub reply_is : (p : PrivateTask) → IsOn user before.layout old bank_before p → reply ≡ local_reply p command
+  pub holds : user ≡ true → is_section (Some command) ≡ false → (p : PrivateTask) → IsOn user before.layout old bank_before p → Holds bank_before p → Holds bank_after (in_place p command)
+  pub counts : (script : Script) → script.layout ≡ before.layout → counts_of bank_after ≡ exec_of (numbers_of script (Some command) reply) (save_if (user && is_section (Some command)) (counts_of bank_before))
   pub still : user ≡ false → is_section (Some command) ≡ false → bank_after ≡ bank_before
 
 -- what a return from a handler answers
@@ -90,8 +98,8 @@ abbrev pub restored_reply : Restored → Reply
 restored_reply answers.Full = replies.Full
 restored_reply answers.LegacyOnly = replies.Legacy
 
--- The line at the task's place ran: its command is local, and the task came to its next place. A return from a handler loads the
--- registers that it took of the frame.
+-- The line at the task's place ran: its command is local and doesn't trap, and the task came to its next place. A return from a
+-- handler loads the registers that it took of the frame.
 pub record RanLine {B : Type 0} (user : Bool) (command : Command) (reply : Reply) (old new : Task) (before after : Cpu B) (bank_before bank_after : banks.Bank) : Type 0 where
   pub set_up : WasSetUp before.layout bank_after after.initial
   pub cpu : KeepsCpu before after
@@ -99,10 +107,11 @@ pub record RanLine {B : Type 0} (user : Bool) (command : Command) (reply : Reply
   pub name : new.name ≡ old.name
   pub loaded : user ≡ true → new.need_load ≡ is_section (Some command)
   pub on : (p : PrivateTask) → IsOn user before.layout old bank_before p → IsOn user before.layout new bank_after (local_after p command)
+  pub free : (p : PrivateTask) → IsOn user before.layout old bank_before p → traps p command ≡ false
   pub whole : (p : PrivateTask) → IsOn user before.layout old bank_before p → refusal p command ≡ None
   pub reply_is : (p : PrivateTask) → IsOn user before.layout old bank_before p → reply ≡ local_reply p command
   pub holds : user ≡ true → is_section (Some command) ≡ false → (p : PrivateTask) → IsOn user before.layout old bank_before p → Holds bank_before p → Holds bank_after (local_after p command)
-  pub counts : (script : Script) → counts_of bank_after ≡ exec_of (numbers_of script (Some command) reply) (save_if (user && is_section (Some command)) (load_if (is_return command) (counts_of bank_before)))
+  pub counts : (script : Script) → script.layout ≡ before.layout → counts_of bank_after ≡ exec_of (numbers_of script (Some command) reply) (save_if (user && is_section (Some command)) (load_if (is_return command) (counts_of bank_before)))
   pub still : user ≡ false → is_section (Some command) ≡ false → bank_after ≡ bank_before
 
 -- A user task's return from its handler was refused with this error: the task stays at its line, and has no registers left.
@@ -117,6 +126,19 @@ pub record WasRefused {B : Type 0} (user : Bool) (command : Command) (error : He
   pub why : (p : PrivateTask) → IsOn user before.layout old bank_before p → refusal p command ≡ Some (frame_cause error)
   pub holds : (p : PrivateTask) → IsOn user before.layout old bank_before p → Holds bank_after (record p { file = refused_file p })
   pub counts : counts_of bank_after ≡ one_load (counts_of bank_before)
+
+-- The command trapped: it uses tiles for which the task has no room. Nothing has changed.
+pub record WasTrapped {B : Type 0} (user : Bool) (command : Command) (old new : Task) (before after : Cpu B) (bank_before bank_after : banks.Bank) : Type 0 where
+  pub task : new ≡ old
+  pub cpu : after ≡ record before { bank = after.bank }
+  pub bank : bank_after ≡ bank_before
+  pub why : (p : PrivateTask) → IsOn user before.layout old bank_before p → traps p command ≡ true
+
+-- A line didn't run, and its turn closes so: a return was refused, or the line trapped.
+abbrev pub Halted : {B : Type 0} → Bool → Command → Close → Task → Task → Cpu B → Cpu B → banks.Bank → banks.Bank → Type 0
+Halted user command (closes.Refused error) old new before after bank_before bank_after = WasRefused user command error old new before after bank_before bank_after
+Halted user command closes.Trap old new before after bank_before bank_after = WasTrapped user command old new before after bank_before bank_after
+Halted user command other old new before after bank_before bank_after = ⊥
 
 -- The private task is at the task's place: one of its handler where a user task runs that, and else one of its body.
 pub record StandsAt (user : Bool) (task : Task) (private : PrivateTask) : Type 0 where

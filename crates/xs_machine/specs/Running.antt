@@ -17,7 +17,7 @@ use Rattle.xs_model.specs.Counts.{in_section}
 use Rattle.xs_model.specs.History.{IsLegal}
 use Rattle.xs_model.specs.Note.{cpu_of, notes_of, mark, last}
 use Rattle.xs_model.specs.Replay.{schedule_of}
-use Rattle.xs_model.specs.Script.{IsValid, IsBuilt, is_user}
+use Rattle.xs_model.specs.Script.{IsValid, is_user}
 use Rattle.xs_model.specs.State.{none_lives}
 use Rattle.xs_switch.specs.Pkru.{given_pkru}
 use Rattle.xs_board.specs.declared.turn.Turn.{Turn}
@@ -30,7 +30,6 @@ use Rattle.xs_machine.specs.Line.{IsOn, KeepsCpu}
 -- The board's script and history are those of a run.
 pub record IsRun (script : Script) (board : Board) : Type 0 where
   pub valid : IsValid script
-  pub built : IsBuilt script
   pub script_is : board.script ≡ script
   pub legal : IsLegal script board.history
 

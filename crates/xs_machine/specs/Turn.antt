@@ -8,11 +8,12 @@ use Rattle.xs_bank.specs.Bank.{counts_of}
 use Rattle.xs_bank.specs.Holds.{Holds}
 use Rattle.xs_bank.specs.SetUp.{WasSetUp}
 use Rattle.xs_model.specs.declared.event.Event.{Event}
-use Rattle.xs_model.specs.declared.event.Reply.{Reply}
+use Rattle.xs_model.specs.declared.event.Why.{Why}
 use Rattle.xs_model.specs.declared.script.Script.{Script}
 use Rattle.xs_model.specs.declared.stage.Stage.TheVariants as stages
 use Rattle.xs_model.specs.Counts as told
 use Rattle.xs_model.specs.Counts.{in_section}
+use Rattle.xs_model.specs.Line.{is_frame_cause}
 use Rattle.xs_model.specs.Machine.{machine}
 use Rattle.xs_model.specs.Note.{cpu_of, notes_of, mark, last}
 use Rattle.xs_model.specs.Script.{is_user}
@@ -21,7 +22,7 @@ use Rattle.xs_task.specs.declared.task.Task.{Task}
 use Rattle.xs_board.specs.declared.turn.Entry.{Entry}
 use Rattle.xs_board.specs.declared.turn.Close.{Close}
 use Rattle.xs_board.specs.Home.{IsHome}
-use Rattle.xs_board.specs.Turn.{AreLines, HaveRun, line_of, past_with, task_after, task_handed, turn_events}
+use Rattle.xs_board.specs.Turn.{Answer, AreLines, HaveRun, line_of, past_with, task_after, task_handed, turn_events}
 use Rattle.xs_machine.specs.Line.{IsOn}
 
 -- The new past is the old one and events of block t on processor c. By them nothing is told of another processor, and no section or
@@ -54,9 +55,14 @@ pub record IsTurning {B : Type 0} (script : Script) (t c : ℕ) (first past : Li
   pub latest : told.file_after script past c t ≡ told.file_of (slice_get (machine script past).blocks t)
   pub counts : told.counts_of script past c ≡ save_if (over && is_user script t && not task.need_load) (counts_of bank)
 
--- the past after the events of a turn, whose outer line has this reply
-abbrev pub past_after : ℕ → List Entry → Close → Reply → List Event → List Event
-past_after t entries close reply past = reverse (turn_events t entries close reply) ++ past
+-- the past after the events of a turn, to whose close the board answers this
+abbrev pub past_after : ℕ → List Entry → Close → Answer → List Event → List Event
+past_after t entries close answer past = reverse (turn_events t entries close answer) ++ past
+
+-- A line that traps isn't killed by a frame.
+abbrev pub may_be_fate : Option Why → Bool
+may_be_fate None = true
+may_be_fate (Some why) = not (is_frame_cause why)
 
 -- So many lines ran from the Start on, and the turn goes on. While a handler runs, a line of it is left.
 pub record AreRunning {B : Type 0} (script : Script) (t c : ℕ) (first : List Event) (before : banks.Bank) (start : PrivateTask) (entries : List Entry) (private : PrivateTask) (task : Task) (cpu : Cpu B) (bank : banks.Bank) : Type 0 where
@@ -65,10 +71,11 @@ pub record AreRunning {B : Type 0} (script : Script) (t c : ℕ) (first : List E
   pub inside : private.handling ≡ true → line_of script t private ≡ None → ⊥
   pub turning : IsTurning script t c first (past_with t entries first) before false (length entries) private task cpu bank
 
--- The turn is over by its lines and this close. An outer line is still before the task, and it has its reply from the board.
+-- The turn is over by its lines and this close. An outer line is still before the task, and so is one that trapped: they have their
+-- answer from the board.
 pub record AreOver {B : Type 0} (script : Script) (t c : ℕ) (first : List Event) (before : banks.Bank) (start : PrivateTask) (entries : List Entry) (close : Close) (task : Task) (cpu : Cpu B) (bank : banks.Bank) : Type 0 where
   pub lines : AreLines script t start 0 entries close
-  pub turning : (reply : Reply) → IsTurning script t c first (past_after t entries close reply first) before true 0 (task_handed close (task_after script t start entries)) task cpu bank
+  pub turning : (answer : Answer) → may_be_fate answer.fate ≡ true → IsTurning script t c first (past_after t entries close answer first) before true 0 (task_handed close (task_after script t start entries)) task cpu bank
 
 -- After a line the turn goes on, or it is over.
 abbrev pub AfterLine : {B : Type 0} → Script → ℕ → ℕ → List Event → banks.Bank → PrivateTask → List Entry → Option Close → Task → Cpu B → banks.Bank → Type 0

@@ -1,7 +1,7 @@
 //! The machine's processors at work: each takes turns from the board, runs their lines on its bank and brings them back. The
 //! crate's contract is that of `run_schedule`: the history is the script's replay, it is whole, and each bank has counted and
 //! still holds what the history says. It stands on the board of `xs_board`, on switches in `xs_switch`, on signal frames in
-//! `xs_frame` and on any bank.
+//! `xs_frame`, on leave for tiles in `xs_tile` and on any bank.
 #![tactic(auto)]
 
 mod entry;
@@ -11,6 +11,7 @@ mod registers;
 mod round;
 mod schedule;
 mod script;
+mod tiles;
 mod turn;
 
 pub use proc::Proc;

@@ -4,15 +4,15 @@ ghost use Rattle.std.specs.Prelude.{◌≡◌, ◌+◌, ◌<◌, ◌^◌, true, 
 ghost use Rattle.xs_base.specs.Task.{PrivateTask};
 ghost use Rattle.xs_bank.specs.SetUp.{WasSetUp};
 ghost use Rattle.xs_model.specs.declared.script.Command.TheVariants as commands;
-ghost use Rattle.xs_model.specs.Line.{next_line};
-ghost use Rattle.xs_model.specs.Script.{IsCommand, IsBuiltCommand, is_kernel_command, is_outer, is_return};
+ghost use Rattle.xs_model.specs.Script.{IsCommand, is_kernel_command, is_outer, is_return};
 ghost use Rattle.xs_base.specs.Layout.{IsLayout};
-ghost use Rattle.xs_machine.specs.Line.{CameBack, IsOn, Ran, RanLine, WasRefused, restored_reply};
+ghost use Rattle.xs_machine.specs.Line.{CameBack, Halted, IsOn, Ran, RanLine, WasTrapped, restored_reply};
 
 use crate::registers::{read_register, write_register};
 use crate::script::is_return;
-use xs_bank::{Bank, Cpu};
-use xs_base::HeaderError;
+use crate::tiles::{ask, release};
+use xs_bank::{Bank, Cpu, Trap};
+use xs_board::Close;
 use xs_frame::{Restored, sigreturn};
 use xs_model::{Command, Reply};
 use xs_switch::{kernel_section, resume, thread_section};
@@ -30,43 +30,48 @@ pub fn come_back<B: Bank>(cpu: &mut Cpu<B>, task: &mut Task, user: bool)
 }
 
 /// Runs the line at the task's place, whose command is local, and answers its reply. A user task's registers are in the bank. A
-/// return from a handler may be refused; then the task stays at its line.
+/// return from a handler may be refused, and an instruction of the tiles may trap; then the task stays at its line, and the answer
+/// is how the turn closes.
 pub fn run_local<B: Bank>(
     cpu: &mut Cpu<B>,
     task: &mut Task,
     command: &Command,
     user: bool,
-) -> Result<Reply, HeaderError>
+) -> Result<Reply, Close>
     requires layout { IsLayout cpu.old.layout }
     requires set_up { WasSetUp cpu.old.layout (B.state cpu.old.bank) cpu.old.initial }
     requires on { (p : PrivateTask) × IsOn user cpu.old.layout task.old (B.state cpu.old.bank) p }
     requires loaded { user ≡ true → task.old.need_load ≡ false }
     requires known { IsCommand cpu.old.layout command.now }
-    requires built { IsBuiltCommand command.now }
     requires inner { is_outer command.now ≡ false }
     requires kind { user ≡ false → is_kernel_command command.now ≡ true }
     requires inside { is_return command.now ≡ true → task.old.handling ≡ true }
     requires fits { task.old.place + 1 < 2 ^ 32 }
-    ensures { MatchResult result (λ reply. RanLine user command.now reply task.old task.new cpu.old cpu.new (B.state cpu.old.bank) (B.state cpu.new.bank)) (λ error. WasRefused user command.now error task.old task.new cpu.old cpu.new (B.state cpu.old.bank) (B.state cpu.new.bank)) }
+    ensures { MatchResult result (λ reply. RanLine user command.now reply task.old task.new cpu.old cpu.new (B.state cpu.old.bank) (B.state cpu.new.bank)) (λ close. Halted user command.now close task.old task.new cpu.old cpu.new (B.state cpu.old.bank) (B.state cpu.new.bank)) }
 {
     if is_return(command) {
         return go_back(cpu, task);
     }
-    task.place += 1;
-    Ok(run_command(cpu, task, command, user))
+    match run_command(cpu, task, command, user) {
+        Ok(reply) => {
+            task.place += 1;
+            Ok(reply)
+        }
+        Err(_) => Err(Close::Trap),
+    }
 }
 
 /// Returns from the handler of a user task, whose registers are in the bank.
-fn go_back<B: Bank>(cpu: &mut Cpu<B>, task: &mut Task) -> Result<Reply, HeaderError>
+fn go_back<B: Bank>(cpu: &mut Cpu<B>, task: &mut Task) -> Result<Reply, Close>
     requires set_up { WasSetUp cpu.old.layout (B.state cpu.old.bank) cpu.old.initial }
     requires on { (p : PrivateTask) × IsOn true cpu.old.layout task.old (B.state cpu.old.bank) p }
     requires loaded { task.old.need_load ≡ false }
     requires inside { task.old.handling ≡ true }
-    ensures { MatchResult result (λ reply. RanLine true commands.Sigreturn reply task.old task.new cpu.old cpu.new (B.state cpu.old.bank) (B.state cpu.new.bank)) (λ error. WasRefused true commands.Sigreturn error task.old task.new cpu.old cpu.new (B.state cpu.old.bank) (B.state cpu.new.bank)) }
+    ensures { MatchResult result (λ reply. RanLine true commands.Sigreturn reply task.old task.new cpu.old cpu.new (B.state cpu.old.bank) (B.state cpu.new.bank)) (λ close. Halted true commands.Sigreturn close task.old task.new cpu.old cpu.new (B.state cpu.old.bank) (B.state cpu.new.bank)) }
 {
     match sigreturn(task, cpu) {
         Ok(restored) => Ok(reply_of(restored)),
-        Err(error) => Err(error),
+        Err(error) => Err(Close::Refused(error)),
     }
 }
 
@@ -80,61 +85,78 @@ fn reply_of(restored: Restored) -> Reply
     }
 }
 
-/// Runs a local command of the task that is no return from a handler, and answers its reply. The task's place is behind the
-/// command's line, and a user task's registers are in the bank.
-fn run_command<B: Bank>(cpu: &mut Cpu<B>, task: &mut Task, command: &Command, user: bool) -> Reply
+/// Runs a local command of the task that is no return from a handler, and answers its reply. The task stays at the command's
+/// line. A user task's registers are in the bank.
+fn run_command<B: Bank>(
+    cpu: &mut Cpu<B>,
+    task: &mut Task,
+    command: &Command,
+    user: bool,
+) -> Result<Reply, Trap>
     requires layout { IsLayout cpu.old.layout }
     requires set_up { WasSetUp cpu.old.layout (B.state cpu.old.bank) cpu.old.initial }
-    requires on { (p : PrivateTask) × IsOn user cpu.old.layout task.old (B.state cpu.old.bank) (next_line p) }
+    requires on { (p : PrivateTask) × IsOn user cpu.old.layout task.old (B.state cpu.old.bank) p }
     requires loaded { user ≡ true → task.old.need_load ≡ false }
     requires known { IsCommand cpu.old.layout command.now }
-    requires built { IsBuiltCommand command.now }
     requires inner { is_outer command.now ≡ false }
     requires stays { is_return command.now ≡ false }
     requires kind { user ≡ false → is_kernel_command command.now ≡ true }
-    ensures { Ran user command.now result task.old task.new cpu.old cpu.new (B.state cpu.old.bank) (B.state cpu.new.bank) }
+    ensures { MatchResult result (λ reply. Ran user command.now reply task.old task.new cpu.old cpu.new (B.state cpu.old.bank) (B.state cpu.new.bank)) (λ _. WasTrapped user command.now task.old task.new cpu.old cpu.new (B.state cpu.old.bank) (B.state cpu.new.bank)) }
 {
     if user {
         run_user_command(cpu, task, command)
     } else {
-        run_thread_command(cpu, task, command)
+        Ok(run_thread_command(cpu, task, command))
     }
 }
 
 /// Runs a command of a user task, whose registers are in the bank.
-fn run_user_command<B: Bank>(cpu: &mut Cpu<B>, task: &mut Task, command: &Command) -> Reply
+fn run_user_command<B: Bank>(
+    cpu: &mut Cpu<B>,
+    task: &mut Task,
+    command: &Command,
+) -> Result<Reply, Trap>
     requires layout { IsLayout cpu.old.layout }
     requires set_up { WasSetUp cpu.old.layout (B.state cpu.old.bank) cpu.old.initial }
-    requires on { (p : PrivateTask) × IsOn true cpu.old.layout task.old (B.state cpu.old.bank) (next_line p) }
+    requires on { (p : PrivateTask) × IsOn true cpu.old.layout task.old (B.state cpu.old.bank) p }
     requires loaded { task.old.need_load ≡ false }
     requires known { IsCommand cpu.old.layout command.now }
-    requires built { IsBuiltCommand command.now }
     requires inner { is_outer command.now ≡ false }
     requires stays { is_return command.now ≡ false }
-    ensures { Ran true command.now result task.old task.new cpu.old cpu.new (B.state cpu.old.bank) (B.state cpu.new.bank) }
+    ensures { MatchResult result (λ reply. Ran true command.now reply task.old task.new cpu.old cpu.new (B.state cpu.old.bank) (B.state cpu.new.bank)) (λ _. WasTrapped true command.now task.old task.new cpu.old cpu.new (B.state cpu.old.bank) (B.state cpu.new.bank)) }
 {
     match command {
         Command::Set { reg, bytes } => {
-            write_register(&mut cpu.bank, &cpu.layout, reg.as_slice(), bytes);
-            Reply::Done
+            match write_register(&mut cpu.bank, &cpu.layout, reg.as_slice(), bytes) {
+                Ok(()) => Ok(Reply::Done),
+                Err(trap) => Err(trap),
+            }
         }
         Command::Get { reg } => {
-            Reply::Bytes(read_register(&mut cpu.bank, &cpu.layout, reg.as_slice()))
+            match read_register(&mut cpu.bank, &cpu.layout, reg.as_slice()) {
+                Ok(bytes) => Ok(Reply::Bytes(bytes)),
+                Err(trap) => Err(trap),
+            }
         }
+        Command::Tilerelease => {
+            release(cpu);
+            Ok(Reply::Done)
+        }
+        Command::Perm { feature } => Ok(ask(&cpu.layout, task, *feature)),
         Command::Ksec { byte } => {
             kernel_section(task, cpu, *byte);
-            Reply::Done
+            Ok(Reply::Done)
         }
-        Command::Yield => Reply::Done,
-        Command::Peek { at, len } => Reply::Bytes(task.peek(Mem::Frame, *at, *len)),
+        Command::Yield => Ok(Reply::Done),
+        Command::Peek { at, len } => Ok(Reply::Bytes(task.peek(Mem::Frame, *at, *len))),
+        Command::Bpeek { at, len } => Ok(Reply::Bytes(task.peek(Mem::Buffer, *at, *len))),
         Command::Poke { at, bytes } => {
             task.poke(Mem::Frame, *at, bytes);
-            Reply::Done
+            Ok(Reply::Done)
         }
-        Command::Bpeek { at, len } => Reply::Bytes(task.peek(Mem::Buffer, *at, *len)),
         Command::Bpoke { at, bytes } => {
             task.poke(Mem::Buffer, *at, bytes);
-            Reply::Done
+            Ok(Reply::Done)
         }
         _ => unreachable!(),
     }

@@ -1,57 +1,59 @@
 //! Registers by their names, on a bank.
 
-ghost use Rattle.std.specs.Prelude.{◌≡◌, ℕ, List, length};
+ghost use Rattle.std.specs.Prelude.{◌≡◌, ℕ, List, length, None, Some, IfOk, IfErr, MatchResult};
 ghost use Rattle.std.specs.Int.{from_le_bytes, w32};
+ghost use Rattle.xs_bank.specs.Bank as banks;
 ghost use Rattle.xs_bank.specs.Bank.{IsReady};
 ghost use Rattle.xs_base.specs.File.{read_place};
 ghost use Rattle.xs_base.specs.Register.{IsRegister, place_of};
 ghost use Rattle.xs_base.specs.declared.component.Place.{Place};
 ghost use Rattle.xs_model.specs.declared.script.Command.TheVariants as commands;
-ghost use Rattle.xs_model.specs.Script.{IsCommand, IsBuiltName};
+ghost use Rattle.xs_model.specs.Script.{IsCommand};
 ghost use Rattle.xs_machine.specs.Line.{after_get, after_set};
 
-use xs_bank::Bank;
+use xs_bank::{Bank, Trap};
 use xs_base::{Comp, Lane, Place};
 use xs_layout::Layout;
 use xs_regs::place_of_bytes;
 
-/// Sets a register of the machine that the program has: PKRU by WRPKRU, which isn't counted.
-pub fn write_register<B: Bank>(bank: &mut B, layout: &Layout, reg: &[u8], bytes: &Lane)
+/// Sets a register of the machine: PKRU by WRPKRU, which isn't counted. Refused by #NM as the bank does.
+pub fn write_register<B: Bank>(
+    bank: &mut B,
+    layout: &Layout,
+    reg: &[u8],
+    bytes: &Lane,
+) -> Result<(), Trap>
     requires machine { (B.state bank.old).file.rows ≡ layout.now }
     requires known { IsCommand layout.now (commands.Set reg.now bytes.now) }
-    requires built { IsBuiltName reg.now }
-    ensures after { B.state bank.new ≡ after_set (B.state bank.old) (place_of reg.now) bytes.now }
-    ensures ready { (id m : ℕ) (area : List ℕ) → IsReady (B.state bank.old) id m area → IsReady (B.state bank.new) id m area }
+    ensures trap { MatchResult result (λ _. banks.write_trap (B.state bank.old).armed (place_of reg.now) ≡ None) (λ t. banks.write_trap (B.state bank.old).armed (place_of reg.now) ≡ Some t) }
+    ensures after { IfOk result (λ _. B.state bank.new ≡ after_set (B.state bank.old) (place_of reg.now) bytes.now) }
+    ensures ready { IfOk result (λ _. (id m : ℕ) (area : List ℕ) → IsReady (B.state bank.old) id m area → IsReady (B.state bank.new) id m area) }
+    ensures kept { IfErr result (λ _. B.state bank.new ≡ B.state bank.old) }
 {
     let place = place_in(layout, reg);
     if place.comp == Comp::PKRU {
         bank.wrpkru(word(bytes));
-        return;
+        return Ok(());
     }
-    match bank.write(place, bytes) {
-        Ok(()) => {}
-        Err(_) => unreachable!(),
-    }
+    bank.write(place, bytes)
 }
 
-/// The bytes of a register of the machine that the program has: those of PKRU by RDPKRU, which isn't counted.
-pub fn read_register<B: Bank>(bank: &mut B, layout: &Layout, reg: &[u8]) -> Lane
+/// The bytes of a register of the machine: those of PKRU by RDPKRU, which isn't counted. Refused by #NM as the bank does.
+pub fn read_register<B: Bank>(bank: &mut B, layout: &Layout, reg: &[u8]) -> Result<Lane, Trap>
     requires machine { (B.state bank.old).file.rows ≡ layout.now }
     requires known { IsCommand layout.now (commands.Get reg.now) }
-    requires built { IsBuiltName reg.now }
-    ensures lane { result ≡ read_place (B.state bank.old).file (place_of reg.now) }
-    ensures after { B.state bank.new ≡ after_get (B.state bank.old) (place_of reg.now) result }
+    ensures trap { MatchResult result (λ _. banks.read_trap (B.state bank.old).armed (place_of reg.now) ≡ None) (λ t. banks.read_trap (B.state bank.old).armed (place_of reg.now) ≡ Some t) }
+    ensures lane { IfOk result (λ lane. lane ≡ read_place (B.state bank.old).file (place_of reg.now)) }
+    ensures after { IfOk result (λ lane. B.state bank.new ≡ after_get (B.state bank.old) (place_of reg.now) lane) }
+    ensures kept { IfErr result (λ _. B.state bank.new ≡ B.state bank.old) }
 {
     let place = place_in(layout, reg);
     if place.comp == Comp::PKRU {
         // The bank has a file of its machine.
         let _ = bank.loads();
-        return Lane::from_slice(&bank.rdpkru().to_le_bytes());
+        return Ok(Lane::from_slice(&bank.rdpkru().to_le_bytes()));
     }
-    match bank.read(place) {
-        Ok(lane) => lane,
-        Err(_) => unreachable!(),
-    }
+    bank.read(place)
 }
 
 /// The number of four bytes, the lowest first.

@@ -3,7 +3,7 @@
 ghost use Rattle.std.specs.Prelude.{◌≡◌, ◌≤◌, [], length, drop};
 ghost use Rattle.xs_model.specs.History.{IsWhole};
 ghost use Rattle.xs_model.specs.Replay.{IsReplay};
-ghost use Rattle.xs_model.specs.Script.{IsValid, IsBuilt};
+ghost use Rattle.xs_model.specs.Script.{IsValid};
 ghost use Rattle.xs_machine.specs.Processors.{AreSetUp, HaveRun, KeepProcessors};
 
 use crate::proc::Proc;
@@ -21,7 +21,6 @@ use xs_model::{History, Script, few_events};
 /// script don't change.
 pub fn run_schedule<B: Bank>(script: &Script, board: Board, procs: &mut [Proc<B>]) -> History
     requires valid { IsValid script.now }
-    requires built { IsBuilt script.now }
     requires script { board.script ≡ script.now }
     requires new { board.history ≡ [] }
     requires many { script.now.cpus ≤ length procs.old }

@@ -5,7 +5,7 @@ ghost use Rattle.xs_base.specs.Task.{PrivateTask};
 ghost use Rattle.xs_bank.specs.Bank as banks;
 ghost use Rattle.xs_board.specs.Turn.{task_after};
 ghost use Rattle.xs_model.specs.declared.event.Event.{Event};
-ghost use Rattle.xs_model.specs.Script.{IsValid, IsBuilt};
+ghost use Rattle.xs_model.specs.Script.{IsValid};
 ghost use Rattle.xs_machine.specs.Processors.{KeepsProcessor};
 ghost use Rattle.xs_machine.specs.Turn.{AfterLine, AreOver, AreRunning, HasLeft, IsTurning, SomeOver, SomeRunning};
 
@@ -13,7 +13,7 @@ use crate::lines::{come_back, run_local};
 use crate::script::{close_after, is_outer, is_user, line_of};
 use xs_bank::{Bank, Cpu};
 use xs_board::{Close, Entries, Entry, lines_follow};
-use xs_model::{Script, built_is_plain, lines_found, machine_known, named_known};
+use xs_model::{Script, lines_found, machine_known, named_known};
 use xs_switch::switch_out;
 use xs_task::Task;
 
@@ -25,7 +25,6 @@ pub fn run_lines<B: Bank>(
     entries: &mut Entries,
 ) -> Close
     requires valid { IsValid script.now }
-    requires built { IsBuilt script.now }
     requires none { entries.old.items ≡ [] }
     requires turning { SomeRunning script.now [] task.old cpu.old (B.state cpu.old.bank) }
     ensures over { (t c : ℕ) (past : List Event) (before : banks.Bank) (start : PrivateTask) → AreRunning script.now t c past before start [] start task.old cpu.old (B.state cpu.old.bank) → AreOver script.now t c past before start entries.new.items result task.new cpu.new (B.state cpu.new.bank) }
@@ -39,7 +38,8 @@ pub fn run_lines<B: Bank>(
 }
 
 /// Runs the next line of a turn, which joins the entries, and answers how the turn is over where it doesn't go on. An outer line is
-/// left to the board, a refused return ends the task, and without a line the turn closes with the body's end.
+/// left to the board, and so is a line that traps; a refused return ends the task, and without a line the turn closes with the
+/// body's end.
 fn run_line<B: Bank>(
     script: &Script,
     cpu: &mut Cpu<B>,
@@ -47,7 +47,6 @@ fn run_line<B: Bank>(
     entries: &mut Entries,
 ) -> Option<Close>
     requires valid { IsValid script.now }
-    requires built { IsBuilt script.now }
     requires turning { SomeRunning script.now entries.old.items task.old cpu.old (B.state cpu.old.bank) }
     ensures after { (t c : ℕ) (past : List Event) (before : banks.Bank) (start private : PrivateTask) → AreRunning script.now t c past before start entries.old.items private task.old cpu.old (B.state cpu.old.bank) → AfterLine script.now t c past before start entries.new.items result task.new cpu.new (B.state cpu.new.bank) }
     ensures longer { IfNone result (length entries.new.items ≡ length entries.old.items + 1) }
@@ -57,7 +56,6 @@ fn run_line<B: Bank>(
     machine_known();
     lines_follow();
     named_known();
-    built_is_plain();
     let ran = entries.len() as u32;
     let user = is_user(script, task.name);
     come_back(cpu, task, user);
@@ -69,7 +67,7 @@ fn run_line<B: Bank>(
     }
     let reply = match run_local(cpu, task, &order.command, user) {
         Ok(reply) => reply,
-        Err(error) => return Some(Close::Refused(error)),
+        Err(close) => return Some(close),
     };
     entries.push(Entry {
         line: order.number,

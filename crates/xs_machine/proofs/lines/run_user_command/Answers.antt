@@ -1,11 +1,12 @@
 -- Each command is one of the task in the bank.
-use Rattle.std.proofs.Common.{ℕ, List, length, ap, ◌∙◌, arith}
+use Rattle.std.proofs.Common.{ℕ, List, length, sym, ap, ◌∙◌, arith}
 use Rattle.xs_base.specs.File.{read_place}
 use Rattle.xs_base.specs.Register.{place_of}
 use Rattle.xs_base.specs.Task.{frame_length, buffer_length}
+use Rattle.xs_bank.specs.Bank.{read_trap, write_trap}
 use Rattle.xs_machine.specs.Line.{after_get, after_set}
 use Rattle.xs_machine.proofs.Commands.{fits_within}
-use Rattle.xs_machine.proofs.RanLemmas.{set_ran, get_ran, section_ran, peek_ran, bpeek_ran, poke_ran, bpoke_ran}
+use Rattle.xs_machine.proofs.RanLemmas.{set_ran, set_trapped, get_ran, get_trapped, release_ran, ask_ran, section_ran, peek_ran, bpeek_ran, poke_ran, bpoke_ran}
 use Rattle.xs_machine.proofs.lines.run_user_command.Goals as goal
 
 pub write_register-requires-clause-known : goal.write_register-requires-clause-known
@@ -14,21 +15,48 @@ write_register-requires-clause-known g c = let known = rw c.in-Set.is at c.requi
 pub read_register-requires-clause-known : goal.read_register-requires-clause-known
 read_register-requires-clause-known g c = let known = rw c.in-Get.is at c.requires.known in rw c.as_slice-in-Get.ensures.bytes known
 
-pub returns-in-Set : goal.returns-in-Set
-returns-in-Set g c =
+pub returns-in-Ok : goal.returns-in-Ok
+returns-in-Ok g c =
     let old = g.B.Bank.state c.args.cpu.now.bank in
     let known = rw c.in-Set.is at c.requires.known in
-    let built = rw c.in-Set.is at c.requires.built in
-    let after = c.write_register.ensures.after ∙ ap (λ (name : List ℕ). after_set old (place_of name) c.in-Set.bytes) c.as_slice.ensures.bytes in
-    rw c.in-Set.is (set_ran c.args.cpu.now c.write_register.new.bank c.args.task.now old (g.B.Bank.state c.write_register.new.bank) c.in-Set.reg c.in-Set.bytes c.requires.set_up known built c.requires.loaded after c.write_register.ensures.ready)
+    let e = c.in-Ok.ensures in
+    let passes = ap (λ (name : List ℕ). write_trap old.armed (place_of name)) (sym c.as_slice.ensures.bytes) ∙ e.trap in
+    let after = e.after ∙ ap (λ (name : List ℕ). after_set old (place_of name) c.in-Set.bytes) c.as_slice.ensures.bytes in
+    rw c.in-Set.is (set_ran c.args.cpu.now c.write_register.new.bank c.args.task.now old (g.B.Bank.state c.write_register.new.bank) c.in-Set.reg c.in-Set.bytes c.requires.set_up known c.requires.loaded passes after e.ready)
 
-pub returns-in-Get : goal.returns-in-Get
-returns-in-Get g c =
+pub returns-in-Err : goal.returns-in-Err
+returns-in-Err g c =
     let old = g.B.Bank.state c.args.cpu.now.bank in
-    let built = rw c.in-Get.is at c.requires.built in
-    let lane = c.read_register.ensures.lane ∙ ap (λ (name : List ℕ). read_place old.file (place_of name)) c.as_slice-in-Get.ensures.bytes in
-    let after = c.read_register.ensures.after ∙ ap (λ (name : List ℕ). after_get old (place_of name) c.read_register.result) c.as_slice-in-Get.ensures.bytes in
-    rw c.in-Get.is (get_ran c.args.cpu.now c.read_register.new.bank c.args.task.now old (g.B.Bank.state c.read_register.new.bank) c.in-Get.reg c.read_register.result c.requires.set_up built c.requires.loaded lane after)
+    let e = c.in-Err.ensures in
+    let traps = ap (λ (name : List ℕ). write_trap old.armed (place_of name)) (sym c.as_slice.ensures.bytes) ∙ e.trap in
+    rw c.in-Set.is (set_trapped c.args.cpu.now c.write_register.new.bank c.args.task.now old (g.B.Bank.state c.write_register.new.bank) c.in-Set.reg c.in-Set.bytes c.in-Err.trap c.requires.loaded traps e.kept)
+
+pub returns-in-Ok-read_register : goal.returns-in-Ok-read_register
+returns-in-Ok-read_register g c =
+    let old = g.B.Bank.state c.args.cpu.now.bank in
+    let e = c.in-Ok-read_register.ensures in
+    let bytes = c.in-Ok-read_register.bytes in
+    let passes = ap (λ (name : List ℕ). read_trap old.armed (place_of name)) (sym c.as_slice-in-Get.ensures.bytes) ∙ e.trap in
+    let lane = e.lane ∙ ap (λ (name : List ℕ). read_place old.file (place_of name)) c.as_slice-in-Get.ensures.bytes in
+    let after = e.after ∙ ap (λ (name : List ℕ). after_get old (place_of name) bytes) c.as_slice-in-Get.ensures.bytes in
+    rw c.in-Get.is (get_ran c.args.cpu.now c.read_register.new.bank c.args.task.now old (g.B.Bank.state c.read_register.new.bank) c.in-Get.reg bytes c.requires.set_up c.requires.loaded passes lane after)
+
+pub returns-in-Err-read_register : goal.returns-in-Err-read_register
+returns-in-Err-read_register g c =
+    let old = g.B.Bank.state c.args.cpu.now.bank in
+    let e = c.in-Err-read_register.ensures in
+    let traps = ap (λ (name : List ℕ). read_trap old.armed (place_of name)) (sym c.as_slice-in-Get.ensures.bytes) ∙ e.trap in
+    rw c.in-Get.is (get_trapped c.args.cpu.now c.read_register.new.bank c.args.task.now old (g.B.Bank.state c.read_register.new.bank) c.in-Get.reg c.in-Err-read_register.trap c.requires.loaded traps e.kept)
+
+pub returns-in-Tilerelease : goal.returns-in-Tilerelease
+returns-in-Tilerelease g c =
+    let e = c.release.ensures in
+    rw c.in-Tilerelease.is (release_ran c.args.cpu.now c.release.new.cpu c.args.task.now (g.B.Bank.state c.args.cpu.now.bank) (g.B.Bank.state c.release.new.cpu.bank) c.requires.set_up c.requires.loaded e.cpu e.file e.armed e.ready e.counts)
+
+pub returns-in-Perm : goal.returns-in-Perm
+returns-in-Perm g c =
+    let e = c.ask.ensures in
+    rw c.in-Perm.is (ask_ran c.args.cpu.now c.args.task.now c.ask.new.task (g.B.Bank.state c.args.cpu.now.bank) c.in-Perm.feature c.ask.result c.requires.set_up c.requires.loaded e.reply e.form e.rest)
 
 pub returns-in-Ksec : goal.returns-in-Ksec
 returns-in-Ksec g c =

@@ -14,7 +14,7 @@ rounds-init g c =
     let script = c.args.script.now in
     record {
       none = c.new-lines.ensures;
-      run = run_opened script c.args.board c.requires.script c.requires.new c.requires.valid c.requires.built;
+      run = run_opened script c.args.board c.requires.script c.requires.new c.requires.valid;
       at = at_opened script c.args.board c.requires.script c.requires.new g.B.Bank.state _ c.args.procs.now (refl, (refl, (refl, (refl, (refl, (refl, (refl, (refl, (refl, (refl, (refl, (refl, (refl, (refl, (refl, (refl, tt)))))))))))))))) c.requires.set_up;
       schedule = schedule_opened script c.args.board c.requires.script c.requires.new;
       replay = (0, replay_opened script c.args.board c.requires.new);

@@ -2,9 +2,9 @@
 use Rattle.std.proofs.Common.{◌≡◌, length, refl, sym, ap, ◌∙◌, arith}
 use Rattle.xs_model.specs.Script.{is_user}
 use Rattle.xs_board.specs.declared.turn.Entry.{Entry}
-use Rattle.xs_machine.proofs.LineLemmas.{block_known, back_here, place_here, layout_here, on_here, outside_here, handles_here, none_here, line_here, entry_here, handler_over, body_over, outer_over, refused_over, after_line, if_longer}
-use Rattle.xs_machine.proofs.ScriptLemmas.{line_found, known_line, built_line, kernel_line, place_fits, line_follows}
-use Rattle.xs_machine.proofs.EntryLemmas.{keeps_more, keeps_cpu}
+use Rattle.xs_machine.proofs.LineLemmas.{block_known, back_here, place_here, layout_here, on_here, outside_here, handles_here, none_here, line_here, entry_here, halted_lines, handler_over, body_over, outer_over, halted_over, after_line, if_longer}
+use Rattle.xs_machine.proofs.ScriptLemmas.{line_found, known_line, kernel_line, place_fits, line_follows}
+use Rattle.xs_machine.proofs.EntryLemmas.{keeps_more, keeps_cpu, keeps_halted}
 use Rattle.xs_machine.proofs.turn.run_line.Goals as goal
 
 pub is_user-user-requires : goal.is_user-user-requires
@@ -70,20 +70,7 @@ run_local-requires-clause-known g c =
     let same : user ≡ is_user script r.t = c.is_user-user.ensures ∙ ap (is_user script) r.running.turning.name in
     let at = line_here script r.t r.c r.first r.before r.start items r.private c.args.task.now c.args.cpu.now bank r.running c.come_back.new.task c.come_back.new.cpu bank1 user same c.come_back.ensures order c.in-Some.ensures in
     let layout = layout_here script r.t r.c r.first r.before r.start items r.private c.args.task.now c.args.cpu.now bank r.running c.come_back.new.task c.come_back.new.cpu bank1 user same c.come_back.ensures in
-    rw layout (known_line script c.requires.valid c.requires.built r.t r.private order at)
-
-pub run_local-requires-clause-built : goal.run_local-requires-clause-built
-run_local-requires-clause-built g c =
-    let r = c.requires.turning in
-    let script = c.args.script.now in
-    let items = c.args.entries.now.items in
-    let bank = g.B.Bank.state c.args.cpu.now.bank in
-    let bank1 = g.B.Bank.state c.come_back.new.cpu.bank in
-    let user = c.is_user-user.result in
-    let order = c.in-Some.order.now in
-    let same : user ≡ is_user script r.t = c.is_user-user.ensures ∙ ap (is_user script) r.running.turning.name in
-    let at = line_here script r.t r.c r.first r.before r.start items r.private c.args.task.now c.args.cpu.now bank r.running c.come_back.new.task c.come_back.new.cpu bank1 user same c.come_back.ensures order c.in-Some.ensures in
-    built_line script c.requires.valid c.requires.built r.t r.private order at
+    rw layout (known_line script c.requires.valid r.t r.private order at)
 
 pub run_local-requires-clause-kind : goal.run_local-requires-clause-kind
 run_local-requires-clause-kind g c = λ kernel.
@@ -97,7 +84,7 @@ run_local-requires-clause-kind g c = λ kernel.
     let same : user ≡ is_user script r.t = c.is_user-user.ensures ∙ ap (is_user script) r.running.turning.name in
     let at = line_here script r.t r.c r.first r.before r.start items r.private c.args.task.now c.args.cpu.now bank r.running c.come_back.new.task c.come_back.new.cpu bank1 user same c.come_back.ensures order c.in-Some.ensures in
     let outside = outside_here script r.t r.c r.first r.before r.start items r.private c.args.task.now c.args.cpu.now bank r.running c.come_back.new.task c.come_back.new.cpu bank1 user same c.come_back.ensures kernel in
-    kernel_line script c.requires.valid c.requires.built r.t r.private order at outside (sym same ∙ kernel)
+    kernel_line script c.requires.valid r.t r.private order at outside (sym same ∙ kernel)
 
 pub run_local-requires-clause-inside : goal.run_local-requires-clause-inside
 run_local-requires-clause-inside g c = λ returns.
@@ -125,7 +112,7 @@ run_local-requires-clause-fits g c =
     let order = c.in-Some.order.now in
     let same : user ≡ is_user script r.t = c.is_user-user.ensures ∙ ap (is_user script) r.running.turning.name in
     let at = line_here script r.t r.c r.first r.before r.start items r.private c.args.task.now c.args.cpu.now bank r.running c.come_back.new.task c.come_back.new.cpu bank1 user same c.come_back.ensures order c.in-Some.ensures in
-    let fits = place_fits script c.requires.valid c.requires.built r.t r.private order at in
+    let fits = place_fits script c.requires.valid r.t r.private order at in
     let place = place_here script r.t r.c r.first r.before r.start items r.private c.args.task.now c.args.cpu.now bank r.running c.come_back.new.task c.come_back.new.cpu bank1 user same c.come_back.ensures in
     omega (arith, fits, place)
 
@@ -140,18 +127,17 @@ returns-in-Err-clause-after g c = λ t cpu first before start p are.
     let same : user ≡ is_user script t = c.is_user-user.ensures ∙ ap (is_user script) are.turning.name in
     let back = back_here script t cpu first before start items p c.args.task.now c.args.cpu.now bank are c.come_back.new.task c.come_back.new.cpu bank1 user same c.come_back.ensures in
     let at = line_here script t cpu first before start items p c.args.task.now c.args.cpu.now bank are c.come_back.new.task c.come_back.new.cpu bank1 user same c.come_back.ensures order c.in-Some.ensures in
-    let l = line_found script t p order at in
-    let found = c.lines_found.ensures script t l.lines p order c.requires.valid l.known l.at in
     let bank2 = g.B.Bank.state c.run_local.new.cpu.bank in
-    let error = c.in-Err.error in
-    let refused = c.in-Err.ensures in
-    let here = on_here script t cpu first before start items p c.args.task.now c.args.cpu.now bank are c.come_back.new.task c.come_back.new.cpu bank1 user same c.come_back.ensures in
-    refused_over script t cpu first before start items p c.args.task.now c.come_back.new.task c.args.cpu.now c.come_back.new.cpu bank bank1 are back
-    order.command error c.run_local.new.task c.run_local.new.cpu bank2 (rw same at refused)
-    (c.lines_follow.ensures.refused script t start items p (length items) error order are.run (record { at = at; why = refused.why p here }))
+    let close = c.in-Err.close in
+    halted_over script t cpu first before start items p c.args.task.now c.come_back.new.task c.args.cpu.now c.come_back.new.cpu bank bank1 are back
+    order.command close c.run_local.new.task c.run_local.new.cpu bank2 (rw same at c.in-Err.ensures)
+    (halted_lines script t cpu first before start items p c.args.task.now c.args.cpu.now bank are c.come_back.new.task c.come_back.new.cpu bank1 user same c.come_back.ensures order close c.run_local.new.task c.run_local.new.cpu bank2 at c.in-Err.ensures
+    (λ error is. c.lines_follow.ensures.refused script t start items p (length items) error order are.run is) (λ is. c.lines_follow.ensures.trap script t start items p (length items) order are.run is))
 
 pub returns-in-Err-clause-kept : goal.returns-in-Err-clause-kept
-returns-in-Err-clause-kept g c = keeps_more c.args.cpu.now c.come_back.new.cpu c.run_local.new.cpu (keeps_cpu c.args.cpu.now c.come_back.new.cpu c.come_back.ensures.cpu) (keeps_cpu c.come_back.new.cpu c.run_local.new.cpu c.in-Err.ensures.cpu)
+returns-in-Err-clause-kept g c =
+    keeps_more c.args.cpu.now c.come_back.new.cpu c.run_local.new.cpu (keeps_cpu c.args.cpu.now c.come_back.new.cpu c.come_back.ensures.cpu)
+    (keeps_halted c.is_user-user.result c.in-Some.order.now.command c.in-Err.close c.come_back.new.task c.run_local.new.task c.come_back.new.cpu c.run_local.new.cpu (g.B.Bank.state c.come_back.new.cpu.bank) (g.B.Bank.state c.run_local.new.cpu.bank) c.in-Err.ensures)
 
 pub returns-clause-after : goal.returns-clause-after
 returns-clause-after g c = λ t cpu first before start p are.
@@ -169,14 +155,13 @@ returns-clause-after g c = λ t cpu first before start p are.
     let bank2 = g.B.Bank.state c.run_local.new.cpu.bank in
     let reply = c.in-Ok.reply in
     let ran = c.in-Ok.ensures in
-    let free = c.built_is_plain.ensures.lines p order.command (built_line script c.requires.valid c.requires.built t p order at) in
-    let entry = entry_here script t cpu first before start items p c.args.task.now c.args.cpu.now bank are c.come_back.new.task c.come_back.new.cpu bank1 user same c.come_back.ensures order reply c.run_local.new.task c.run_local.new.cpu bank2 at free (sym c.is_outer.ensures ∙ c.if-is_outer.false) ran in
+    let entry = entry_here script t cpu first before start items p c.args.task.now c.args.cpu.now bank are c.come_back.new.task c.come_back.new.cpu bank1 user same c.come_back.ensures order reply c.run_local.new.task c.run_local.new.cpu bank2 at (sym c.is_outer.ensures ∙ c.if-is_outer.false) ran in
     let e : Entry = record { line = order.number; reply = reply } in
     let done = rw same at ran in
     let close = rw c.len-ran.ensures.value at c.close_after.ensures in
     rw c.push.ensures.items
     (after_line script t cpu first before start items p c.args.task.now c.come_back.new.task c.args.cpu.now c.come_back.new.cpu bank bank1 are back order found e refl
-    (line_follows script c.requires.valid c.requires.built t p order at entry.whole)
+    (line_follows script c.requires.valid t p order at entry.whole)
     (c.lines_follow.ensures.more script t start items p (length items) e order are.run entry)
     (c.lines_follow.ensures.last script t start items p (length items) e order are.run entry)
     (c.lines_follow.ensures.last_task script t start items p (length items) e order are.run entry)

@@ -1,76 +1,41 @@
--- The registers that the program has: where they are, what fits them, and that they never trap.
-use Rattle.std.proofs.Common.{◌≡◌, ℕ, ◌+◌, ◌-◌, ◌<◌, Bool, true, false, not, ◌&&◌, ◌||◌, ◌==◌, List, [], ◌∷◌, ◌++◌, length, drop, get_or, Some, None, if◌then◌else◌, refl, sym, ap, ◌∙◌, subst, arith}
-use Rattle.std.proofs.lemmas.Bool.{and_parts, eqb-true, ne_eqb, le-ltb}
+-- The registers of a machine: where they are, and what fits them.
+use Rattle.std.proofs.Common.{◌≡◌, ℕ, ◌+◌, ◌-◌, ◌<◌, Bool, true, not, ◌&&◌, ◌||◌, ◌==◌, List, [], ◌∷◌, ◌++◌, length, drop, get_or, refl, sym, ap, ◌∙◌, subst, arith}
+use Rattle.std.proofs.lemmas.Bool.{and_parts, eqb-true, le-ltb}
 use Rattle.std.proofs.lemmas.List.{ext_get_or, length-drop, get_or-drop}
 use Rattle.std.proofs.lemmas.Nat.{le_bytes_4}
 use Rattle.std.specs.Prelude.{slice_index}
 use Rattle.std.specs.Int.{from_le_bytes, to_le_bytes, w32}
-use Rattle.std.specs.List.{list_all, list_any}
+use Rattle.std.specs.List.{list_all}
 use Rattle.xs_base.specs.declared.component.Row.{Row}
 use Rattle.xs_base.specs.declared.component.Place.{Place}
 use Rattle.xs_base.specs.Bytes.{splice, zeros}
 use Rattle.xs_base.specs.File.{File, IsFile, is_mxcsr, part, with_part, with_pkru, write_place}
 use Rattle.xs_base.proofs.ComponentLemmas.{length_zeros, zero_at, pkru_size}
 use Rattle.xs_base.specs.Register.{IsNamed, IsRegister, place_at, place_of}
-use Rattle.xs_base.specs.Sets.{has}
 use Rattle.xs_base.proofs.Registers.{each_register, named_place}
-use Rattle.xs_bank.specs.Bank as banks
 use Rattle.xs_model.specs.declared.script.Command.TheVariants as commands
 use Rattle.xs_model.specs.Counts.{is_pkru}
-use Rattle.xs_model.specs.Script.{IsCommand, IsBuiltName, fits_register, built_components, is_built}
+use Rattle.xs_model.specs.Script.{IsCommand, fits_register}
 
 -- ---- places
-
--- a name that the program has has a built place
-pub built_place : (reg : List ℕ) → IsBuiltName reg → is_built (place_of reg) ≡ true
-built_place reg built = rw (named_place reg built.0 built.1) built.2
-
-abbrev is_built_in : ℕ → Type 0
-is_built_in component = list_any (λ c. c == component) built_components ≡ true
-
--- so it isn't that of TILECFG or of TILEDATA
-pub built_not_config : (place : Place) → is_built place ≡ true → place.comp.0 ≡ 17 → ⊥
-built_not_config place built is = cc (subst is_built_in is built)
-
-pub built_not_tiles : (place : Place) → is_built place ≡ true → place.comp.0 ≡ 18 → ⊥
-built_not_tiles place built is = cc (subst is_built_in is built)
 
 -- the place of a register of the machine
 pub register_of : (rows : List Row) (reg : List ℕ) (place : Place) → IsRegister rows reg place → IsRegister rows reg (place_of reg)
 register_of rows reg place register = let P : Place → Type 0 = λ p. IsRegister rows reg p in subst P (sym (named_place reg place register.0)) register
 
--- PKRU's component has one register, its first four bytes
-pub pkru_place : (reg : List ℕ) → IsBuiltName reg → is_pkru (place_of reg) ≡ true → place_of reg ≡ place_at 9 0 4
-pkru_place reg built nine =
-    let place : Place = place_of reg in
-    let named : IsNamed reg (place_of reg) = rw (named_place reg built.0 built.1) built.1 in
-    let either = each_register (λ s. not (is_pkru s.place) || ((s.place.offset == 0) && (s.place.len == 4))) reg (place_of reg) refl named in
-    let both = and_parts (place.offset == 0) (place.len == 4) (rw nine at either) in
-    let c = eqb-true place.comp.0 9 nine in
-    let o = eqb-true place.offset 0 both.0 in
-    let n = eqb-true place.len 4 both.1 in
-    rw (c, o, n) refl
-
--- ---- traps
-
-no_trap : {A : Type 0} (b : Bool) (x : A) → b ≡ false → (if b then Some x else None) ≡ None
-no_trap b x off = rw off refl
-
-and_none : (a b : Bool) → b ≡ false → (a && b) ≡ false
-and_none true b off = off
-and_none false b off = refl
-
--- no built register traps
-pub write_passes : (armed : ℕ) (place : Place) → is_built place ≡ true → banks.write_trap armed place ≡ None
-write_passes armed place built =
-    no_trap (has armed 18 && ((place.comp.0 == 17) || (place.comp.0 == 18))) _
-    (and_none (has armed 18) ((place.comp.0 == 17) || (place.comp.0 == 18)) (rw (ne_eqb place.comp.0 17 (built_not_config place built), ne_eqb place.comp.0 18 (built_not_tiles place built)) refl))
-
-pub read_passes : (armed : ℕ) (place : Place) → is_built place ≡ true → banks.read_trap armed place ≡ None
-read_passes armed place built =
-    no_trap (has armed 18 && (place.comp.0 == 18)) _ (and_none (has armed 18) (place.comp.0 == 18) (ne_eqb place.comp.0 18 (built_not_tiles place built)))
-
 -- ---- PKRU
+
+-- PKRU's component has one register, its first four bytes
+pub pkru_place : (reg : List ℕ) (place : Place) → IsNamed reg place → is_pkru (place_of reg) ≡ true → place_of reg ≡ place_at 9 0 4
+pkru_place reg place named nine =
+    let here : Place = place_of reg in
+    let named_here : IsNamed reg (place_of reg) = rw (named_place reg place named) named in
+    let either = each_register (λ s. not (is_pkru s.place) || ((s.place.offset == 0) && (s.place.len == 4))) reg (place_of reg) refl named_here in
+    let both = and_parts (here.offset == 0) (here.len == 4) (rw nine at either) in
+    let c = eqb-true here.comp.0 9 nine in
+    let o = eqb-true here.offset 0 both.0 in
+    let n = eqb-true here.len 4 both.1 in
+    rw (c, o, n) refl
 
 -- its four bytes in their component, whose upper ones are zero
 pub pkru_spliced : (bytes old : List ℕ) → length bytes ≡ 4 → ((i : ℕ) → slice_index bytes i < 256) → length old ≡ 8 → ((k : ℕ) → get_or old (4 + k) 0 ≡ 0) → to_le_bytes w32 (from_le_bytes w32 bytes) ++ zeros 4 ≡ splice 0 bytes old
@@ -83,9 +48,9 @@ pkru_spliced bytes old len small size clean =
     ap (λ (bs : List ℕ). bs ++ zeros 4) four ∙ ap (λ (bs : List ℕ). bytes ++ bs) (rest ∙ ap (λ n. drop n old) behind)
 
 -- a file with this PKRU is the one with these bytes in PKRU's register
-pub pkru_written : (file : File) (reg bytes : List ℕ) → IsFile file → IsBuiltName reg → is_pkru (place_of reg) ≡ true → length bytes ≡ 4 → ((i : ℕ) → slice_index bytes i < 256) → with_pkru file (from_le_bytes w32 bytes) ≡ write_place file (place_of reg) bytes
-pkru_written file reg bytes good built nine len small =
-    rw (pkru_place reg built nine) (ap (λ (bs : List ℕ). with_part file 9 bs)
+pub pkru_written : (file : File) (reg bytes : List ℕ) → IsFile file → (place : Place) → IsNamed reg place → is_pkru (place_of reg) ≡ true → length bytes ≡ 4 → ((i : ℕ) → slice_index bytes i < 256) → with_pkru file (from_le_bytes w32 bytes) ≡ write_place file (place_of reg) bytes
+pkru_written file reg bytes good place named nine len small =
+    rw (pkru_place reg place named nine) (ap (λ (bs : List ℕ). with_part file 9 bs)
     (pkru_spliced bytes (part file 9) len small (good.sizes 9 (omega arith) ∙ pkru_size) (λ k. good.clean 9 (4 + k) (le-ltb (4 + k) 4 (omega arith)))))
 
 -- ---- values
