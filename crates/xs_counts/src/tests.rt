@@ -31,6 +31,9 @@ use xs_top::{Status, processors, top};
 /// - a parent that waits until its child has ended, and then reads none of its registers
 /// - a child's registers read before any wait for it
 /// - a stop in a handler
+/// - one Large area for three tasks: one gets it, one finds none, and one has no leave to ask for it
+/// - a fork of a task with tiles: its child has its tile configuration and its leave, and grows by itself
+/// - a Large area that comes back at a task's end, and that the next task gets without the tiles of the first
 const CASES: &str = "\
 xstate 1/machine amx/cpus 1/quantum 1/large 0/task a/set xmm0 11111111111111111111111111111111/get xmm0/end/task b/set xmm0 22222222222222222222222222222222/get xmm0/end/|\
 0/start a 0 load -/local a 7 -/start b 0 load -/local b 11 -/start a 0 load -/local a 8 =11111111111111111111111111111111/start b 0 load -/local b 12 =22222222222222222222222222222222/start a 0 load -/end a/start b 0 load -/end b/\
@@ -95,6 +98,15 @@ xstate 1/machine amx/cpus 1/quantum 8/large 0/task a/fork b/getregs b fx/end/chi
 2/refused 8 not-awaited/
 xstate 1/machine amx/cpus 1/quantum 8/large 0/task a/handler/stop/sigreturn/end/|\
 2/refused 8 outer-in-handler/
+xstate 1/machine amx/cpus 1/quantum 8/large 1/task a/perm 9/perm 19/perm 18/perm 18/get tmm0.0/end/task b/perm 18/get tmm0.0/end/task c/get tmm0.0/end/|\
+1/start a 0 load -/local a 7 !95/local a 8 !22/local a 9 +0/local a 10 +0/grow a/start b 0 load -/local b 14 +0/kill b 11 area/start c 0 load -/kill c 4 permission/start a 0 load -/local a 11 =00000000000000000000000000000000000000000000000000000000000000000000000000000000000000000000000000000000000000000000000000000000/end a/\
+%%/0 4 4 1 12430333200728531178/
+xstate 1/machine amx/cpus 1/quantum 8/large 2/task p/perm 18/set tilecfg 01010101010101010101010101010101010101010101010101010101010101010101010101010101010101010101010101010101010101010101010101010101/set tmm0.0 5a5a5a5a5a5a5a5a5a5a5a5a5a5a5a5a5a5a5a5a5a5a5a5a5a5a5a5a5a5a5a5a5a5a5a5a5a5a5a5a5a5a5a5a5a5a5a5a5a5a5a5a5a5a5a5a5a5a5a5a5a5a5a5a/fork c/get tmm0.0/end/child c/get tilecfg/get tmm0.0/end/|\
+0/start p 0 load -/local p 7 +0/grow p/start p 0 load -/local p 8 -/local p 9 -/outer p 10 -/start c 0 load -/local c 14 =01010101010101010101010101010101010101010101010101010101010101010101010101010101010101010101010101010101010101010101010101010101/grow c/start p 0 load -/local p 11 =5a5a5a5a5a5a5a5a5a5a5a5a5a5a5a5a5a5a5a5a5a5a5a5a5a5a5a5a5a5a5a5a5a5a5a5a5a5a5a5a5a5a5a5a5a5a5a5a5a5a5a5a5a5a5a5a5a5a5a5a5a5a5a5a/end p/start c 0 load -/local c 15 =00000000000000000000000000000000000000000000000000000000000000000000000000000000000000000000000000000000000000000000000000000000/end c/\
+%%/0 5 5 5 96250770663094126/
+xstate 1/machine amx/cpus 1/quantum 8/large 1/task a/perm 18/set tmm7.15 01010101010101010101010101010101010101010101010101010101010101010101010101010101010101010101010101010101010101010101010101010101/end/task b/perm 18/yield/yield/get tmm7.15/end/|\
+0/start a 0 load -/local a 7 +0/grow a/start b 0 load -/local b 11 +0/local b 12 -/start a 0 load -/local a 8 -/end a/start b 0 load -/local b 13 -/start b 0 skip -/grow b/start b 0 load -/local b 14 =00000000000000000000000000000000000000000000000000000000000000000000000000000000000000000000000000000000000000000000000000000000/end b/\
+%%/0 5 6 2 3528252337664512281/
 ";
 
 /// The status and what is printed for a script, with `/` for each line feed.
@@ -118,7 +130,7 @@ fn scripts_are_counted(rt: HostRuntime) -> Result<(), Fail> {
         assert_eq!(rt; answer.as_str(), wanted);
         cases = cases.saturating_add(1);
     }
-    assert!(rt; cases == 22);
+    assert!(rt; cases == 25);
     Ok(())
 }
 

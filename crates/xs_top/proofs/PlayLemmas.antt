@@ -3,7 +3,7 @@ use Rattle.std.proofs.Common.{◌≡◌, ℕ, List, [], ◌∷◌, ◌++◌, ref
 use Rattle.xs_model.specs.declared.script.Script.{Script}
 use Rattle.xs_model.specs.declared.event.Event.{Event}
 use Rattle.xs_model.specs.declared.event.Event.TheVariants as events
-use Rattle.xs_model.specs.Script.{IsValid, IsBuilt}
+use Rattle.xs_model.specs.Script.{IsValid}
 use Rattle.xs_text.specs.Text.{event_line, history_text}
 use Rattle.xs_top.specs.declared.play.Play.{Play}
 use Rattle.xs_top.specs.declared.play.Play.TheVariants.{Run, Replay}
@@ -29,10 +29,6 @@ played_valid Run script h = record {
   events = h.events;
 }
 played_valid Replay script h = h
-
-pub played_built : (play : Play) (script : Script) → IsBuilt script → IsBuilt (played play script)
-played_built Run script h = record { bodies = h.bodies; handlers = h.handlers }
-played_built Replay script h = h
 
 -- the line of an event, and the text of a history
 same_line : (play : Play) (script : Script) (event : Event) → event_line (played play script) event ≡ event_line script event

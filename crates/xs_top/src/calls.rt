@@ -2,7 +2,7 @@
 
 ghost use Rattle.std.specs.Prelude.{◌≡◌, ℕ, List, ◌⊎◌, length, map, string_bytes, Some};
 ghost use Rattle.xs_io.specs.Causes.{Rose};
-ghost use Rattle.xs_model.specs.Script.{IsValid, IsBuilt};
+ghost use Rattle.xs_model.specs.Script.{IsValid};
 ghost use Rattle.xs_model.specs.declared.script.Script.{Script};
 ghost use Rattle.xs_script.specs.RefusalText.{refusal_text};
 ghost use Rattle.xs_text.specs.Text.{AreTasksKnown, history_text};
@@ -192,7 +192,6 @@ fn write_run<K: Sink, B: Bank>(
     procs: &mut [Proc<B>],
 ) -> Status
     requires valid { IsValid script.now }
-    requires built { IsBuilt script.now }
     requires many { length procs.old ≡ 16 }
     requires numbers { AreNumbered procs.old }
     requires counts { AreUncounted B.state procs.old }

@@ -1,7 +1,7 @@
 //! A script's run, from its board to the history.
 
 ghost use Rattle.std.specs.Prelude.{◌≡◌, ◌≤◌, [], length, IfOk};
-ghost use Rattle.xs_model.specs.Script.{IsValid, IsBuilt};
+ghost use Rattle.xs_model.specs.Script.{IsValid};
 ghost use Rattle.xs_text.specs.Text.{AreTasksKnown};
 ghost use Rattle.xs_top.specs.declared.play.Play.{Play};
 ghost use Rattle.xs_top.specs.Run.{AreNumbered, AreUncounted, IsRunOf};
@@ -17,7 +17,6 @@ use xs_text::a_legal_history_has_a_text;
 /// The board of the script, which stays. It takes all memory of the run.
 pub fn open_board(alloc: Global, script: &Script) -> Result<Board, AllocError>
     requires valid { IsValid script.now }
-    requires built { IsBuilt script.now }
     ensures script { IfOk result (λ board. board.script ≡ script.now) }
     ensures new { IfOk result (λ board. board.history ≡ []) }
 {
@@ -27,7 +26,6 @@ pub fn open_board(alloc: Global, script: &Script) -> Result<Board, AllocError>
 /// Sets the script's processors up, and runs it by its schedule on a board that is new. Takes no memory.
 pub fn run_script<B: Bank>(script: &Script, board: Board, procs: &mut [Proc<B>]) -> History
     requires valid { IsValid script.now }
-    requires built { IsBuilt script.now }
     requires script { board.script ≡ script.now }
     requires new { board.history ≡ [] }
     requires many { length procs.old ≡ 16 }
