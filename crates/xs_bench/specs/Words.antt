@@ -14,7 +14,7 @@ use Rattle.xs_bench.specs.declared.command.Command.TheVariants.{Layout, Places, 
 use Rattle.xs_bench.specs.declared.command.Call.{Call}
 use Rattle.xs_bench.specs.declared.command.Call.TheVariants.{Layer, Bank, Signal}
 use Rattle.xs_bench.specs.declared.command.LayerCall.{LayerCall}
-use Rattle.xs_bench.specs.declared.command.LayerCall.TheVariants.{StandardInto, StandardOf, CompactOf, CopyArea, GetXstate, SetXstate, Copy, CopyCompacted, CopySmall, CopyOne, CopyHeader, Nothing, WriteEvent, CopyEvent}
+use Rattle.xs_bench.specs.declared.command.LayerCall.TheVariants.{StandardInto, StandardOf, CompactOf, CopyArea, GetXstate, SetXstate, Grow, Copy, CopyCompacted, CopySmall, CopyOne, CopyHeader, Nothing, WriteEvent, CopyEvent}
 use Rattle.xs_bench.specs.declared.command.BankKind.{BankKind}
 use Rattle.xs_bench.specs.declared.command.BankKind.TheVariants.{Plain, Track}
 use Rattle.xs_bench.specs.declared.command.BankCall.{BankCall}
@@ -50,6 +50,7 @@ layer_call_word CompactOf = codes "compact-of"
 layer_call_word CopyArea = codes "copy-area"
 layer_call_word GetXstate = codes "get-xstate"
 layer_call_word SetXstate = codes "set-xstate"
+layer_call_word Grow = codes "grow"
 layer_call_word Copy = codes "copy"
 layer_call_word CopyCompacted = codes "copy-compacted"
 layer_call_word CopySmall = codes "copy-small"

@@ -59,6 +59,8 @@ pub enum LayerCall {
     GetXstate,
     /// `xs_regset::set` of the Xstate set.
     SetXstate,
+    /// `xs_tile::grow`.
+    Grow,
     /// A plain copy of as many bytes as the standard format has.
     Copy,
     /// A plain copy of as many bytes as the compacted format has without PKRU.
@@ -217,6 +219,7 @@ fn layer_call_of(word: &str) -> Option<LayerCall>
         "copy-area" => Some(LayerCall::CopyArea),
         "get-xstate" => Some(LayerCall::GetXstate),
         "set-xstate" => Some(LayerCall::SetXstate),
+        "grow" => Some(LayerCall::Grow),
         "copy" => Some(LayerCall::Copy),
         "copy-compacted" => Some(LayerCall::CopyCompacted),
         "copy-small" => Some(LayerCall::CopySmall),

@@ -4,6 +4,7 @@
 
 mod banks;
 mod command;
+mod growing;
 mod inputs;
 mod lines;
 mod repeats;
@@ -30,7 +31,7 @@ usage: xs_bench layout MACHINE
 MACHINE: amx, avx
 MASK: the number of a set of components, in decimal
 N: how many times the call is made
-CALL: standard-into, standard-of, compact-of, copy-area, get-xstate, set-xstate, copy, copy-compacted, copy-small, copy-one, copy-header, nothing, write-event, copy-event
+CALL: standard-into, standard-of, compact-of, copy-area, get-xstate, set-xstate, grow, copy, copy-compacted, copy-small, copy-one, copy-header, nothing, write-event, copy-event
 BANK: plain, track
 INSTRUCTION: xsaves-full, xsaves-one, xsaves-unmodified, xsaves-initial, xrstors-full, xrstors-one, xrstors-initial
 STEP: signal, sigreturn

@@ -6,6 +6,7 @@ ghost use Rattle.xs_base.specs.Header as header;
 
 use crate::banks::repeat_bank_call;
 use crate::command::{BankCall, BankKind, Call, LayerCall};
+use crate::growing::repeat_grow;
 use crate::inputs::Inputs;
 use crate::lines::{repeat_line_copies, repeat_writes};
 use crate::sets::{repeat_get, repeat_set};
@@ -34,6 +35,7 @@ pub fn repeat(alloc: Global, call: Call, turns: u64) -> Result<Option<u64>, Allo
         Call::Layer(LayerCall::CopyEvent) => repeat_line_copies(alloc, turns),
         Call::Layer(LayerCall::GetXstate) => repeat_get(alloc, turns),
         Call::Layer(LayerCall::SetXstate) => repeat_set(alloc, turns),
+        Call::Layer(LayerCall::Grow) => repeat_grow(alloc, turns),
         Call::Layer(call) => repeat_on_inputs(alloc, call, turns),
         Call::Bank(BankKind::Plain, call) => {
             repeat_on_bank(alloc, PlainBank::new(alloc), call, turns)
