@@ -1,10 +1,11 @@
-"""Draws scripts of the forms that are built, for cases/random."""
+"""Draws scripts, for cases/random."""
 import random
 
 from framing import Frame, draw_peek, draw_poke
+from tiling import change_tiles, draw_tiles, put_leave, rows_of
 from tracing import change_buffer, change_order, draw_bpeek, draw_bpoke, draw_session, places_of, put_traces
 
-# The registers that are built, by their component: names and bytes.
+# The registers by their component, but those of tiles: names and bytes.
 REGISTERS = {
     0: [("fcw", 2), ("fsw", 2), ("ftw", 1), ("fop", 2), ("fip", 8), ("fdp", 8)] + [(f"st{i}", 10) for i in range(8)],
     1: [("mxcsr", 4)] + [(f"xmm{i}", 16) for i in range(16)],
@@ -16,9 +17,6 @@ REGISTERS = {
 }
 # The extended components of `amx`: number, size, flags.
 EXTENDED = [(2, 256, 0), (5, 64, 0), (6, 512, 0), (7, 1024, 0), (9, 8, 0), (17, 64, 2), (18, 8192, 6)]
-# The first words of lines that aren't built: a changed line must not begin with one.
-UNBUILT = set("tilerelease perm".split())
-UNBUILT_NAMES = ("tilecfg", "tmm")
 # Bytes of initial registers (FCW, MXCSR, PKRU, and zero), which name no block; and two for each of 64 blocks.
 INITIAL = set(bytes.fromhex("007f03801f5455"))
 TAGS = [byte for byte in range(256) if byte not in INITIAL]
@@ -47,23 +45,25 @@ class Block:
 
 
 def draw_machine(rng):
-    """Lines of a machine, the places of the components that it has, but TILEDATA's, and where its last one ends."""
+    """Lines of a machine, the places of the components that it has, but TILEDATA's, and that one and where the last one ends."""
     kind = rng.choice(["amx", "amx", "avx", "rows"])
     if kind == "amx":
-        return ["machine amx"], {0: 0, 1: 160, 2: 576, 5: 1088, 6: 1152, 7: 1664, 9: 2688, 17: 2752}, 11008
+        return ["machine amx"], {0: 0, 1: 160, 2: 576, 5: 1088, 6: 1152, 7: 1664, 9: 2688, 17: 2752}, (2816, 11008)
     if kind == "avx":
-        return ["machine avx"], {0: 0, 1: 160, 2: 576}, 832
+        return ["machine avx"], {0: 0, 1: 160, 2: 576}, (None, 832)
     lines, places, at = ["machine rows", "row 0 160 0 0", "row 1 256 160 0"], {0: 0, 1: 160}, 576
-    tiles = rng.random() < 0.5
+    tiles, data = rng.random() < 0.5, None
     for number, size, flags in EXTENDED:
         if (number in (17, 18) and not tiles) or (number not in (17, 18) and rng.random() < 0.4):
             continue
         at += rng.choice([0, 0, 1, 8, 64])
         lines.append(f"row {number} {size} {at} {flags}")
-        if number != 18:
+        if number == 18:
+            data = at
+        else:
             places[number] = at
         at += size
-    return lines, places, at
+    return lines, places, (data, at)
 
 
 def draw_bytes(rng, name, size):
@@ -172,7 +172,7 @@ def keep_apart(rng, tracer):
 
 def draw_script(rng, secrets):
     """The lines of a script that isn't refused. One in ten is a pair: a tracer and its child alone, on two processors."""
-    machine, places, full = draw_machine(rng)
+    machine, places, (data, full) = draw_machine(rng)
     all_registers = [it for component in places if component in REGISTERS for it in REGISTERS[component]]
     registers = rng.sample(all_registers, min(len(all_registers), rng.choice([1, 2, 3, 5] if secrets else [2, 3, 5, 40])))
     if secrets and rng.random() < 0.5:
@@ -180,11 +180,14 @@ def draw_script(rng, secrets):
         registers.append(("xmm0", 16))
     if 9 in places and rng.random() < 0.6:
         registers += REGISTERS[9] * rng.choice([1, 2, len(registers)])
+    tiles = data is not None and rng.random() < 0.5
+    if tiles:
+        registers += draw_tiles(rng) * rng.choice([1, 1, 3])
     pair = rng.random() < 0.1
     cpus = 2 if pair else rng.choice([1, 1, 2, 2, 3, 4, 16, rng.randint(1, 16)])
     quantum = rng.choice([8, 32]) if pair else rng.choice([1, 1, 2, 3, 8, rng.randint(1, 32)])
-    lines = ["xstate 1"] + machine + [f"cpus {cpus}", f"quantum {quantum}", f"large {rng.choice([0, 0, 1, 64])}"]
-    frame = Frame(places, full, {component for component, its in REGISTERS.items() if set(its) & set(registers)})
+    lines = ["xstate 1"] + machine + [f"cpus {cpus}", f"quantum {quantum}", f"large {64 if secrets and tiles else rng.choice([0, 1, 1, 2, 64])}"]
+    frame = Frame(places, rows_of(registers, data), full, {component for component, its in REGISTERS.items() if set(its) & set(registers)})
     if pair:
         blocks = draw_pair(rng, registers, frame, secrets)
         schedule = keep_apart(rng, blocks[0])
@@ -193,6 +196,8 @@ def draw_script(rng, secrets):
         put_forks(rng, blocks)
         put_traces(rng, blocks, frame)
         put_kills(rng, blocks, secrets)
+    if tiles or rng.random() < 0.05:
+        put_leave(rng, blocks, secrets)
     return lines + schedule + [line for block in blocks for line in block.lines()]
 
 
@@ -251,7 +256,7 @@ def change_handler(rng, lines):
 
 def change_meaning(rng, lines):
     """A line that is spelled well and may still be refused: a number past its limit, a name twice, a register or bytes that don't fit."""
-    kind = rng.choice(["limit"] * 2 + ["fork"] * 3 + ["kill"] * 3 + ["handler"] * 2 + ["frame"] * 2 + ["buffer"] * 2 + ["trace"] * 6 + ["sched", "name", "register", "bytes", "row", "pkru"])
+    kind = rng.choice(["limit"] * 2 + ["fork"] * 3 + ["kill"] * 3 + ["handler"] * 2 + ["frame"] * 2 + ["buffer"] * 2 + ["trace"] * 6 + ["tiles"] * 2 + ["sched", "name", "register", "bytes", "row", "pkru"])
     if kind == "limit":
         at = rng.choice(places_of(lines, "cpus", "quantum", "large") or [0])
         lines[at] = lines[at].split(" ")[0] + " " + rng.choice(["0", "1", "2", "16", "17", "32", "33", "64", "65", "4294967295", "4294967296"])
@@ -281,6 +286,8 @@ def change_meaning(rng, lines):
         change_buffer(rng, lines)
     elif kind == "trace":
         change_order(rng, lines)
+    elif kind == "tiles":
+        change_tiles(rng, lines, places_of(lines, "get", "set", "yield", "ksec", "perm", "tilerelease"))
     elif kind == "frame":
         at = rng.choice(places_of(lines, "peek", "poke", "get", "set", "yield") or [len(lines) - 1])
         place, size = rng.choice([16324, 16325, 16387, 16388, 4294967295]), rng.choice([0, 1, 63, 64, 65])
@@ -330,23 +337,11 @@ def change_lines(rng, lines):
             "sched", "sched 0", "sched 16", "cpus 0", "cpus 2", "quantum 1", "task a0", "kthread a0", "child a0", "fork a0", "fork", "fork A",
             "child", "get pkru", "end", "row 2 256 576 0", "xstate 1", "handler", "sigreturn", "kill a0 10", "kill a0 9", "kill",
             "peek 0 64", "peek 0 65", "poke 16387 00", "poke 16388 00", "bpeek 0 64", "bpeek 0 65", "bpoke 16383 00", "bpoke 16384 00",
-            "stop", "wait a0", "getregs a0 fx", "setregs a0 xstate 16384", "setregs a0 xstate 16385", "cont a0",
+            "perm 18", "tilerelease", "get tmm0.0", "get tilecfg", "stop", "wait a0", "getregs a0 fx", "setregs a0 xstate 16384", "setregs a0 xstate 16385", "cont a0",
         ]))
     else:
         lines = change_meaning(rng, lines)
     return lines
-
-
-def is_built(text):
-    """No line begins with a word that isn't built, and none names a register that isn't. Some block isn't a child."""
-    lines = text.split("\n")
-    if not places_of(lines, "task", "kthread"):
-        return False
-    for line in lines:
-        words = line.split(" ")
-        if words[0] in UNBUILT or (len(words) > 1 and words[0] in ("set", "get") and words[1].startswith(UNBUILT_NAMES)):
-            return False
-    return True
 
 
 def draw(seed, number, secrets):
@@ -356,5 +351,6 @@ def draw(seed, number, secrets):
         if not secrets and rng.random() < 1 / 3:
             lines = change_lines(rng, lines)
         text = "\n".join(lines) + ("\n" if secrets or rng.random() < 0.99 else "")
-        if is_built(text):
+        if places_of(text.split("\n"), "task", "kthread"):
+            # (of a script of children alone the other program may never end)
             return text.encode("latin-1")

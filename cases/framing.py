@@ -6,11 +6,11 @@ MAGIC1, MAGIC2 = "53585046", "45585046"
 
 
 class Frame:
-    """The frame of a machine: the place of each component but TILEDATA, the user size, that of a task without room for TILEDATA, the full size,
-    that of a register set, and the components whose registers a script uses."""
+    """The frame of a machine: the place of each component but TILEDATA, those of the rows of tiles that a script uses, the user size, that of a
+    task without room for TILEDATA, the full size, that of a register set, and the components whose registers a script uses."""
 
-    def __init__(self, places, full, chosen):
-        self.places, self.full, self.chosen = places, full, chosen
+    def __init__(self, places, rows, full, chosen):
+        self.places, self.rows, self.full, self.chosen = places, rows, full, chosen
         self.size = max([576] + [at + SIZES[component] for component, at in places.items() if component > 1])
 
     def ranges(self):
@@ -20,6 +20,15 @@ class Frame:
     def chosen_ranges(self):
         """The same, of the components whose registers a script uses, or of all where it uses x87 alone."""
         return [(at, SIZES[component]) for component, at in self.places.items() if component and component in self.chosen] or self.ranges()
+
+    def tile_ranges(self):
+        """Rows of tiles, which a register set has and the frame of a task with room for TILEDATA; or any component. No row stands where the frame of
+        another task may have its second magic word."""
+        return [(at, 64) for at in self.rows if not self.size - 64 < at < self.size + 4] or self.ranges()
+
+    def end(self, rng):
+        """A user size."""
+        return rng.choice([self.size, self.full]) if self.rows else self.size
 
 
 def within(rng, at, size):
@@ -31,10 +40,10 @@ def within(rng, at, size):
 def draw_peek(rng, frame, tag):
     """With a tag only bytes of registers are read."""
     if tag is not None or rng.random() < 0.4:
-        at, size = within(rng, *rng.choice(frame.ranges()))
+        at, size = within(rng, *rng.choice(rng.choice([frame.ranges, frame.tile_ranges])()))
     else:
-        words = [(464, 20), (512, 64), (24, 8), (416, 64), (frame.size, 4), (frame.size - 32, 40), (MEMORY - 4, 4)]
-        at, size = rng.choice(words + [within(rng, 0, MEMORY)])
+        words = [(464, 20), (512, 64), (24, 8), (416, 64), (frame.end(rng), 4), (frame.end(rng) - 32, 40), (MEMORY - 4, 4)]
+        at, size = rng.choice(words + [within(rng, 0, MEMORY), within(rng, *rng.choice(frame.tile_ranges()))])
     return f"peek {at} {size}"
 
 
@@ -57,7 +66,8 @@ def bits(rng, frame):
 
 def used(rng, frame, tag):
     """The components in use: some of those that the task may have."""
-    return 512, bits(rng, frame).to_bytes(8, "little").hex()
+    tiles = rng.choice([0, 1 << 18]) if tag is None and frame.rows else 0
+    return 512, (bits(rng, frame) | tiles).to_bytes(8, "little").hex()
 
 
 def first_word(rng, frame, tag):
@@ -68,12 +78,12 @@ def first_word(rng, frame, tag):
 
 
 def second_word(rng, frame, tag):
-    return frame.size + rng.choice([0, 0, 1, 3]), rng.choice(["00", "45", "58"])
+    return frame.end(rng) + rng.choice([0, 0, 1, 3]), rng.choice(["00", "45", "58"])
 
 
 def sizes(rng, frame, tag):
     """The two sizes, and the second word where a size may say it."""
-    size = rng.choice([0, 575, 576, 577, 640, frame.size - 1, frame.size, frame.size + 1, frame.size + 4, 11008, 16384, 16385, 16388, 2 ** 32 - 1])
+    size = rng.choice([0, 575, 576, 577, 640, frame.size - 1, frame.size, frame.size + 1, frame.size + 4, frame.full, 11008, 16384, 16385, 16388, 2 ** 32 - 1])
     return rng.choice([(468, size.to_bytes(4, "little").hex()), (480, size.to_bytes(4, "little").hex()), (min(size, MEMORY - 4), MAGIC2)])
 
 

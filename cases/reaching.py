@@ -142,7 +142,7 @@ class Tracing(Situations):
         self.stage, self.waits, self.cpu, self.section, self.held = {}, {}, {}, {}, {}
         self.sets, self.freed, self.blocked, self.conts = collections.defaultdict(set), set(), {}, collections.Counter()
         steps = {"start": self.start, "local": self.local, "stop": self.stop, "wait": self.wait, "getregs": self.read, "setregs": self.write,
-                 "cont": self.go_on, "kill ": self.send, "fork": self.fork, "end": self.end, "kill": self.end}
+                 "cont": self.go_on, "kill ": self.send, "fork": self.fork, "grow": self.grow, "end": self.end, "kill": self.end}
         for event in story.events:
             steps[story.kind_of(event)](event, event[1])
 
@@ -166,6 +166,9 @@ class Tracing(Situations):
         if self.section[name]:
             self.held[self.cpu[name]] = None
         self.where(line == "bpeek 512 2" and event[3] != "=0000", "marks that are read")
+
+    def grow(self, event, name):
+        self.section[name] = True
 
     def fork(self, event, name):
         self.stage[self.story.line(event).split(" ")[1]] = "ready"
@@ -234,4 +237,78 @@ class Tracing(Situations):
         self.stage[name] = "ended"
 
 
-SITUATIONS = (Reach, Signals, Tracing)
+class Tiles(Situations):
+    """The situations of tiles. Which blocks have a Large area, and which had one; of each block its processor, the lines of its turn, whether a handler runs,
+    and of a block that has just grown on which processor that was; of each processor the user task that was started last."""
+
+    def __init__(self, story):
+        super().__init__(story)
+        self.large, self.ended, self.cpu, self.turn, self.handler, self.grown, self.held = set(), set(), {}, {}, set(), {}, {}
+        steps = {"start": self.start, "local": self.local, "fork": self.fork, "getregs": self.read, "setregs": self.write, "grow": self.grow,
+                 "kill": self.kill, "end": self.end}
+        for event in story.events:
+            steps.get(story.kind_of(event), lambda event, name: None)(event, event[1])
+
+    def start(self, event, name):
+        _, _, cpu, how, signal = event
+        self.where(self.grown.get(name) == cpu and self.held.get(cpu) == name, f"a {how} behind a growth, on the same processor")
+        self.where(self.grown.get(name, cpu) != cpu, "a Start behind a growth, on another processor")
+        self.where(name in self.large and signal != "-", "a delivery to a task with a Large area")
+        self.where(name in self.large and how == "skip", "a skip of a task with a Large area")
+        self.where(name in self.large and self.cpu.get(name, cpu) != cpu, "a task with a Large area that moves")
+        self.cpu[name], self.turn[name] = cpu, []
+        self.grown.pop(name, None)
+        if signal != "-":
+            self.handler.add(name)
+        if how != "kern":
+            self.held[cpu] = name
+
+    def local(self, event, name):
+        words = self.story.line(event).split(" ")
+        self.turn[name].append(words[0])
+        if words[0] == "perm":
+            self.at.add(f"perm answers {event[3]}")
+        elif words[0] == "tilerelease":
+            self.where(name in self.large, "a release with a Large area", "a release without one")
+        elif words[0] in ("get", "set") and words[1].startswith(("tmm", "tilecfg")):
+            self.at.add(f"{words[0]} of {words[1][:3]}" + ("" if name in self.large else " without a Large area"))
+        elif words[0] == "sigreturn":
+            self.where(name in self.large, f"{event[3]} with a Large area")
+            self.handler.discard(name)
+
+    def fork(self, event, name):
+        self.where(name in self.large, "a fork of a task with a Large area")
+
+    def read(self, event, name):
+        child = self.story.line(event).split(" ")[1]
+        self.where(child in self.large and event[3].startswith("+"), "registers of a child with a Large area are read")
+
+    def write(self, event, name):
+        child = self.story.line(event).split(" ")[1]
+        self.where(child in self.large and event[3].startswith("+"), "registers of a child with a Large area are set")
+
+    def before(self, what, name):
+        """How a turn went up to its end by a line that traps."""
+        turn = self.turn[name]
+        self.where(not turn, f"{what} alone in its turn", f"{what} behind lines of its turn")
+        self.where(turn[-1:] == ["ksec"], f"{what} behind a section of its turn")
+        self.where(name in self.handler, f"{what} in a handler")
+
+    def grow(self, event, name):
+        self.before("a growth", name)
+        self.where(self.ended & self.large, "a growth behind the end of a task with a Large area")
+        self.where(name in self.story.parent, "a growth of a child")
+        self.large.add(name)
+        self.grown[name] = self.cpu[name]
+
+    def kill(self, event, name):
+        if event[3] in ("permission", "area"):
+            self.before(f"Kill {event[2]} {event[3]}", name)
+        self.where(name in self.large, "a kill of a task with a Large area")
+        self.ended.add(name)
+
+    def end(self, event, name):
+        self.ended.add(name)
+
+
+SITUATIONS = (Reach, Signals, Tracing, Tiles)

@@ -9,7 +9,7 @@ BEHIND_A_WAIT = ("getregs", "setregs", "cont")
 def draw_bpeek(rng, frame, tag):
     """With a tag only bytes of registers are read."""
     if tag is not None or rng.random() < 0.4:
-        at, size = within(rng, *rng.choice(rng.choice([frame.ranges, frame.chosen_ranges])()))
+        at, size = within(rng, *rng.choice(rng.choice([frame.ranges, frame.chosen_ranges, frame.tile_ranges])()))
     else:
         words = [(512, 2), (512, 8), (512, 64), (464, 8), (464, 48), (24, 8), (416, 64), (min(frame.full, BUFFER - 16) - 8, 16), (BUFFER - 4, 4)]
         at, size = rng.choice(words + [within(rng, 0, BUFFER)])
@@ -25,6 +25,8 @@ def first_byte(rng, frame, tag):
 def marked(rng, frame, tag):
     """The components that a set brings: none, one, or some."""
     some = rng.choice([0, 1 << rng.choice(sorted(frame.places)), bits(rng, frame)])
+    if frame.rows and tag is None and rng.random() < 0.5:
+        some |= 1 << 18
     return 512, some.to_bytes(8, "little").hex()[:rng.choice([2, 4, 16])]
 
 
