@@ -1,5 +1,6 @@
 """Draws scripts, for cases/random."""
 import random
+import re
 
 from framing import Frame, draw_peek, draw_poke
 from tiling import change_tiles, draw_tiles, put_leave, rows_of
@@ -316,14 +317,22 @@ def change_meaning(rng, lines):
     return lines
 
 
+def pass_another(lines):
+    """Whether a row has its place behind all of a later one."""
+    rows = [[int(word) for word in line.split(" ")[1:]] for line in lines if re.fullmatch(r"row( [0-9]{1,10}){4}", line)]
+    return any(one[2] <= 16384 and one[2] >= other[1] + other[2] for i, one in enumerate(rows) for other in rows[i + 1:])
+
+
 def change_lines(rng, lines):
     """The lines with one of them changed, left out, doubled, moved or put in."""
     lines, at = list(lines), rng.randrange(len(lines))
     kind = rng.randrange(12)
-    if kind == 0:
-        lines[at] = change_number(rng, lines[at])
-    elif kind == 1:
-        lines[at] = change_text(rng, lines[at])
+    if kind < 2:
+        old = lines[at]
+        lines[at] = change_number(rng, old) if kind == 0 else change_text(rng, old)
+        if pass_another(lines):
+            # (whether rows may come in another order than their places isn't asked)
+            lines[at] = old
     elif kind == 2:
         del lines[at]
     elif kind == 3:
