@@ -3,7 +3,6 @@ pub mod Blocks
 pub mod Runners
 pub mod Running
 pub mod Tests
-pub mod Signals
 pub mod Releasing
 pub mod Members
 pub mod Events
@@ -31,6 +30,5 @@ pub mod Settling
 pub mod Moving
 pub mod Taking
 pub mod Asking
-pub mod Names
 pub mod FirstTasks
 pub mod Beginning

@@ -3,7 +3,6 @@ pub mod Laws
 pub mod Turn
 pub mod Starts
 pub mod Home
-pub mod Pending
 pub mod Member
 pub mod Birth
 pub mod Deed

@@ -1,8 +1,6 @@
 //! What the line with which a turn closes does beside its turn.
 
-ghost use Rattle.std.specs.Prelude.{◌≡◌, ◌<◌, ◌≤◌, length, bytes_eq};
-ghost use Rattle.std.specs.List.{position_or_len};
-ghost use Rattle.xs_model.specs.declared.script.Block.{Block};
+ghost use Rattle.std.specs.Prelude.{◌≡◌, ◌<◌, ◌≤◌, length};
 ghost use Rattle.xs_board.specs.Deed as deeds;
 ghost use Rattle.xs_board.specs.Deed.{deed_by};
 ghost use Rattle.xs_board.specs.Putting.{at_outer};
@@ -10,7 +8,7 @@ ghost use Rattle.xs_board.specs.Turn.{body_command};
 
 use crate::turn::Close;
 use xs_base::{Set, Signo};
-use xs_model::{Block, Command, Script};
+use xs_model::{Command, Script};
 
 /// What an outer line does. The blocks are the numbers of those that it names.
 #[derive(Clone, Copy)]
@@ -59,40 +57,24 @@ fn deed_of(script: &Script, command: &Command) -> Option<Deed>
     requires few { length script.now.blocks ≤ 64 }
     ensures { result ≡ deeds.deed_of script.now command.now }
 {
-    let blocks = script.blocks.as_slice();
     match command {
-        Command::Fork { name } => Some(Deed::Fork(block_named(blocks, name.as_slice()))),
+        Command::Fork { name } => Some(Deed::Fork(script.block_named(name.as_slice()))),
         Command::Kill { name, signo } => Some(Deed::Send {
-            target: block_named(blocks, name.as_slice()),
+            target: script.block_named(name.as_slice()),
             signo: *signo,
         }),
         Command::Stop => Some(Deed::Stop),
-        Command::Wait { name } => Some(Deed::Wait(block_named(blocks, name.as_slice()))),
+        Command::Wait { name } => Some(Deed::Wait(script.block_named(name.as_slice()))),
         Command::Getregs { name, set } => Some(Deed::Get {
-            target: block_named(blocks, name.as_slice()),
+            target: script.block_named(name.as_slice()),
             set: *set,
         }),
         Command::Setregs { name, set, count } => Some(Deed::Put {
-            target: block_named(blocks, name.as_slice()),
+            target: script.block_named(name.as_slice()),
             set: *set,
             count: *count,
         }),
-        Command::Cont { name } => Some(Deed::Cont(block_named(blocks, name.as_slice()))),
+        Command::Cont { name } => Some(Deed::Cont(script.block_named(name.as_slice()))),
         _ => None,
     }
-}
-
-/// The number of the block of this name, and the number of blocks where none has it.
-fn block_named(blocks: &[Block], name: &[u8]) -> u32
-    requires few { length blocks.now ≤ 64 }
-    ensures { result ≡ position_or_len (λ (block : Block). bytes_eq block.name name.now) blocks.now }
-{
-    let mut number = 0;
-    'each: for block in blocks {
-        if *block.name.as_slice() == *name {
-            return number;
-        }
-        number += 1;
-    }
-    number
 }

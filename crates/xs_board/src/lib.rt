@@ -13,7 +13,6 @@ mod doing;
 mod laws;
 mod member;
 mod opening;
-mod pending;
 mod putting;
 mod registers;
 mod telling;

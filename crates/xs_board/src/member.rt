@@ -4,10 +4,10 @@ ghost use Rattle.std.specs.Prelude.{◌≡◌, [], Some, None, IfOk};
 ghost use Rattle.xs_board.specs.declared.member.Life.TheVariants as lives;
 ghost use Rattle.xs_board.specs.Member.{emptied, ended, is_alive, is_stopped_life, is_stopped_child, next_signal, received, waits_for};
 
-use crate::pending::add_signal;
 use std::alloc::{AllocError, Global};
 use std::marker::Model;
 use xs_base::Signo;
+use xs_model::add_signal;
 
 /// How many signals there are, each of which is pending once at most.
 const SIGNALS: usize = 31;

@@ -6,7 +6,7 @@ ghost use Rattle.xs_model.specs.Line as lines;
 ghost use Rattle.xs_board.specs.Turn as turns;
 ghost use Rattle.xs_board.specs.Turn.{close_events, trap_end, turn_events};
 
-use crate::turn::{Close, Entry, copy_reply};
+use crate::turn::{Close, Entry};
 use xs_base::{HeaderError, Signo};
 use xs_model::{Event, Reply, Why};
 
@@ -25,7 +25,7 @@ pub fn tell_turn(
     ensures capacity { vec_capacity events.new ≡ vec_capacity events.old }
 {
     'each: for entry in entries {
-        let reply = copy_reply(&entry.reply);
+        let reply = entry.reply.copy();
         tell(
             events,
             Event::Local {

@@ -6,7 +6,7 @@ ghost use Rattle.xs_model.specs.Note.{is_at};
 ghost use Rattle.xs_model.specs.Script.{is_user_kind};
 
 use arrayvec::ArrayVec;
-use xs_base::{HeaderError, How, Lane, Signo};
+use xs_base::{HeaderError, How, Signo};
 use xs_model::{BlockKind, Reply};
 use xs_task::Task;
 
@@ -80,23 +80,5 @@ pub fn start_how(kind: BlockKind, mark: Option<u32>, last: Option<u32>, name: u3
         BlockKind::Kthread => How::Kern,
         _ if mark == Some(name) && last == Some(cpu) => How::Skip,
         _ => How::Load,
-    }
-}
-
-/// The same reply.
-pub fn copy_reply(reply: &Reply) -> Reply
-    ensures { result ≡ reply.now }
-{
-    match reply {
-        Reply::Done => Reply::Done,
-        Reply::Bytes(lane) => Reply::Bytes(Lane::from_slice(lane.as_slice())),
-        Reply::Count(n) => Reply::Count(*n),
-        Reply::Error(n) => Reply::Error(*n),
-        Reply::Blocked => Reply::Blocked,
-        Reply::Stopped => Reply::Stopped,
-        Reply::Ended => Reply::Ended,
-        Reply::Held => Reply::Held,
-        Reply::Full => Reply::Full,
-        Reply::Legacy => Reply::Legacy,
     }
 }

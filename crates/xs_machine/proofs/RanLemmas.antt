@@ -17,9 +17,9 @@ use Rattle.xs_bank.specs.Bank as banks
 use Rattle.xs_bank.specs.Bank.{IsReady, counts_of}
 use Rattle.xs_bank.specs.Holds.{Holds}
 use Rattle.xs_bank.specs.SetUp.{WasSetUp}
-use Rattle.xs_frame.specs.declared.image.Restored.{Restored}
-use Rattle.xs_frame.specs.declared.image.Restored.TheVariants as answers
-use Rattle.xs_frame.specs.Restored.{restored_as}
+use Rattle.xs_image.specs.declared.image.Restored.{Restored}
+use Rattle.xs_image.specs.declared.image.Restored.TheVariants as answers
+use Rattle.xs_image.specs.Restored.{restored_as}
 use Rattle.xs_model.specs.declared.event.Reply.{Reply}
 use Rattle.xs_model.specs.declared.event.Reply.TheVariants as replies
 use Rattle.xs_model.specs.declared.script.Command.{Command}

@@ -9,7 +9,6 @@ ghost use Rattle.xs_base.specs.Layout.{IsLayout};
 ghost use Rattle.xs_machine.specs.Line.{CameBack, Halted, IsOn, Ran, RanLine, WasTrapped, restored_reply};
 
 use crate::registers::{read_register, write_register};
-use crate::script::is_return;
 use crate::tiles::{ask, release};
 use xs_bank::{Bank, Cpu, Trap};
 use xs_board::Close;
@@ -49,7 +48,7 @@ pub fn run_local<B: Bank>(
     requires fits { task.old.place + 1 < 2 ^ 32 }
     ensures { MatchResult result (λ reply. RanLine user command.now reply task.old task.new cpu.old cpu.new (B.state cpu.old.bank) (B.state cpu.new.bank)) (λ close. Halted user command.now close task.old task.new cpu.old cpu.new (B.state cpu.old.bank) (B.state cpu.new.bank)) }
 {
-    if is_return(command) {
+    if command.is_return() {
         return go_back(cpu, task);
     }
     match run_command(cpu, task, command, user) {

@@ -4,21 +4,13 @@ ghost use Rattle.std.specs.Prelude.{◌≡◌, ◌<◌, length, slice_index, tru
 ghost use Rattle.xs_board.specs.Turn.{line_of, closed_by};
 ghost use Rattle.xs_model.specs.Machine.{goes_on};
 ghost use Rattle.xs_model.specs.Replay.{schedule_of};
-ghost use Rattle.xs_model.specs.Script.{IsValid, is_outer, is_return, is_user};
+ghost use Rattle.xs_model.specs.Script.{IsValid};
 ghost use Rattle.xs_base.specs.Task.{PrivateTask};
 ghost use Rattle.xs_machine.specs.Line.{StandsAt};
 
 use xs_board::Close;
-use xs_model::{BlockKind, Command, Order, Script};
+use xs_model::{Command, Order, Script};
 use xs_task::Task;
-
-/// Whether the block is a user task.
-pub fn is_user(script: &Script, block: u32) -> bool
-    requires { block < length script.now.blocks }
-    ensures { result ≡ is_user script.now block }
-{
-    script.blocks.as_slice()[block as usize].kind != BlockKind::Kthread
-}
 
 /// The line at the task's place, where it has one: that of its handler while a user task runs it, and else that of its body.
 pub fn line_of<'a>(script: &'a Script, task: &Task, user: bool) -> Option<&'a Order>
@@ -26,35 +18,7 @@ pub fn line_of<'a>(script: &'a Script, task: &Task, user: bool) -> Option<&'a Or
     ensures { MatchOption result ((p : PrivateTask) → StandsAt user task.now p → line_of script.now task.now.name p ≡ None) (λ o. (p : PrivateTask) → StandsAt user task.now p → line_of script.now task.now.name p ≡ Some o.now) }
 {
     let block = &script.blocks.as_slice()[task.name as usize];
-    let lines = if user && task.handling {
-        &block.handler
-    } else {
-        &block.body
-    };
-    lines.as_slice().get(task.place as usize)
-}
-
-/// Whether the command reaches another block.
-pub fn is_outer(command: &Command) -> bool
-    ensures { result ≡ is_outer command.now }
-{
-    matches!(
-        command,
-        Command::Fork { .. }
-            | Command::Kill { .. }
-            | Command::Stop
-            | Command::Wait { .. }
-            | Command::Getregs { .. }
-            | Command::Setregs { .. }
-            | Command::Cont { .. }
-    )
-}
-
-/// Whether the command is a return from a handler.
-pub fn is_return(command: &Command) -> bool
-    ensures { result ≡ is_return command.now }
-{
-    matches!(command, Command::Sigreturn)
+    block.line_at(user && task.handling, task.place)
 }
 
 /// How the turn is over after a line, where it doesn't go on: `ran` Local events came before the line.
@@ -62,7 +26,7 @@ pub fn close_after(script: &Script, command: &Command, ran: u32) -> Option<Close
     requires { ran < script.now.quantum }
     ensures { MatchOption result (goes_on script.now command.now ran ≡ true) (λ close. (goes_on script.now command.now ran ≡ false) × (close ≡ closed_by command.now)) }
 {
-    if matches!(command, Command::Yield) {
+    if command.is_yield() {
         return Some(Close::Yield);
     }
     let quantum = script.quantum;

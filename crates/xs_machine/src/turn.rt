@@ -10,7 +10,7 @@ ghost use Rattle.xs_machine.specs.Processors.{KeepsProcessor};
 ghost use Rattle.xs_machine.specs.Turn.{AfterLine, AreOver, AreRunning, HasLeft, IsTurning, SomeOver, SomeRunning};
 
 use crate::lines::{come_back, run_local};
-use crate::script::{close_after, is_outer, is_user, line_of};
+use crate::script::{close_after, line_of};
 use xs_bank::{Bank, Cpu};
 use xs_board::{Close, Entries, Entry, lines_follow};
 use xs_model::{Script, lines_found, machine_known, named_known};
@@ -57,12 +57,12 @@ fn run_line<B: Bank>(
     lines_follow();
     named_known();
     let ran = entries.len() as u32;
-    let user = is_user(script, task.name);
+    let user = script.is_user(task.name);
     come_back(cpu, task, user);
     let Some(order) = line_of(script, task, user) else {
         return Some(Close::End);
     };
-    if is_outer(&order.command) {
+    if order.command.is_outer() {
         return Some(Close::Outer(order.number));
     }
     let reply = match run_local(cpu, task, &order.command, user) {
@@ -84,7 +84,7 @@ pub fn leave<B: Bank>(script: &Script, cpu: &mut Cpu<B>, task: &mut Task)
     ensures name { task.new.name ≡ task.old.name }
     ensures kept { KeepsProcessor cpu.old cpu.new }
 {
-    if is_user(script, task.name) {
+    if script.is_user(task.name) {
         switch_out(task, cpu);
     }
 }

@@ -56,3 +56,5 @@ mod Unscheduled
 mod LargeTasks
 mod LargeAreas
 mod LargeUsers
+mod FirstNamed
+mod Signals

@@ -31,7 +31,7 @@ lower low high [] below rising = tt
 lower low high (signo ∷ pending) below rising = let above = rising.0 in (omega arith, rising.1)
 
 -- a signal joins at its place
-joined : (last : ℕ) (signo : Signo) (pending : List Signo) → last < signo.number → ArePending last pending → ArePending last (insert signo pending)
+pub joined : (last : ℕ) (signo : Signo) (pending : List Signo) → last < signo.number → ArePending last pending → ArePending last (insert signo pending)
 joined last signo [] above rising = (above, tt)
 joined last signo (other ∷ pending) above rising =
     by_place (nat_lt signo.number other.number) (signo.number == other.number) refl refl (λ (beyond : other.number < signo.number). joined other.number signo pending beyond rising.1)

@@ -7,6 +7,7 @@ pub mod Note
 pub mod Held
 pub mod State
 pub mod Outer
+pub mod Pending
 pub mod Due
 pub mod Machine
 pub mod History

@@ -20,9 +20,13 @@ use Rattle.xs_model.specs.declared.event.Reply.TheVariants as replies
 use Rattle.xs_model.specs.declared.event.Why.{Why}
 use Rattle.xs_model.specs.declared.event.Why.TheVariants as whys
 
--- the line at the task's place: one of the handler while that runs
+-- the line at a place: one of the handler while that runs
+abbrev pub order_at : Block → Bool → ℕ → Option Order
+order_at lines handling place = slice_get (if handling then lines.handler else lines.body) place
+
+-- the line at the task's place
 abbrev pub line_at : Block → PrivateTask → Option Order
-line_at lines task = slice_get (if task.handling then lines.handler else lines.body) task.place
+line_at lines task = order_at lines task.handling task.place
 
 -- the task at the next line
 abbrev pub next_line : PrivateTask → PrivateTask

@@ -1,7 +1,8 @@
-//! Copies of scripts.
+//! Copies of scripts and of replies.
 
 ghost use Rattle.std.specs.Prelude.{◌≡◌, IfOk};
 
+use crate::event::Reply;
 use crate::items::Items;
 use crate::name::Name;
 use crate::script::{Block, Command, Order, Script};
@@ -24,6 +25,26 @@ impl Script {
             sched,
             blocks,
         })
+    }
+}
+
+impl Reply {
+    /// The same reply.
+    pub fn copy(&self) -> Reply
+        ensures { result ≡ self.now }
+    {
+        match self {
+            Reply::Done => Reply::Done,
+            Reply::Bytes(lane) => Reply::Bytes(copy_lane(lane)),
+            Reply::Count(count) => Reply::Count(*count),
+            Reply::Error(number) => Reply::Error(*number),
+            Reply::Blocked => Reply::Blocked,
+            Reply::Stopped => Reply::Stopped,
+            Reply::Ended => Reply::Ended,
+            Reply::Held => Reply::Held,
+            Reply::Full => Reply::Full,
+            Reply::Legacy => Reply::Legacy,
+        }
     }
 }
 

@@ -1,15 +1,18 @@
 //! Scripts, events and the private machine: what a history of a script is, and which histories are legal, said of
 //! a machine where every task owns a whole register file. It has no banks, save areas, owner marks or last
 //! processors. The crate's contract is its definitions in `specs/`; the code has the types of scripts and
-//! histories, and the laws of the machine, each on a function that a caller has it from.
+//! histories, what is looked up in them, and the laws of the machine, each on a function that a caller has it from.
 #![tactic(auto)]
 
 mod bound;
 mod copying;
 mod event;
 mod items;
+mod kinds;
 mod laws;
+mod lookup;
 mod name;
+mod pending;
 mod script;
 mod stage;
 
@@ -23,5 +26,6 @@ pub use laws::{
     unseen_stays, waits_known,
 };
 pub use name::Name;
+pub use pending::add_signal;
 pub use script::{Block, BlockKind, Command, Named, Order, Script};
 pub use stage::Stage;

@@ -7,9 +7,9 @@ use Rattle.xs_model.specs.declared.event.Reply.TheVariants as replies
 use Rattle.xs_model.specs.declared.event.Reply.{Reply}
 use Rattle.xs_model.specs.Line.{count_or_error, errno_number}
 use Rattle.xs_model.specs.Outer.{set_task}
-use Rattle.xs_regset.specs.declared.checking.RegsetError.{RegsetError}
-use Rattle.xs_regset.specs.declared.checking.RegsetError.TheVariants as errors
-use Rattle.xs_regset.specs.Answer.{refused_as}
+use Rattle.xs_image.specs.declared.checking.RegsetError.{RegsetError}
+use Rattle.xs_image.specs.declared.checking.RegsetError.TheVariants as errors
+use Rattle.xs_image.specs.Answer.{refused_as}
 use Rattle.xs_task.specs.declared.task.Task.{Task}
 use Rattle.xs_task.specs.Parked.{IsParked}
 use Rattle.xs_board.specs.Deed.{WasWritten, last_set}

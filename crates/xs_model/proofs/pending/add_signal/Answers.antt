@@ -4,9 +4,10 @@ use Rattle.std.specs.Prelude.{slice_get, vec_capacity}
 use Rattle.std.specs.Vec.{vec_len}
 use Rattle.xs_model.specs.Laws.{ArePending}
 use Rattle.xs_model.specs.Outer.{insert}
-use Rattle.xs_board.specs.Pending.{below, is_signal}
-use Rattle.xs_board.proofs.Signals.{few_pending, when_ok, insert_longer, insert_new, insert_same, joined, stood}
-use Rattle.xs_board.proofs.pending.add_signal.Goals as goal
+use Rattle.xs_model.specs.Pending.{below, is_signal}
+use Rattle.xs_model.proofs.PendingLaws.{joined}
+use Rattle.xs_model.proofs.Signals.{few_pending, when_ok, insert_longer, insert_new, insert_same, stood}
+use Rattle.xs_model.proofs.pending.add_signal.Goals as goal
 
 -- it isn't pending
 fresh : (c : goal.After-insert) → is_signal (slice_get c.args.signals.now.items (below c.args.signo c.args.signals.now.items)) c.args.signo ≡ false

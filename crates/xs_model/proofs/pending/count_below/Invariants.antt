@@ -1,6 +1,6 @@
 use Rattle.std.proofs.Common.{◌≡◌, ◌+◌, drop}
-use Rattle.xs_board.specs.Pending.{below}
-use Rattle.xs_board.proofs.pending.count_below.Given as goal
+use Rattle.xs_model.specs.Pending.{below}
+use Rattle.xs_model.proofs.pending.count_below.Given as goal
 
 abbrev pub invariant-each : goal.invariant-each
 invariant-each l = record {

@@ -1,7 +1,7 @@
 -- The number is that of the next block, and none so far has the name.
 use Rattle.std.proofs.Common.{◌≡◌, ℕ, ◌<◌, slice_index_or}
 use Rattle.xs_model.specs.declared.script.Block.{Block}
-use Rattle.xs_board.proofs.deed.block_named.Given as goal
+use Rattle.xs_model.proofs.lookup.first_named.Given as goal
 
 abbrev pub invariant-each : goal.invariant-each
 invariant-each l = record {

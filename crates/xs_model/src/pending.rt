@@ -3,11 +3,11 @@
 ghost use Rattle.std.specs.Prelude.{◌≡◌, ◌≤◌, length, slice_get, vec_capacity};
 ghost use Rattle.xs_model.specs.Laws.{ArePending};
 ghost use Rattle.xs_model.specs.Outer.{insert};
-ghost use Rattle.xs_board.specs.Pending.{below, is_signal};
+ghost use Rattle.xs_model.specs.Pending.{below, is_signal};
 
 use xs_base::Signo;
 
-/// The signal joins the pending ones at its place, if it isn't pending already.
+/// The signal joins the pending ones at its place, if it isn't pending already. With room for the 31 signals it takes no memory.
 pub fn add_signal(signals: &mut Vec<Signo>, signo: Signo)
     requires rise { ArePending 0 signals.old.items }
     requires room { 31 ≤ vec_capacity signals.old }

@@ -6,8 +6,7 @@ use Rattle.std.specs.Prelude.{if◌then◌else◌, nat_lt, slice_get, Result, Ok
 use Rattle.xs_base.specs.declared.words.Signo.{Signo}
 use Rattle.xs_model.specs.Laws.{ArePending}
 use Rattle.xs_model.specs.Outer.{insert}
-use Rattle.xs_board.specs.Pending.{below, is_signal}
-use Rattle.xs_board.proofs.Tests.{if_false, if_true}
+use Rattle.xs_model.specs.Pending.{below, is_signal}
 
 -- at most 31 are pending
 pub few_pending : (last : ℕ) (pending : List Signo) → ArePending last pending → last ≤ 31 → length pending + last ≤ 31
@@ -17,18 +16,15 @@ few_pending last (signo ∷ pending) rising most =
     let rest = few_pending signo.number pending rising.1 signo.in_range.1 in
     omega (arith, above, rest)
 
--- a signal joins at its place
-pub joined : (last : ℕ) (signo : Signo) (pending : List Signo) → last < signo.number → ArePending last pending → ArePending last (insert signo pending)
-joined last signo [] above rising = (above, tt)
-joined last signo (other ∷ pending) above rising = by_place (nat_lt signo.number other.number) (signo.number == other.number) refl refl (λ beyond. joined other.number signo pending beyond rising.1)
-  where
-    by_place : (lower same : Bool) → nat_lt signo.number other.number ≡ lower → (signo.number == other.number) ≡ same → (other.number < signo.number → ArePending other.number (insert signo pending)) → ArePending last (if lower then signo ∷ other ∷ pending else (if same then other ∷ pending else other ∷ insert signo pending))
-    by_place true same is equal rest = (above, (ltb-true signo.number other.number is, rising.1))
-    by_place false true is equal rest = rising
-    by_place false false is equal rest =
-        let least = ltb-false signo.number other.number is in
-        let apart = eqb-false signo.number other.number equal in
-        (rising.0, rest (omega (arith, least, apart)))
+-- a test that holds
+if_true : {A : Type 0} (b : Bool) (x y : A) → b ≡ true → (if b then x else y) ≡ x
+if_true true x y on = refl
+if_true false x y on = absurd (cc on)
+
+-- a test that does not
+if_false : {A : Type 0} (b : Bool) (x y : A) → b ≡ false → (if b then x else y) ≡ y
+if_false true x y off = absurd (cc off)
+if_false false x y off = refl
 
 -- behind a lower one it joins the rest
 behind : (signo other : Signo) (pending : List Signo) → other.number < signo.number → insert signo (other ∷ pending) ≡ other ∷ insert signo pending

@@ -3,8 +3,8 @@ use Rattle.std.proofs.Common.{◌≡◌, ◌+◌, length, sym, ap, ◌∙◌, ar
 use Rattle.std.proofs.lemmas.Bool.Decides.{Decides-eqb, not_from_Decides}
 use Rattle.std.proofs.lemmas.Slice.Eq.{slice_eq-Decides}
 use Rattle.xs_model.specs.declared.script.Block.{Block}
-use Rattle.xs_board.proofs.Names.{first_named, none_named, unnamed_more}
-use Rattle.xs_board.proofs.deed.block_named.Goals as goal
+use Rattle.xs_model.proofs.FirstNamed.{first_named, none_named, unnamed_more}
+use Rattle.xs_model.proofs.lookup.first_named.Goals as goal
 
 pub returns-then-eq : goal.returns-then-eq
 returns-then-eq c =
