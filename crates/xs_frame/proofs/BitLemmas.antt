@@ -27,8 +27,9 @@ use Rattle.xs_base.proofs.SetLemmas.{has_and, has_set_of, same_set}
 use Rattle.xs_area.specs.declared.area.Lease.{Lease}
 use Rattle.xs_task.specs.Marks.{IsSavedIn}
 use Rattle.xs_task.specs.TaskArea.{is_large}
-use Rattle.xs_frame.specs.User.{user_features, is_framed}
-use Rattle.xs_frame.proofs.UserLemmas.{has_user}
+use Rattle.xs_image.specs.User.{user_features}
+use Rattle.xs_frame.proofs.UserLemmas.{has_user, user_by}
+use Rattle.xs_frame.specs.Named.{is_framed}
 
 -- ---- PKRU
 
@@ -75,6 +76,9 @@ module _ (rows : List Row) (lease : Lease) (pkru : ℕ) (file : File) (table : I
   abbrev bv : ℕ
   bv = xstate_bv lease.area.bytes.items
 
+  user_is : (c : ℕ) → has (user_features rows lease.class) c ≡ (has_row rows c && (is_large lease.class || not (c == 18)))
+  user_is c = ap (λ m. has m c) (user_by rows lease.class) ∙ has_user rows table (is_large lease.class) c
+
   used : (c : ℕ) → in_use file c ≡ (has_row rows c && not (bytes_eq (part file c) (initial_part c)))
   used c = ap (λ (rs : List Row). has_row rs c && not (bytes_eq (part file c) (initial_part c))) rows_are
 
@@ -98,22 +102,22 @@ module _ (rows : List Row) (lease : Lease) (pkru : ℕ) (file : File) (table : I
       | inl one_is ↦ rw one_is (one_case (in_use file 1 && has user 1))
       | inr n1 ↦ elim (cases_eq c 9) [
         | inl nine_is ↦ rw nine_is (
-            ap (λ b. b && not (pkru == 0)) (has_user rows table (is_large lease.class) 9)
+            ap (λ b. b && not (pkru == 0)) (user_is 9)
             ∙ nine (has_row rows 9) (is_large lease.class) (pkru == 0)
-            ∙ sym (ap (λ b. ((b && has user 9) || false || false) && true) used_nine ∙ ap (λ b. (((has_row rows 9 && not (pkru == 0)) && b) || false || false) && true) (has_user rows table (is_large lease.class) 9)))
+            ∙ sym (ap (λ b. ((b && has user 9) || false || false) && true) used_nine ∙ ap (λ b. (((has_row rows 9 && not (pkru == 0)) && b) || false || false) && true) (user_is 9)))
         | inr n9 ↦
             ap (λ b. if b then true else if c == 1 then true else if c == 9 then has user 9 && not (pkru == 0) else has (bit_and bv user) c) (ne_eqb c 0 n0)
             ∙ ap (λ b. if b then true else if c == 9 then has user 9 && not (pkru == 0) else has (bit_and bv user) c) (ne_eqb c 1 n1)
             ∙ ap (λ b. if b then has user 9 && not (pkru == 0) else has (bit_and bv user) c) (ne_eqb c 9 n9)
             ∙ has_and bv user c
             ∙ ap (λ b. b && has user c) (marked c n1 ∙ ap (λ b. b && in_use file c) (has_class rows lease.class table c) ∙ ap (λ b. (has_row rows c && is_of_class lease.class c) && b) (used c))
-            ∙ ap (λ b. ((has_row rows c && is_of_class lease.class c) && (has_row rows c && not (bytes_eq (part file c) (initial_part c)))) && b) (has_user rows table (is_large lease.class) c)
+            ∙ ap (λ b. ((has_row rows c && is_of_class lease.class c) && (has_row rows c && not (bytes_eq (part file c) (initial_part c)))) && b) (user_is c)
             ∙ there lease.class (has_row rows c) (not (bytes_eq (part file c) (initial_part c))) (is_known c) (ne_eqb c 9 n9) (has_row_known rows table c)
             ∙ sym (
             ap (λ b. ((in_use file c && has user c) || b || (c == 1)) && is_known c) (ne_eqb c 0 n0)
             ∙ ap (λ b. ((in_use file c && has user c) || false || b) && is_known c) (ne_eqb c 1 n1)
             ∙ ap (λ b. ((b && has user c) || false || false) && is_known c) (used c)
-            ∙ ap (λ b. (((has_row rows c && not (bytes_eq (part file c) (initial_part c))) && b) || false || false) && is_known c) (has_user rows table (is_large lease.class) c))
+            ∙ ap (λ b. (((has_row rows c && not (bytes_eq (part file c) (initial_part c))) && b) || false || false) && is_known c) (user_is c))
       ]
     ]
   ]

@@ -18,7 +18,8 @@ use Rattle.xs_task.specs.Private.{HasForm, private_of}
 use Rattle.xs_task.specs.TaskArea.{IsTask, KeepsArea, has_large, is_large}
 use Rattle.xs_switch.specs.Armed.{armed_for}
 use Rattle.xs_switch.specs.Running.{CanSave, IsRunning}
-use Rattle.xs_frame.specs.User.{user_features, user_size}
+use Rattle.xs_image.specs.User.{user_features, user_size}
+use Rattle.xs_frame.proofs.UserLemmas.{user_by, size_by}
 
 -- ---- the area
 
@@ -45,10 +46,10 @@ pub large_of : (task : Task) (p : PrivateTask) (lease : Lease) → HasForm task 
 large_of task p lease form is = ap (λ (q : PrivateTask). q.large) form ∙ ap has_large is
 
 pub features_are : (p : PrivateTask) (rows : List Row) (class : Class) → p.file.rows ≡ rows → p.large ≡ is_large class → user_features rows class ≡ tasks.user_features p
-features_are p rows class rows_are large = ap (λ (b : Bool). if b then layouts.features rows else layouts.default_features rows) (sym large) ∙ ap (λ (rs : List Row). if p.large then layouts.features rs else layouts.default_features rs) (sym rows_are)
+features_are p rows class rows_are large = user_by rows class ∙ ap (λ (b : Bool). if b then layouts.features rows else layouts.default_features rows) (sym large) ∙ ap (λ (rs : List Row). if p.large then layouts.features rs else layouts.default_features rs) (sym rows_are)
 
 pub size_is : (p : PrivateTask) (rows : List Row) (class : Class) → p.file.rows ≡ rows → p.large ≡ is_large class → user_size rows class ≡ tasks.user_size p
-size_is p rows class rows_are large = ap (λ (b : Bool). if b then layouts.full_size rows else layouts.default_size rows) (sym large) ∙ ap (λ (rs : List Row). if p.large then layouts.full_size rs else layouts.default_size rs) (sym rows_are)
+size_is p rows class rows_are large = size_by rows class ∙ ap (λ (b : Bool). if b then layouts.full_size rows else layouts.default_size rows) (sym large) ∙ ap (λ (rs : List Row). if p.large then layouts.full_size rs else layouts.default_size rs) (sym rows_are)
 
 -- ---- the bank
 

@@ -1,6 +1,8 @@
 -- What a task may use, with x87 and SSE always, and the bytes of the standard format with it.
 use Rattle.std.proofs.Common.{◌≡◌, ℕ, ◌+◌, ◌<◌, ◌≤◌, ◌==◌, Bool, true, false, not, ◌&&◌, ◌||◌, List, length, get_or, if◌then◌else◌, refl, ap, ◌∙◌}
 use Rattle.std.proofs.lemmas.Bool.{and_parts, false≢true}
+use Rattle.xs_base.specs.declared.class.Class.{Class}
+use Rattle.xs_base.specs.declared.class.Class.TheVariants.{Small, Large}
 use Rattle.xs_base.specs.declared.component.Row.{Row}
 use Rattle.xs_base.specs.Layout.{IsLayout, has_row, features, default_features, full_size, default_size}
 use Rattle.xs_base.specs.Sets.{has}
@@ -8,6 +10,17 @@ use Rattle.xs_base.proofs.FeatureLemmas.{has_default}
 use Rattle.xs_base.proofs.LayoutLemmas.{has_features}
 use Rattle.xs_base.proofs.RowLemmas.{has_x87, has_sse}
 use Rattle.xs_base.proofs.SizeLemmas.{end_covers, end_low, end_most}
+use Rattle.xs_task.specs.TaskArea.{is_large}
+use Rattle.xs_image.specs.User.{user_features, user_size}
+
+-- by the class of an area
+pub user_by : (rows : List Row) (class : Class) → user_features rows class ≡ (if is_large class then features rows else default_features rows)
+user_by rows Small = refl
+user_by rows Large = refl
+
+pub size_by : (rows : List Row) (class : Class) → user_size rows class ≡ (if is_large class then full_size rows else default_size rows)
+size_by rows Small = refl
+size_by rows Large = refl
 
 -- by their numbers
 pub has_user : (rows : List Row) → IsLayout rows → (large : Bool) (c : ℕ) → has (if large then features rows else default_features rows) c ≡ (has_row rows c && (large || not (c == 18)))

@@ -1,4 +1,3 @@
--- What a delivery writes and a return answers, one file a noun.
-pub mod User
-pub mod Restored
+-- What a delivery writes, one file a noun.
 pub mod Framed
+pub mod Named

@@ -7,12 +7,12 @@ ghost use Rattle.xs_base.specs.Sets.{has};
 ghost use Rattle.xs_base.specs.Task.{frame_length};
 ghost use Rattle.xs_task.specs.Marks.{IsSavedIn};
 ghost use Rattle.xs_task.specs.TaskArea.{IsTaskArea};
-ghost use Rattle.xs_frame.specs.User.{is_framed, user_features, user_size};
+ghost use Rattle.xs_image.specs.User.{user_features, user_size};
+ghost use Rattle.xs_frame.specs.Named.{is_framed};
 
-use crate::user::{user_features, user_size};
-use crate::words::put_words;
 use xs_area::{Lease, standard_of, xstate_bv};
 use xs_base::{Comp, Features, clear};
+use xs_image::{put_words, user_features, user_size};
 use xs_layout::Layout;
 use xs_task::an_area_has_its_places;
 

@@ -13,14 +13,14 @@ ghost use Rattle.xs_task.specs.Private.{HasForm};
 ghost use Rattle.xs_task.specs.TaskArea.{IsTask, KeepsArea};
 ghost use Rattle.xs_switch.specs.Armed.{armed_for};
 ghost use Rattle.xs_switch.specs.Running.{CanSave, IsRunning};
-ghost use Rattle.xs_frame.specs.Restored.{restored_as, AreOf, IsImage};
+ghost use Rattle.xs_image.specs.Parts.{AreOf};
+ghost use Rattle.xs_image.specs.Restored.{restored_as, IsImage};
 
-use crate::image::{Image, Restored, read_frame};
 use crate::initial::make_initial;
 use crate::taking::take;
-use crate::user::{user_features, user_size};
 use xs_bank::{Bank, Cpu};
 use xs_base::HeaderError;
+use xs_image::{Image, Restored, read_frame, user_features, user_size};
 use xs_layout::Layout;
 use xs_task::Task;
 
@@ -29,7 +29,7 @@ fn read_image(task: &Task, layout: &Layout) -> Result<Image, HeaderError>
     requires task { IsTask layout.now task.now }
     ensures image { (p : PrivateTask) → p.file.rows ≡ layout.now → HasForm task.now p → MatchResult result (λ image. IsImage p image) (λ e. return_of p ≡ Refused e) }
     ensures small { IfOk result (λ image. image.parts.mxcsr < 2 ^ 16) }
-    ensures within { IfOk result (λ image. (lease : Lease) → task.now.lease ≡ Some lease → AreOf image.parts (class_features layout.now lease.class)) }
+    ensures within { (lease : Lease) → task.now.lease ≡ Some lease → IfOk result (λ image. AreOf image.parts (class_features layout.now lease.class)) }
 {
     let Some(lease) = &task.lease else {
         unreachable!()

@@ -10,7 +10,7 @@ ghost use Rattle.xs_bank.specs.Bank.{counts_of};
 ghost use Rattle.xs_bank.specs.SetUp.{WasSetUp};
 ghost use Rattle.xs_task.specs.TaskArea.{IsTask, KeepsArea};
 ghost use Rattle.xs_switch.specs.Running.{CanSave};
-ghost use Rattle.xs_frame.specs.Restored.{AreOf};
+ghost use Rattle.xs_image.specs.Parts.{AreOf};
 
 use xs_bank::{Bank, Cpu};
 use xs_base::Parts;

@@ -1,4 +1,3 @@
-pub mod CheckLemmas
 pub mod MarkLemmas
 pub mod ReplyLemmas
 pub mod LegacyLemmas

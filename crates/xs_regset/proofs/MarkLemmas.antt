@@ -1,6 +1,8 @@
 -- The marks that an area gives.
 use Rattle.std.proofs.Common.{◌≡◌, ◌⊎◌, ℕ, ◌==◌, Bool, true, false, not, ◌&&◌, ◌||◌, List, Some, if◌then◌else◌, refl, sym, ap, ◌∙◌, inl, inr}
 use Rattle.std.proofs.lemmas.Bool.{ne_eqb, false≢true, cases_eq}
+use Rattle.xs_base.specs.declared.class.Class.{Class}
+use Rattle.xs_base.specs.declared.class.Class.TheVariants.{Small, Large}
 use Rattle.xs_base.specs.declared.component.Row.{Row}
 use Rattle.xs_area.specs.declared.area.Lease.{Lease}
 use Rattle.xs_base.specs.Area.{control_in}
@@ -10,11 +12,13 @@ use Rattle.xs_base.specs.Header.{xstate_bv, xcomp_bv, mxcsr}
 use Rattle.xs_base.specs.KernelArea.{is_of_class}
 use Rattle.xs_base.specs.Layout.{IsLayout, is_known, has_row, set_of, features, default_features}
 use Rattle.xs_base.specs.Sets.{has}
-use Rattle.xs_base.specs.Task.{PrivateTask, user_features}
+use Rattle.xs_base.specs.Task as tasks
+use Rattle.xs_base.specs.Task.{PrivateTask}
 use Rattle.xs_task.specs.declared.task.Task.{Task}
 use Rattle.xs_task.specs.Marks.{is_marked_in, has_mark, marks_of}
 use Rattle.xs_task.specs.Parked.{IsParked}
 use Rattle.xs_task.specs.TaskArea.{IsTaskArea, is_large, has_large}
+use Rattle.xs_image.specs.User.{user_features}
 use Rattle.xs_base.proofs.ClassLemmas.{has_class}
 use Rattle.xs_base.proofs.LayoutLemmas.{has_row_known}
 use Rattle.xs_base.proofs.SetLemmas.{has_set_of, same_set}
@@ -70,7 +74,12 @@ marks_are rows lease pkru set area are =
     known c (inr other) = implied (has_mark lease.area.bytes.items pkru c) (is_known c) (λ on. has_row_known rows table c (row c (sym (marked_bits lease.area.bytes.items area.compact c) ∙ sym (ap (λ b. if b then not (pkru == 0) else is_marked_in lease.area.bytes.items c) (ne_eqb c 9 other)) ∙ on)))
 
 -- what a task may use, by the class of its area
-pub parked_user : (rows : List Row) (task : Task) (lease : Lease) (p : PrivateTask) → IsParked rows task p → task.lease ≡ Some lease → user_features p ≡ (if is_large lease.class then features rows else default_features rows)
+pub parked_user : (rows : List Row) (task : Task) (lease : Lease) (p : PrivateTask) → IsParked rows task p → task.lease ≡ Some lease → tasks.user_features p ≡ user_features rows lease.class
 parked_user rows task lease p parked is =
     ap (λ b. if b then features p.file.rows else default_features p.file.rows) (ap (λ (q : PrivateTask). q.large) parked.form ∙ ap has_large is)
     ∙ ap (λ (rs : List Row). if is_large lease.class then features rs else default_features rs) parked.valid.file.rows_are
+    ∙ sym (by_class lease.class)
+  where
+    by_class : (class : Class) → user_features rows class ≡ (if is_large class then features rows else default_features rows)
+    by_class Small = refl
+    by_class Large = refl

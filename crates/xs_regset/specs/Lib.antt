@@ -1,3 +1,2 @@
--- What the calls on register sets answer and write; what the sets are stands in xs_base.
-pub mod Answer
+-- What the calls on register sets write; what the sets are stands in xs_base.
 pub mod Legacy

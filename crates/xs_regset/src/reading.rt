@@ -8,9 +8,10 @@ ghost use Rattle.xs_base.specs.Task.{PrivateTask, buffer_length};
 ghost use Rattle.xs_task.specs.Parked.{IsParked};
 ghost use Rattle.xs_task.specs.TaskArea.{IsTask};
 
-use crate::marks::{marks, user_features};
+use crate::marks::marks;
 use xs_area::standard_of;
 use xs_base::{Features, Set, clear, put_number};
+use xs_image::user_features;
 use xs_layout::Layout;
 use xs_task::{Task, an_area_has_its_places};
 

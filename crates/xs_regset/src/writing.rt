@@ -6,12 +6,11 @@ ghost use Rattle.xs_base.specs.RegisterSet.{Accepted, after_set, set_result};
 ghost use Rattle.xs_base.specs.Task.{PrivateTask};
 ghost use Rattle.xs_task.specs.Parked.{IsParked};
 ghost use Rattle.xs_task.specs.TaskArea.{IsTask, KeepsArea};
-ghost use Rattle.xs_regset.specs.Answer.{refused_as};
+ghost use Rattle.xs_image.specs.Answer.{refused_as};
 
-use crate::checking::{RegsetError, read_fx, read_xstate};
 use crate::legacy::put_legacy;
-use crate::marks::user_features;
 use xs_base::Set;
+use xs_image::{RegsetError, read_fx, read_xstate, user_features};
 use xs_layout::Layout;
 use xs_task::{Task, put_parts};
 

@@ -9,7 +9,7 @@ use Rattle.xs_bank.specs.declared.cpu.Cpu.{Cpu}
 use Rattle.xs_bank.specs.Bank.{Bank}
 use Rattle.xs_task.specs.declared.task.Task.{Task}
 use Rattle.xs_task.specs.Private.{private_of}
-use Rattle.xs_frame.specs.User.{user_features, user_size}
+use Rattle.xs_image.specs.User.{user_features, user_size}
 use Rattle.xs_frame.proofs.TaskLemmas.{kept_armed, form_kept, delivered_form, running_in_bank, running_holds}
 use Rattle.xs_frame.proofs.delivery.deliver.Goals as goal
 

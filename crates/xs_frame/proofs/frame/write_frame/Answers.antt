@@ -7,7 +7,7 @@ use Rattle.xs_base.proofs.ComponentLemmas.{length_zeros}
 use Rattle.xs_base.proofs.FileLemmas.{part_here, splice_whole}
 use Rattle.xs_base.proofs.FrameLemmas.{frame_is}
 use Rattle.xs_base.proofs.SizeLemmas.{end_most}
-use Rattle.xs_frame.specs.User.{user_features, user_size}
+use Rattle.xs_image.specs.User.{user_features, user_size}
 use Rattle.xs_frame.proofs.BitLemmas.{bits_are}
 use Rattle.xs_frame.proofs.frame.write_frame.Goals as goal
 

@@ -9,7 +9,7 @@ use Rattle.xs_bank.specs.declared.cpu.Cpu.{Cpu}
 use Rattle.xs_task.specs.declared.task.Task.{Task}
 use Rattle.xs_task.specs.Private.{private_of}
 use Rattle.xs_switch.specs.Running.{IsRunning}
-use Rattle.xs_frame.specs.Restored.{restored_as}
+use Rattle.xs_image.specs.Restored.{restored_as}
 use Rattle.xs_frame.proofs.ReturnLemmas.{after_is, refused_is}
 use Rattle.xs_frame.proofs.TaskLemmas.{form_kept, running_in_bank, running_holds}
 use Rattle.xs_frame.proofs.returning.sigreturn.Goals as goal

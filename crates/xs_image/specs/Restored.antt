@@ -1,15 +1,12 @@
 -- What a return answers (Linux 6.6, arch/x86/kernel/fpu/signal.c, restore_fpregs_from_user). The answer's form is this project's own.
-use Rattle.std.specs.Prelude.{◌≡◌, ℕ, Bool, true, false}
-use Rattle.xs_base.specs.declared.header.Parts.{Parts}
-use Rattle.xs_base.specs.Component.{pkru_number}
+use Rattle.std.specs.Prelude.{◌≡◌, Bool, true, false}
 use Rattle.xs_base.specs.File.{File, initial_file}
 use Rattle.xs_base.specs.Frame.{Return, Full, LegacyOnly, return_of}
 use Rattle.xs_base.specs.Image.{image_file}
-use Rattle.xs_base.specs.Sets.{has}
 use Rattle.xs_base.specs.Task.{PrivateTask}
-use Rattle.xs_frame.specs.declared.image.Image.{Image}
-use Rattle.xs_frame.specs.declared.image.Restored.{Restored}
-use Rattle.xs_frame.specs.declared.image.Restored.TheVariants as answers
+use Rattle.xs_image.specs.declared.image.Image.{Image}
+use Rattle.xs_image.specs.declared.image.Restored.{Restored}
+use Rattle.xs_image.specs.declared.image.Restored.TheVariants as answers
 
 abbrev pub is_legacy : Restored → Bool
 is_legacy answers.Full = false
@@ -23,7 +20,3 @@ restored_as answers.LegacyOnly file = LegacyOnly file
 -- what the task's frame has gives this return
 abbrev pub IsImage : PrivateTask → Image → Type 0
 IsImage task image = return_of task ≡ restored_as image.restored (image_file (initial_file task.file.rows) task.frame image.parts)
-
--- The parts are of these components, PKRU aside.
-abbrev pub AreOf : Parts → ℕ → Type 0
-AreOf parts set = (c : ℕ) → (c ≡ pkru_number → ⊥) → has parts.bits.0 c ≡ true → has set c ≡ true

@@ -1,8 +1,8 @@
 -- What a refusal stands for. This project's own.
 use Rattle.xs_base.specs.RegisterSet.{SetResult}
 use Rattle.xs_base.specs.RegisterSet as sets
-use Rattle.xs_regset.specs.declared.checking.RegsetError.{RegsetError}
-use Rattle.xs_regset.specs.declared.checking.RegsetError.TheVariants.{Fault, Count, Header}
+use Rattle.xs_image.specs.declared.checking.RegsetError.{RegsetError}
+use Rattle.xs_image.specs.declared.checking.RegsetError.TheVariants.{Fault, Count, Header}
 
 abbrev pub refused_as : RegsetError → SetResult
 refused_as Fault = sets.Fault

@@ -2,7 +2,7 @@
 
 ghost use Rattle.std.specs.Prelude.{◌≡◌, ◌≤◌};
 ghost use Rattle.xs_base.specs.Layout.{most_bytes};
-ghost use Rattle.xs_frame.specs.User.{user_features, user_size};
+ghost use Rattle.xs_image.specs.User.{user_features, user_size};
 
 use xs_base::{Class, Features};
 use xs_layout::Layout;

@@ -1,10 +1,15 @@
 //! What a frame has for a return.
 
-ghost use Rattle.std.specs.Prelude.{◌≡◌, ◌≤◌, length, IfOk, MatchResult, Some, None};
+ghost use Rattle.std.specs.Prelude.{◌≡◌, ◌<◌, ◌≤◌, ◌^◌, length, IfOk, MatchResult, Some, None};
+ghost use Rattle.xs_base.specs.declared.class.Class.{Class};
 ghost use Rattle.xs_base.specs.Frame as frames;
+ghost use Rattle.xs_base.specs.KernelArea.{class_features};
 ghost use Rattle.xs_base.specs.Layout.{most_bytes};
-ghost use Rattle.xs_base.specs.Task.{frame_length};
-ghost use Rattle.xs_frame.specs.Restored.{is_legacy};
+ghost use Rattle.xs_base.specs.Task as tasks;
+ghost use Rattle.xs_base.specs.Task.{PrivateTask, frame_length};
+ghost use Rattle.xs_image.specs.Parts.{AreOf};
+ghost use Rattle.xs_image.specs.Restored.{is_legacy, IsImage};
+ghost use Rattle.xs_image.specs.User.{user_features};
 
 use crate::words::{MAGIC1, MAGIC2, word_at, xfeatures};
 use xs_area::{mxcsr, read_standard};
@@ -58,6 +63,9 @@ pub fn read_frame(
     ensures error { MatchResult result (λ _. frames.frame_error user.0 size frame.now ≡ None) (λ e. frames.frame_error user.0 size frame.now ≡ Some e) }
     ensures parts { IfOk result (λ image. image.parts ≡ frames.frame_parts layout.now user.0 size frame.now) }
     ensures restored { IfOk result (λ image. is_legacy image.restored ≡ frames.is_legacy_only size frame.now) }
+    ensures image { (p : PrivateTask) → p.file.rows ≡ layout.now → tasks.user_features p ≡ user.0 → tasks.user_size p ≡ size → p.frame ≡ frame.now → MatchResult result (λ image. IsImage p image) (λ e. frames.return_of p ≡ frames.Refused e) }
+    ensures small { IfOk result (λ image. image.parts.mxcsr < 2 ^ 16) }
+    ensures room { (class : Class) → user.0 ≡ user_features layout.now class → IfOk result (λ image. AreOf image.parts (class_features layout.now class)) }
 {
     // The rows pass every test of a table.
     let _ = layout.len();

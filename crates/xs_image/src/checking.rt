@@ -6,9 +6,14 @@ ghost use Rattle.xs_base.specs.declared.words.Set.TheVariants as which;
 ghost use Rattle.xs_base.specs.Header as header;
 ghost use Rattle.xs_base.specs.HeaderCheck.{header_error, parts_in};
 ghost use Rattle.xs_base.specs.Layout.{full_size};
-ghost use Rattle.xs_base.specs.RegisterSet.{Accepted, after_set, set_result, set_errno};
-ghost use Rattle.xs_base.specs.Task.{PrivateTask, user_features};
-ghost use Rattle.xs_regset.specs.Answer.{refused_as};
+ghost use Rattle.xs_base.specs.KernelArea.{class_features};
+ghost use Rattle.xs_base.specs.RegisterSet.{Accepted, after_set, set_result, set_error, set_errno};
+ghost use Rattle.xs_base.specs.Task as tasks;
+ghost use Rattle.xs_base.specs.Task.{PrivateTask};
+ghost use Rattle.xs_base.specs.declared.class.Class.{Class};
+ghost use Rattle.xs_image.specs.Answer.{refused_as};
+ghost use Rattle.xs_image.specs.Parts.{AreOf};
+ghost use Rattle.xs_image.specs.User.{user_features};
 
 use xs_area::read_standard;
 use xs_base::{Errno, Features, HeaderError, MOST_MXCSR, Origin, Parts};
@@ -38,12 +43,15 @@ pub fn errno(error: RegsetError) -> Errno
 
 /// What the bytes of an Xstate set have for a task that may use these components, or why they are refused.
 pub fn read_xstate(layout: &Layout, bytes: &[u8], user: Features) -> Result<Parts, RegsetError>
-    ensures answer { (p : PrivateTask) → p.file.rows ≡ layout.now → user_features p ≡ user.0 → MatchResult result (λ _. set_result p which.Xstate bytes.now ≡ Accepted (after_set p which.Xstate bytes.now)) (λ e. set_result p which.Xstate bytes.now ≡ refused_as e) }
+    ensures answer { (p : PrivateTask) → p.file.rows ≡ layout.now → tasks.user_features p ≡ user.0 → MatchResult result (λ _. set_result p which.Xstate bytes.now ≡ Accepted (after_set p which.Xstate bytes.now)) (λ e. set_result p which.Xstate bytes.now ≡ refused_as e) }
     ensures passed { IfOk result (λ _. header_error Regset user.0 bytes.now ≡ None) }
     ensures count { IfOk result (λ _. length bytes.now ≡ full_size layout.now) }
     ensures parts { IfOk result (λ parts. parts ≡ parts_in layout.now Regset bytes.now) }
     ensures small { IfOk result (λ parts. parts.pkru < 2 ^ 32) }
+    ensures room { (class : Class) → user.0 ≡ user_features layout.now class → IfOk result (λ parts. AreOf parts (class_features layout.now class)) }
 {
+    // The rows pass every test of a table.
+    let _ = layout.len();
     if bytes.len() != layout.full_size() as usize {
         return Err(RegsetError::Fault);
     }
@@ -56,6 +64,7 @@ pub fn read_xstate(layout: &Layout, bytes: &[u8], user: Features) -> Result<Part
 /// MXCSR of the bytes of an Fx set, or why they are refused.
 pub fn read_fx(bytes: &[u8]) -> Result<u32, RegsetError>
     ensures answer { (p : PrivateTask) → MatchResult result (λ _. set_result p which.Fx bytes.now ≡ Accepted (after_set p which.Fx bytes.now)) (λ e. set_result p which.Fx bytes.now ≡ refused_as e) }
+    ensures passed { (p : PrivateTask) → IfOk result (λ _. set_error p which.Fx bytes.now ≡ None) }
     ensures count { IfOk result (λ _. length bytes.now ≡ 512) }
     ensures control { IfOk result (λ control. control ≡ header.mxcsr bytes.now) }
     ensures small { IfOk result (λ control. control < 2 ^ 16) }
