@@ -1,0 +1,2 @@
+-- Lemmas on bytes that are read and written, one file a noun.
+pub mod KnownBytes
