@@ -1,0 +1,3 @@
+-- The definitions of private tasks as code.
+pub mod Marks
+pub mod Answer
