@@ -1,0 +1,22 @@
+//! Which event is a step of the machine in which each task owns a register file of its own (`xs_private`), what is wrong with an event
+//! that is none, and what a step does to its own block. It knows no bank and no area. Its contract is the definition of steps and of
+//! their effects in `xs_model`, and that of what is wrong in `specs/Wrong`.
+#![tactic(auto)]
+
+mod difference;
+mod due;
+mod judging;
+mod laws;
+mod line;
+mod local_reply;
+mod outer_reply;
+mod own;
+mod parts;
+mod start;
+mod state;
+mod wrong;
+
+pub use judging::judge;
+pub use laws::wrong_once;
+pub use state::State;
+pub use wrong::Wrong;
