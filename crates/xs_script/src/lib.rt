@@ -21,3 +21,4 @@ mod words;
 
 pub use reader::{every_text, not_both, one_refusal, one_script, read_script};
 pub use refusal::{Kind, LimitName, RefusalLine, ScriptError, write_refusal};
+pub use words::read_number;
