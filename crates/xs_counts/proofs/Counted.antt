@@ -14,11 +14,12 @@ use Rattle.xs_model.specs.declared.script.Script.{Script}
 use Rattle.xs_model.specs.Counts.{counts_of}
 use Rattle.xs_script.specs.Grammar.{Spells}
 use Rattle.xs_top.specs.declared.play.Play.TheVariants.{Replay}
-use Rattle.xs_top.specs.declared.status.Status.{Status}
-use Rattle.xs_top.specs.declared.status.Status.TheVariants as statuses
-use Rattle.xs_top.specs.Outside.{Output}
+use Rattle.xs_outside.specs.declared.status.Status.{Status}
+use Rattle.xs_outside.specs.declared.status.Status.TheVariants as statuses
+use Rattle.xs_outside.specs.Outside.{Output}
+use Rattle.xs_outside.specs.Statuses.{TellEnds}
 use Rattle.xs_top.specs.Run.{AreNumbered}
-use Rattle.xs_top.specs.Answers.{AnswerEnds, AnswersRun, IsAccepted, RunsTo, TellEnds}
+use Rattle.xs_top.specs.Answers.{AnswerEnds, AnswersRun, IsAccepted, RunsTo}
 use Rattle.xs_counts.specs.Answers.{InputEnds, IsCounted, WroteCounts}
 use Rattle.xs_counts.specs.Text.{counts_line, counts_text, first_lines, mark_line, processor_line, processors_text}
 use Rattle.xs_counts.proofs.KnownBytes.{writes_both, fails_in_first, fails_in_second}
@@ -64,6 +65,7 @@ pub without_history : {B : Type 0} (state : B → Bank) (input : List ℕ) (befo
 without_history state input before after old new statuses.Done none ends = absurd (none (inl refl))
 without_history state input before after old new statuses.Killed none ends = absurd (none (inr refl))
 without_history state input before after old new statuses.Refused none ends = ends
+without_history state input before after old new statuses.Illegal none ends = ends
 without_history state input before after old new statuses.ReadFault none ends = ends
 without_history state input before after old new statuses.WriteFault none ends = elim ends.1 [
   | inl ran ↦ (ends.0 ++ counts_text ran.script ran.history, inl (counted state input ends.0 old new ran), fails_in_first before after ends.0 (counts_text ran.script ran.history) ends.2)

@@ -4,8 +4,9 @@ ghost use Rattle.std.specs.Prelude.{◌≡◌, ◌⊎◌, ◌+◌, ◌≤◌, �
 ghost use Rattle.xs_counts.specs.Answers.{CallEnds, InputEnds};
 ghost use Rattle.xs_counts.specs.Text.{processors_text};
 ghost use Rattle.xs_model.specs.declared.script.Script.{Script};
-ghost use Rattle.xs_top.specs.Answers.{AnswerEnds, IsAccepted, IsRefused, TellEnds};
-ghost use Rattle.xs_top.specs.Outside.{limit, outside, output_of};
+ghost use Rattle.xs_top.specs.Answers.{AnswerEnds, IsAccepted, IsRefused};
+ghost use Rattle.xs_outside.specs.Outside.{script_limit, outside, output_of};
+ghost use Rattle.xs_outside.specs.Statuses.{TellEnds};
 ghost use Rattle.xs_top.specs.Run.{AreNumbered, AreUncounted};
 ghost use Rattle.xs_top.specs.declared.play.Play.{Play};
 
@@ -15,8 +16,9 @@ use std::alloc::{AllocError, Global};
 use xs_bank::Bank;
 use xs_io::{Sink, Source};
 use xs_machine::Proc;
+use xs_outside::{ReadError, SCRIPT_LIMIT, Status, read_up_to, tell};
 use xs_script::{ScriptError, one_script, read_script};
-use xs_top::{LIMIT, ReadError, Status, read_up_to, replay_call, write_all};
+use xs_top::replay_call;
 
 /// Replays the script that the source has and writes its history, and behind it the text of its counts; or writes the line that
 /// refuses the input. It takes the processors that `replay_call` takes.
@@ -31,7 +33,7 @@ pub fn counts_call<S: Source, K: Sink, B: Bank>(
     requires counts { AreUncounted B.state procs.old }
     ensures { CallEnds (outside S.Source K.Sink source.old sink.old) (outside S.Source K.Sink source.new sink.new) result }
 {
-    match read_up_to(alloc, LIMIT, source) {
+    match read_up_to(alloc, SCRIPT_LIMIT, source) {
         Ok(input) => answer(alloc, input.as_slice(), sink, procs),
         Err(ReadError::Fault) => Status::ReadFault,
         Err(ReadError::Memory) => Status::NoMemory,
@@ -45,7 +47,7 @@ fn answer<K: Sink, B: Bank>(
     sink: &mut K,
     procs: &mut [Proc<B>],
 ) -> Status
-    requires short { length input.now ≤ limit + 1 }
+    requires short { length input.now ≤ script_limit + 1 }
     requires many { length procs.old ≡ 16 }
     requires numbers { AreNumbered procs.old }
     requires counts { AreUncounted B.state procs.old }
@@ -68,7 +70,7 @@ fn processors_of(alloc: Global, input: &[u8]) -> Result<Option<usize>, AllocErro
     ensures some { IfOk result (λ found. IfSome found (λ count. (script : Script) × IsAccepted input.now script × (count ≡ script.cpus))) }
     ensures none { IfOk result (λ found. IfNone found ((line : List ℕ) × IsRefused input.now line)) }
 {
-    if input.len() > LIMIT {
+    if input.len() > SCRIPT_LIMIT {
         return Ok(None);
     }
     match read_script(alloc, input) {
@@ -85,7 +87,7 @@ fn replay_input<K: Sink, B: Bank>(
     sink: &mut K,
     procs: &mut [Proc<B>],
 ) -> Status
-    requires short { length input.now ≤ limit + 1 }
+    requires short { length input.now ≤ script_limit + 1 }
     requires many { length procs.old ≡ 16 }
     requires numbers { AreNumbered procs.old }
     requires counts { AreUncounted B.state procs.old }
@@ -108,8 +110,5 @@ fn tell_counts<K: Sink, B: Bank>(procs: &[Proc<B>], sink: &mut K, status: Status
     requires { length procs.now ≤ 16 }
     ensures { TellEnds status (processors_text B.state procs.now) (output_of K.Sink sink.old) (output_of K.Sink sink.new) result }
 {
-    match write_all(sink, counts_text(procs).as_slice()) {
-        Ok(()) => status,
-        Err(_) => Status::WriteFault,
-    }
+    tell(sink, counts_text(procs).as_slice(), status)
 }

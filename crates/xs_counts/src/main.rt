@@ -13,7 +13,8 @@ use call::counts_call;
 use std::io;
 use std::process::ExitCode;
 use xs_io::{StdSink, StdSource};
-use xs_top::{Status, hand_on, processors};
+use xs_outside::Status;
+use xs_top::{hand_on, processors};
 
 /// Takes standard input and standard output, and ends with the status of the call.
 fn main(rt: HostRuntime) -> ExitCode {

@@ -4,7 +4,8 @@ use crate::call::counts_call;
 use std::alloc::{AllocError, Global};
 use std::test::Fail;
 use xs_io::{MemSink, MemSource};
-use xs_top::{Status, processors, top};
+use xs_outside::Status;
+use xs_top::{processors, top};
 
 /// A script a line, and behind `|` the status and what is printed for it, each with `/` for a line feed. The answers come from a
 /// program that shares nothing with this one. In order:

@@ -9,13 +9,14 @@ use Rattle.xs_model.specs.History.{has_kill}
 use Rattle.xs_model.specs.Runs.{WholeUnscheduled, MarkUnscheduled, CountsUnscheduled, RemainsUnscheduled}
 use Rattle.xs_text.specs.Text.{history_text}
 use Rattle.xs_top.specs.declared.play.Play.{Play}
-use Rattle.xs_top.specs.declared.status.Status.{Status}
-use Rattle.xs_top.specs.declared.status.Status.TheVariants as statuses
+use Rattle.xs_outside.specs.declared.status.Status.{Status}
+use Rattle.xs_outside.specs.declared.status.Status.TheVariants as statuses
 use Rattle.xs_top.specs.Statuses.{status_of}
-use Rattle.xs_top.specs.Outside.{Output, Outside, Writes}
+use Rattle.xs_outside.specs.Outside.{Output, Outside, ReadAndEnds, Writes, script_limit}
+use Rattle.xs_outside.specs.Statuses.{TellEnds}
 use Rattle.xs_top.specs.declared.play.Play.TheVariants.{Run, Replay}
 use Rattle.xs_top.specs.Run.{played, IsRunOf}
-use Rattle.xs_top.specs.Answers.{IsAccepted, IsRefused, RunsTo, WroteHistory, AnswersRun, ReadAndEnds, AnswerEnds, TellEnds, WriteEnds, PlayEnds, KeepsProcessors}
+use Rattle.xs_top.specs.Answers.{IsAccepted, IsRefused, RunsTo, WroteHistory, AnswersRun, AnswerEnds, WriteEnds, PlayEnds, KeepsProcessors}
 use Rattle.xs_top.specs.Headline.{Headline}
 use Rattle.xs_top.proofs.PlayLemmas.{same_text}
 
@@ -89,6 +90,7 @@ pub run_told : {B : Type 0} (state : B → Bank) (play : Play) (input : List ℕ
 run_told state play input script before after old new statuses.Done unseen accepted ends = answers_run state play input script before after old new statuses.Done unseen accepted ends
 run_told state play input script before after old new statuses.Killed unseen accepted ends = answers_run state play input script before after old new statuses.Killed unseen accepted ends
 run_told state play input script before after old new statuses.Refused unseen accepted ends = absurd ends
+run_told state play input script before after old new statuses.Illegal unseen accepted ends = absurd ends
 run_told state play input script before after old new statuses.ReadFault unseen accepted ends = absurd ends
 run_told state play input script before after old new statuses.WriteFault unseen accepted ends =
     (history_text (played play script) ends.0, inl (runs_to state play input script ends.0 old new accepted (played_run state play script ends.0 old new unseen ends.1)), ends.2)
@@ -96,7 +98,7 @@ run_told state play input script before after old new statuses.NoMemory unseen a
 run_told state play input script before after old new statuses.Usage unseen accepted ends = absurd ends
 
 -- a script's history was written
-run_headline : {B : Type 0} (state : B → Bank) (play : Play) (before after : Outside) (old new : List (Proc B)) (status : Status) → ReadAndEnds before after (λ input. AnswersRun state play input before.output after.output old new status) → Headline state play before after old new status
+run_headline : {B : Type 0} (state : B → Bank) (play : Play) (before after : Outside) (old new : List (Proc B)) (status : Status) → ReadAndEnds script_limit before after (λ input. AnswersRun state play input before.output after.output old new status) → Headline state play before after old new status
 run_headline state play before after old new status ends =
     let ran = ends.ends.1 in
     record {

@@ -7,7 +7,7 @@ use Rattle.std.proofs.lemmas.Grind.{flat_map-append}
 use Rattle.xs_model.specs.declared.script.Script.{Script}
 use Rattle.xs_model.specs.declared.event.Event.{Event}
 use Rattle.xs_text.specs.Text.{event_line, history_text}
-use Rattle.xs_top.specs.Outside.{AppendsFront}
+use Rattle.xs_outside.specs.Outside.{AppendsFront}
 use Rattle.xs_top.proofs.KnownBytes.{AppendsFront_then, AppendsFront_more}
 
 -- the text is the lines before an event, its line, and the lines after it

@@ -1,17 +1,8 @@
--- What two reads or two writes, one after the other, do to known bytes.
-use Rattle.std.proofs.Common.{◌≡◌, ℕ, List, [], ◌∷◌, ◌++◌, take, drop, None, Some, refl, sym, ap, ◌∙◌, append_assoc, take-append-drop, rules, ◌-◌, length}
-use Rattle.std.proofs.lemmas.Grind.{common_steps}
+-- What two writes, one after the other, do to known bytes.
+use Rattle.std.proofs.Common.{◌≡◌, ℕ, List, [], ◌∷◌, ◌++◌, None, Some, refl, sym, ap, ◌∙◌, append_assoc}
 use Rattle.std.specs.Prelude.{Option}
-use Rattle.std.specs.Io.KnownBytes.{Appends, Consumes}
-use Rattle.xs_top.specs.Outside.{AppendsFront}
-
--- Two reads consume the bytes of the first and then those of the second.
-pub Consumes_then : (a b c : Option (List ℕ)) (xs ys : List ℕ)
-    → Consumes a b xs → Consumes b c ys → Consumes a c (xs ++ ys)
-Consumes_then None b c xs ys p q = tt
-Consumes_then (Some x) None c xs ys p q = absurd p
-Consumes_then (Some x) (Some y) None xs ys p q = absurd q
-Consumes_then (Some x) (Some y) (Some z) xs ys p q = p ∙ ap (λ l. xs ++ l) q ∙ sym (append_assoc xs ys z)
+use Rattle.std.specs.Io.KnownBytes.{Appends}
+use Rattle.xs_outside.specs.Outside.{AppendsFront}
 
 -- Two writes append the bytes of the first and then those of the second.
 pub Appends_then : (a b c : Option (List ℕ)) (xs ys : List ℕ)
@@ -35,12 +26,3 @@ append_some (x ∷ xs) ys some e = cc e
 -- A front of a text is one of the longer text.
 pub AppendsFront_more : (a b : Option (List ℕ)) (xs ys : List ℕ) → AppendsFront a b xs → AppendsFront a b (xs ++ ys)
 AppendsFront_more a b xs ys p = (p.0, p.1 ++ ys, ap (λ l. l ++ ys) p.2 ∙ append_assoc p.0 p.1 ys, p.3, append_some p.1 ys p.4)
-
--- A front that grew by n bytes of the rest leaves the rest after them.
-pub front_more : (text front rest : List ℕ) (n : ℕ) → text ≡ front ++ rest
-    → text ≡ (front ++ take n rest) ++ take (length rest - n) (drop n rest)
-front_more text front rest n e =
-    let all : take (length rest - n) (drop n rest) ≡ drop n rest = search (rules, common_steps) in
-    let cut = ap (λ l. front ++ l) (sym (take-append-drop n rest)) in
-    let joined = sym (append_assoc front (take n rest) (drop n rest)) in
-    e ∙ cut ∙ joined ∙ ap (λ l. (front ++ take n rest) ++ l) (sym all)

@@ -7,13 +7,13 @@ use Rattle.xs_bank.specs.Bank.{Bank}
 use Rattle.xs_machine.specs.declared.proc.Proc.{Proc}
 use Rattle.xs_model.specs.declared.script.Script.{Script}
 use Rattle.xs_top.specs.declared.play.Play.{Play}
-use Rattle.xs_top.specs.declared.status.Status.{Status}
-use Rattle.xs_top.specs.declared.status.Status.TheVariants as statuses
+use Rattle.xs_outside.specs.declared.status.Status.{Status}
+use Rattle.xs_outside.specs.declared.status.Status.TheVariants as statuses
 use Rattle.xs_script.specs.declared.refusal.Kind.{Kind}
 use Rattle.xs_script.specs.Grammar.{Spells}
 use Rattle.xs_script.specs.Refusal.{Refuses}
 use Rattle.xs_script.specs.RefusalText.{refusal_text}
-use Rattle.xs_top.specs.Outside.{Input, Outside, IsRead, limit}
+use Rattle.xs_outside.specs.Outside.{Input, Outside, IsRead, script_limit}
 use Rattle.xs_top.specs.Answers.{IsAccepted, IsRefused, TooLong, ByLine, PlayEnds}
 use Rattle.xs_top.specs.Headline.{MayRun, MayRefuse}
 
@@ -26,10 +26,10 @@ NotBoth = (text : List ℕ) (script : Script) (n : ℕ) (k : Kind) → Spells te
 
 -- How what was read is a front of a known input: the whole of it, if it is no longer than the limit.
 record Known (input taken : List ℕ) : Type 0 where
-  whole : length taken ≤ limit → taken ≡ input
+  whole : length taken ≤ script_limit → taken ≡ input
   long : length taken ≤ length input
 
-known : (input taken : List ℕ) (left' : Option (List ℕ)) → Consumes (Some input) left' taken → (length taken ≤ limit → IsAtEnd left') → Known input taken
+known : (input taken : List ℕ) (left' : Option (List ℕ)) → Consumes (Some input) left' taken → (length taken ≤ script_limit → IsAtEnd left') → Known input taken
 known input taken None read whole = absurd read
 known input taken (Some rest) read whole = record {
   whole = λ short. sym (read ∙ ap (λ (r : List ℕ). taken ++ r) (whole short) ∙ append-nil taken);
@@ -62,11 +62,11 @@ same_line input taken a b one_refusal h (ByLine m j short refuses) (ByLine n k s
     ap (λ (number : ℕ). refusal_text number j) one.0 ∙ ap (refusal_text n) one.1
 
 -- what was read of an input that is known
-known_read : (input bytes : List ℕ) (before after : Input) → before.left ≡ Some input → IsRead before after bytes → Known input bytes
+known_read : (input bytes : List ℕ) (before after : Input) → before.left ≡ Some input → IsRead script_limit before after bytes → Known input bytes
 known_read input bytes before after is read = known input bytes after.left (rw is at read.taken) read.whole
 
 -- what was read of an input that is refused is no script
-never_run : (input line : List ℕ) (before after : Input) (taken : List ℕ) (script : Script) → NotBoth → before.left ≡ Some input → IsRead before after taken → IsRefused input line → IsAccepted taken script → ⊥
+never_run : (input line : List ℕ) (before after : Input) (taken : List ℕ) (script : Script) → NotBoth → before.left ≡ Some input → IsRead script_limit before after taken → IsRefused input line → IsAccepted taken script → ⊥
 never_run input line before after taken script not_both is read refused accepted =
     refused_accepted input taken line script not_both (known_read input taken before after is read) refused accepted
 
@@ -76,6 +76,7 @@ may_run state play input script before after old new statuses.Done not_both is a
 may_run state play input script before after old new statuses.Killed not_both is accepted ends = tt
 may_run state play input script before after old new statuses.Refused not_both is accepted ends =
     accepted_refused input ends.input ends.ends.0 script not_both (known_read input ends.input before.input after.input is ends.read) accepted ends.ends.1
+may_run state play input script before after old new statuses.Illegal not_both is accepted ends = ends
 may_run state play input script before after old new statuses.ReadFault not_both is accepted ends = tt
 may_run state play input script before after old new statuses.WriteFault not_both is accepted ends = tt
 may_run state play input script before after old new statuses.NoMemory not_both is accepted ends = tt
@@ -91,6 +92,7 @@ may_refuse state play input line before after old new statuses.Refused not_both 
     let told = ends.ends in
     let same = same_line input ends.input told.0 line one (known_read input ends.input before.input after.input is ends.read) told.1 refused in
     subst (λ (text : List ℕ). Appends before.output.written after.output.written text) same told.2.whole
+may_refuse state play input line before after old new statuses.Illegal not_both one is refused ends = ends
 may_refuse state play input line before after old new statuses.ReadFault not_both one is refused ends = tt
 may_refuse state play input line before after old new statuses.WriteFault not_both one is refused ends = tt
 may_refuse state play input line before after old new statuses.NoMemory not_both one is refused ends = tt

@@ -10,10 +10,10 @@ use Rattle.xs_model.specs.declared.script.Script.{Script}
 use Rattle.xs_model.specs.declared.event.Event.{Event}
 use Rattle.xs_text.specs.Text.{history_text}
 use Rattle.xs_top.specs.declared.play.Play.{Play}
-use Rattle.xs_top.specs.declared.status.Status.{Status}
-use Rattle.xs_top.specs.declared.status.Status.TheVariants as statuses
+use Rattle.xs_outside.specs.declared.status.Status.{Status}
+use Rattle.xs_outside.specs.declared.status.Status.TheVariants as statuses
 use Rattle.xs_top.specs.Statuses.{status_of}
-use Rattle.xs_top.specs.Outside.{Output, Outside, IsRead}
+use Rattle.xs_outside.specs.Outside.{Output, Outside, IsRead, script_limit}
 use Rattle.xs_top.specs.Answers.{IsAccepted, IsRefused}
 use Rattle.xs_top.specs.Run.{IsRunOf}
 
@@ -35,7 +35,7 @@ pub record Headline {B : Type 0} (state : B → Bank) (play : Play) (before afte
 -- why.
 pub record Refusal (before after : Outside) : Type 0 where
   pub input : List ℕ
-  pub read : IsRead before.input after.input input
+  pub read : IsRead script_limit before.input after.input input
   pub line : List ℕ
   pub refused : IsRefused input line
   pub text : Appends before.output.written after.output.written line
@@ -45,6 +45,7 @@ abbrev pub MayRun : Status → Type 0
 MayRun statuses.Done = ⊤
 MayRun statuses.Killed = ⊤
 MayRun statuses.Refused = ⊥
+MayRun statuses.Illegal = ⊥
 MayRun statuses.ReadFault = ⊤
 MayRun statuses.WriteFault = ⊤
 MayRun statuses.NoMemory = ⊤
@@ -55,6 +56,7 @@ abbrev pub MayRefuse : Output → Output → List ℕ → Status → Type 0
 MayRefuse before after line statuses.Done = ⊥
 MayRefuse before after line statuses.Killed = ⊥
 MayRefuse before after line statuses.Refused = Appends before.written after.written line
+MayRefuse before after line statuses.Illegal = ⊥
 MayRefuse before after line statuses.ReadFault = ⊤
 MayRefuse before after line statuses.WriteFault = ⊤
 MayRefuse before after line statuses.NoMemory = ⊤

@@ -1,6 +1,8 @@
 -- The definitions of the top call, one file a noun.
 pub mod Statuses
-pub mod Outside
 pub mod Run
+pub mod Command
+pub mod Summary
+pub mod Demo
 pub mod Answers
 pub mod Headline

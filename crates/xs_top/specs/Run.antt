@@ -1,6 +1,6 @@
 -- A run: which script a command plays, and what is said of its history and of the processors that it leaves. This project's
 -- own.
-use Rattle.std.specs.Prelude.{◌≡◌, ℕ, ◌<◌, List, [], ◌∷◌, codes, drop, slice_get, Some}
+use Rattle.std.specs.Prelude.{◌≡◌, ◌⊎◌, ℕ, ◌<◌, ◌^◌, List, [], ◌∷◌, codes, decimal, drop, slice_get, Some}
 use Rattle.xs_bank.specs.Bank.{Bank, HasCountedNothing}
 use Rattle.xs_machine.specs.declared.proc.Proc.{Proc}
 use Rattle.xs_machine.specs.Processors.{HaveRun}
@@ -18,9 +18,30 @@ abbrev pub play_words : Play → List (List ℕ)
 play_words Run = codes "run" ∷ []
 play_words Replay = codes "replay" ∷ []
 
+-- The words are such a command.
+abbrev pub IsPlayLine : List (List ℕ) → Type 0
+IsPlayLine words = (play : Play) × (words ≡ play_words play)
+
+-- ---- the command that writes the generator's script of a number
+
+abbrev pub gen_words : ℕ → List (List ℕ)
+gen_words number = codes "gen" ∷ decimal number ∷ []
+
+-- The words are this command, with a number of 32 bits in its one spelling.
+abbrev pub IsGenLine : List (List ℕ) → Type 0
+IsGenLine words = (number : ℕ) × (number < 2 ^ 32) × (words ≡ gen_words number)
+
+-- ---- the command that runs it
+
+abbrev pub demo_words : ℕ → List (List ℕ)
+demo_words number = codes "demo" ∷ decimal number ∷ []
+
+abbrev pub IsDemoLine : List (List ℕ) → Type 0
+IsDemoLine words = (number : ℕ) × (number < 2 ^ 32) × (words ≡ demo_words number)
+
 -- The words are one of the command lines of this version.
 abbrev pub IsCommandLine : List (List ℕ) → Type 0
-IsCommandLine words = (play : Play) × (words ≡ play_words play)
+IsCommandLine words = IsPlayLine words ⊎ IsGenLine words ⊎ IsDemoLine words
 
 -- The script that a command plays: `run` ignores the schedule, so that its processors have their turns in order.
 abbrev pub played : Play → Script → Script

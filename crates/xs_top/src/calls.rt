@@ -7,23 +7,26 @@ ghost use Rattle.xs_model.specs.declared.script.Script.{Script};
 ghost use Rattle.xs_script.specs.RefusalText.{refusal_text};
 ghost use Rattle.xs_text.specs.Text.{AreTasksKnown, history_text};
 ghost use Rattle.xs_top.specs.declared.play.Play.{Play};
-ghost use Rattle.xs_top.specs.Outside.{outside, input_of, output_of, TakesAtMost, Writes, WritesNothing};
+ghost use Rattle.xs_outside.specs.Outside.{outside, input_of, output_of, script_limit, TakesAtMost, Writes, WritesNothing};
+ghost use Rattle.xs_outside.specs.Statuses.{TellEnds, Unfailed, too_long_text};
 ghost use Rattle.xs_top.specs.Statuses as told;
-ghost use Rattle.xs_top.specs.Run.{AreNumbered, AreUncounted, IsCommandLine, play_words};
-ghost use Rattle.xs_top.specs.Answers.{IsAccepted, IsRefused, AnswerEnds, TellEnds, PlayEnds, WriteEnds, IsCutShort, IsPlayCutShort, Unfailed, KeepsProcessors, usage_text, too_long_text};
+ghost use Rattle.xs_top.specs.Run.{AreNumbered, AreUncounted, IsCommandLine, IsDemoLine, IsGenLine, IsPlayLine, play_words};
+ghost use Rattle.xs_top.specs.Answers.{IsAccepted, IsRefused, AnswerEnds, DemoCall, GenCall, PlayEnds, WriteEnds, IsCutShort, IsPlayCutShort, KeepsProcessors, usage_text};
 ghost use Rattle.xs_top.specs.Headline.{Headline, Refusal, MayRun, MayRefuse};
 
+use crate::command::{Command, command_of};
+use crate::demo::demo_call;
 use crate::history::write_history;
-use crate::play::{Play, as_played, play_of};
-use crate::reading::{LIMIT, ReadError, read_up_to};
+use crate::play::{Play, as_played};
 use crate::running::{open_board, run_script};
-use crate::status::{Status, status_of};
-use crate::writing::write_all;
+use crate::status::status_of;
 use std::alloc::Global;
 use xs_bank::Bank;
+use xs_gen::gen_call;
 use xs_io::{Sink, Source};
 use xs_machine::Proc;
 use xs_model::{Event, Script, schedule_unseen};
+use xs_outside::{ReadError, SCRIPT_LIMIT, Status, read_up_to, tell, tell_too_long};
 use xs_script::{
     Kind, RefusalLine, ScriptError, not_both, one_refusal, read_script, write_refusal,
 };
@@ -31,12 +34,10 @@ use xs_script::{
 /// The line that answers other words than a command.
 const USAGE: &[u8] = b"usage: xstate run [--tasks] | replay | check | gen N | demo N\n";
 
-/// The line that answers an input that is longer than a script may be.
-const TOO_LONG: &[u8] = b"refused 0 too-long\n";
-
-/// Does what the words of the command line ask: `run` and `replay` read a script from the source and write its history to the
-/// sink. `words` is the command line without the program's name. The processors are sixteen, numbered from 0 in order, whose
-/// banks have counted nothing. The script's ones are the first: they are set up once all memory is found, and no other changes.
+/// Does what the words of the command line ask: `run` and `replay` read a script from the source and write its history to the sink;
+/// `gen N` writes the generator's script of the number, and `demo N` runs it and writes what its history has. `words` is the command
+/// line without the program's name. The processors are sixteen, numbered from 0 in order, whose banks have counted nothing. The
+/// script's ones are the first: they are set up once all memory is found, and no other changes.
 pub fn top<S: Source, K: Sink, B: Bank>(
     alloc: Global,
     words: &[String],
@@ -53,26 +54,33 @@ pub fn top<S: Source, K: Sink, B: Bank>(
         × Writes (output_of K.Sink sink.old) (output_of K.Sink sink.new) usage_text × (input_of S.Source source.new ≡ input_of S.Source source.old) }
     // Other words than a command answer nothing else, but that the usage line was not written.
     ensures no_command { (IsCommandLine (map string_bytes words.now) → ⊥) → (result ≡ Status.Usage) ⊎ (result ≡ Status.WriteFault) }
-    // 0 and 1: what was written is the text of the one history of the script's run, and the processors are as this run leaves
-    // them. It is 1 exactly where a task is killed in that history.
-    ensures headline { (result ≡ Status.Done) ⊎ (result ≡ Status.Killed) → (play : Play) × (map string_bytes words.now ≡ play_words play)
+    // `run` and `replay` at 0 and 1: what was written is the text of the one history of the script's run, and the processors are as
+    // this run leaves them. It is 1 exactly where a task is killed in that history.
+    ensures headline { IsPlayLine (map string_bytes words.now) → (result ≡ Status.Done) ⊎ (result ≡ Status.Killed) → (play : Play) × (map string_bytes words.now ≡ play_words play)
         × Headline B.state play (outside S.Source K.Sink source.old sink.old) (outside S.Source K.Sink source.new sink.new) procs.old procs.new result }
     // 2: what was read is no script, and what was written is the line of its first refusal.
-    ensures refused { result ≡ Status.Refused → IsCommandLine (map string_bytes words.now)
+    ensures refused { result ≡ Status.Refused → IsPlayLine (map string_bytes words.now)
         × Refusal (outside S.Source K.Sink source.old sink.old) (outside S.Source K.Sink source.new sink.new) }
     // A known input that is a script is never refused.
-    ensures runs { (input : List ℕ) (script : Script) → S.left source.old ≡ Some input → IsCommandLine (map string_bytes words.now) → IsAccepted input script → MayRun result }
+    ensures runs { (input : List ℕ) (script : Script) → S.left source.old ≡ Some input → IsPlayLine (map string_bytes words.now) → IsAccepted input script → MayRun result }
     // A known input that is refused by a line is refused by no other, and never run.
-    ensures refuses { (input line : List ℕ) → S.left source.old ≡ Some input → IsCommandLine (map string_bytes words.now) → IsRefused input line → MayRefuse (output_of K.Sink sink.old) (output_of K.Sink sink.new) line result }
+    ensures refuses { (input line : List ℕ) → S.left source.old ≡ Some input → IsPlayLine (map string_bytes words.now) → IsRefused input line → MayRefuse (output_of K.Sink sink.old) (output_of K.Sink sink.new) line result }
+    // `gen N`: 0 where the generator's script of the number was written. Nothing was read, and no processor changed.
+    ensures generated { IsGenLine (map string_bytes words.now) → GenCall (map string_bytes words.now) (outside S.Source K.Sink source.old sink.old) (outside S.Source K.Sink source.new sink.new) procs.old procs.new result }
+    // `demo N`: 0 where the line was written that tells what the one history of the number's script has, and the processors are as
+    // this run leaves them. Nothing was read.
+    ensures summary { IsDemoLine (map string_bytes words.now) → DemoCall B.state (map string_bytes words.now) (outside S.Source K.Sink source.old sink.old) (outside S.Source K.Sink source.new sink.new) procs.old procs.new result }
     // 4: only where the source failed in this call, and nothing was written.
     ensures read_fault { result ≡ Status.ReadFault → Rose (S.fault_count source.old) (S.fault_count source.new)
-        × TakesAtMost (input_of S.Source source.old) (input_of S.Source source.new) × WritesNothing (output_of K.Sink sink.old) (output_of K.Sink sink.new) }
+        × TakesAtMost script_limit (input_of S.Source source.old) (input_of S.Source source.new) × WritesNothing (output_of K.Sink sink.old) (output_of K.Sink sink.new) }
     // 5: only where the sink failed in this call, and what was written by then is a front of the right output. Where that is
     // the text of a run, the processors are as this run leaves them; where it is a line, no processor changed.
     ensures write_fault { result ≡ Status.WriteFault → IsCutShort B.state (map string_bytes words.now) (outside S.Source K.Sink source.old sink.old) (outside S.Source K.Sink source.new sink.new) procs.old procs.new }
     // 6: nothing was written. It is the answer to want of memory, for which no clause can ask.
     ensures no_memory { result ≡ Status.NoMemory → IsCommandLine (map string_bytes words.now)
-        × TakesAtMost (input_of S.Source source.old) (input_of S.Source source.new) × WritesNothing (output_of K.Sink sink.old) (output_of K.Sink sink.new) }
+        × TakesAtMost script_limit (input_of S.Source source.old) (input_of S.Source source.new) × WritesNothing (output_of K.Sink sink.old) (output_of K.Sink sink.new) }
+    // 3: nothing is checked in this version.
+    ensures no_verdict { result ≡ Status.Illegal → ⊥ }
     // No fault is passed over: the source failed only at 4, and the sink only at 5.
     ensures unfailed { Unfailed (outside S.Source K.Sink source.old sink.old) (outside S.Source K.Sink source.new sink.new) result }
     // At 64, 2, 4 and 6 no script ran, and no processor changed.
@@ -82,8 +90,10 @@ pub fn top<S: Source, K: Sink, B: Bank>(
 {
     one_refusal();
     not_both();
-    match play_of(words) {
-        Some(play) => play_call(alloc, play, source, sink, procs),
+    match command_of(words) {
+        Some(Command::Play(play)) => play_call(alloc, play, source, sink, procs),
+        Some(Command::Gen(number)) => gen_call(alloc, number, sink),
+        Some(Command::Demo(number)) => demo_call(alloc, number, sink, procs),
         None => tell(sink, USAGE, Status::Usage),
     }
 }
@@ -101,6 +111,7 @@ pub fn replay_call<S: Source, K: Sink, B: Bank>(
     requires counts { AreUncounted B.state procs.old }
 
     ensures no_usage { result ≡ Status.Usage → ⊥ }
+    ensures no_verdict { result ≡ Status.Illegal → ⊥ }
     // 0 and 1: what was written is the text of the one history of the script's run, and the processors are as this run leaves
     // them. It is 1 exactly where a task is killed in that history.
     ensures headline { (result ≡ Status.Done) ⊎ (result ≡ Status.Killed) → Headline B.state Play.Replay (outside S.Source K.Sink source.old sink.old) (outside S.Source K.Sink source.new sink.new) procs.old procs.new result }
@@ -111,12 +122,12 @@ pub fn replay_call<S: Source, K: Sink, B: Bank>(
     ensures refuses { (input line : List ℕ) → S.left source.old ≡ Some input → IsRefused input line → MayRefuse (output_of K.Sink sink.old) (output_of K.Sink sink.new) line result }
     // 4: only where the source failed in this call, and nothing was written.
     ensures read_fault { result ≡ Status.ReadFault → Rose (S.fault_count source.old) (S.fault_count source.new)
-        × TakesAtMost (input_of S.Source source.old) (input_of S.Source source.new) × WritesNothing (output_of K.Sink sink.old) (output_of K.Sink sink.new) }
+        × TakesAtMost script_limit (input_of S.Source source.old) (input_of S.Source source.new) × WritesNothing (output_of K.Sink sink.old) (output_of K.Sink sink.new) }
     // 5: only where the sink failed in this call, and what was written by then is a front of the right output, with the processors
     // that go with it.
     ensures write_fault { result ≡ Status.WriteFault → IsPlayCutShort B.state Play.Replay (outside S.Source K.Sink source.old sink.old) (outside S.Source K.Sink source.new sink.new) procs.old procs.new }
     // 6: nothing was written.
-    ensures no_memory { result ≡ Status.NoMemory → TakesAtMost (input_of S.Source source.old) (input_of S.Source source.new) × WritesNothing (output_of K.Sink sink.old) (output_of K.Sink sink.new) }
+    ensures no_memory { result ≡ Status.NoMemory → TakesAtMost script_limit (input_of S.Source source.old) (input_of S.Source source.new) × WritesNothing (output_of K.Sink sink.old) (output_of K.Sink sink.new) }
     // No fault is passed over, no processor changed where no script ran, and each keeps its number.
     ensures unfailed { Unfailed (outside S.Source K.Sink source.old sink.old) (outside S.Source K.Sink source.new sink.new) result }
     ensures processors { KeepsProcessors procs.old procs.new result }
@@ -142,7 +153,7 @@ fn play_call<S: Source, K: Sink, B: Bank>(
     ensures processors { KeepsProcessors procs.old procs.new result }
     ensures numbers { AreNumbered procs.new }
 {
-    match read_up_to(alloc, LIMIT, source) {
+    match read_up_to(alloc, SCRIPT_LIMIT, source) {
         Ok(input) => answer(alloc, play, input.as_slice(), sink, procs),
         Err(ReadError::Fault) => Status::ReadFault,
         Err(ReadError::Memory) => Status::NoMemory,
@@ -165,8 +176,8 @@ fn answer<K: Sink, B: Bank>(
     ensures numbers { AreNumbered procs.new }
 {
     schedule_unseen();
-    if input.len() > LIMIT {
-        return tell(sink, TOO_LONG, Status::Refused);
+    if input.len() > SCRIPT_LIMIT {
+        return tell_too_long(sink);
     }
     match read_script(alloc, input) {
         Ok(script) => write_run(alloc, &as_played(alloc, play, script), sink, procs),
@@ -215,16 +226,6 @@ fn tell_history<K: Sink>(script: &Script, history: &[Event], sink: &mut K) -> St
 {
     match write_history(script, history, sink) {
         Ok(()) => status_of(history),
-        Err(_) => Status::WriteFault,
-    }
-}
-
-/// Writes a text in place of a history, and answers its status.
-fn tell<K: Sink>(sink: &mut K, text: &[u8], status: Status) -> Status
-    ensures { TellEnds status text.now (output_of K.Sink sink.old) (output_of K.Sink sink.new) result }
-{
-    match write_all(sink, text) {
-        Ok(()) => status,
         Err(_) => Status::WriteFault,
     }
 }

@@ -4,11 +4,11 @@ ghost use Rattle.std.specs.Prelude.{OnOk, OnErr};
 ghost use Rattle.std.specs.Io.KnownBytes.{Appends};
 ghost use Rattle.xs_io.specs.Causes.{HasCause};
 ghost use Rattle.xs_text.specs.Text.{AreTasksKnown, history_text};
-ghost use Rattle.xs_top.specs.Outside.{AppendsFront};
+ghost use Rattle.xs_outside.specs.Outside.{AppendsFront};
 
-use crate::writing::write_all;
 use xs_io::{Failed, Sink};
 use xs_model::{Event, Script};
+use xs_outside::write_all;
 use xs_text::{Line, write_event};
 
 /// Writes the line of each event, in order, each handed to the sink whole. Where a write fails, the sink has taken a

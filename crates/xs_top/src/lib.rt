@@ -1,22 +1,20 @@
 //! The top call: all that the program does, over any source, sink and banks. A command reads a script, runs it on the processors
-//! and writes its history. The crate stands on the reader of scripts in `xs_script`, the texts of `xs_text` and the runs of
-//! `xs_machine`. Its contract is the headline in `specs/`: what was written is the text of the one history that is the replay of
+//! and writes its history. The crate stands on the reader of scripts in `xs_script`, the texts of `xs_text` the runs of `xs_machine`, and what
+//! `xs_outside` does with the world outside. Its contract is the headline in `specs/`: what was written is the text of the one history that is the replay of
 //! the script that was read, and each bank has counted and still holds what that history says.
 #![tactic(auto)]
 
 mod calls;
+mod command;
+mod demo;
 mod handing;
 mod history;
 mod play;
 mod procs;
-mod reading;
 mod running;
 mod status;
-mod writing;
+mod summary;
 
 pub use calls::{replay_call, top};
 pub use handing::hand_on;
 pub use procs::processors;
-pub use reading::{LIMIT, ReadError, read_up_to};
-pub use status::Status;
-pub use writing::write_all;

@@ -1,7 +1,7 @@
 //! The commands that play a script.
 
-ghost use Rattle.std.specs.Prelude.{◌≡◌, [], ◌∷◌, map, string_bytes, IfSome, IfNone};
-ghost use Rattle.xs_top.specs.Run.{IsCommandLine, play_words, played};
+ghost use Rattle.std.specs.Prelude.{◌≡◌, [], ◌∷◌, IfSome, IfNone};
+ghost use Rattle.xs_top.specs.Run.{IsPlayLine, play_words, played};
 
 use std::alloc::Global;
 use xs_model::{Items, Script};
@@ -15,21 +15,10 @@ pub enum Play {
     Replay,
 }
 
-/// The command that the words are, if any.
-pub fn play_of(words: &[String]) -> Option<Play>
-    ensures some { IfSome result (λ play. map string_bytes words.now ≡ play_words play) }
-    ensures none { IfNone result (IsCommandLine (map string_bytes words.now) → ⊥) }
-{
-    match words {
-        [word] => play_named(word.as_bytes()),
-        _ => None,
-    }
-}
-
 /// The command of this one word, if any.
-fn play_named(word: &[u8]) -> Option<Play>
+pub fn play_named(word: &[u8]) -> Option<Play>
     ensures some { IfSome result (λ play. word.now ∷ [] ≡ play_words play) }
-    ensures none { IfNone result (IsCommandLine (word.now ∷ []) → ⊥) }
+    ensures none { IfNone result (IsPlayLine (word.now ∷ []) → ⊥) }
 {
     if word == b"run".as_slice() {
         return Some(Play::Run);

@@ -8,7 +8,8 @@ use std::env;
 use std::io::{self, ErrorKind};
 use std::process::ExitCode;
 use xs_io::{StdSink, StdSource};
-use xs_top::{Status, hand_on, processors, top};
+use xs_outside::Status;
+use xs_top::{hand_on, processors, top};
 
 /// Takes the command line, standard input and standard output, and ends with the status of the top call.
 fn main(rt: HostRuntime) -> ExitCode {

@@ -1,5 +1,5 @@
 use Rattle.std.proofs.Common.{◌≤◌, length, arith}
-use Rattle.xs_top.specs.Outside.{output_of}
+use Rattle.xs_outside.specs.Outside.{output_of}
 use Rattle.xs_counts.proofs.Counted.{counts_told, when_none, without_history}
 use Rattle.xs_counts.proofs.call.answer.Goals as goal
 

@@ -1,4 +1,4 @@
-use Rattle.xs_top.specs.Outside.{output_of}
+use Rattle.xs_outside.specs.Outside.{output_of}
 use Rattle.xs_counts.proofs.HeldInputs.{held_ends}
 use Rattle.xs_counts.proofs.call.replay_input.Goals as goal
 
@@ -9,6 +9,7 @@ returns-clause-ends g c =
     (record {
       short = c.requires.short;
       no_usage = told.no_usage;
+      no_verdict = told.no_verdict;
       headline = told.headline;
       refused = told.refused;
       read_fault = λ e. (told.read_fault e).0;

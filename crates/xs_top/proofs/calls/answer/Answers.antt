@@ -1,16 +1,17 @@
 use Rattle.std.proofs.Common.{◌<◌, length, arith}
 use Rattle.xs_script.specs.RefusalText.{refusal_text}
-use Rattle.xs_top.specs.Outside.{limit, output_of}
-use Rattle.xs_top.specs.Answers.{TooLong, ByLine, too_long_text}
+use Rattle.xs_outside.specs.Outside.{script_limit, output_of}
+use Rattle.xs_outside.specs.Statuses.{too_long_text}
+use Rattle.xs_top.specs.Answers.{TooLong, ByLine}
 use Rattle.xs_top.proofs.AnswerLemmas.{refused_told, run_told}
 use Rattle.xs_top.proofs.PlayLemmas.{played_valid}
 use Rattle.xs_top.proofs.calls.answer.Goals as goal
 
-pub returns-then-input-gt-LIMIT-clause-ends : goal.returns-then-input-gt-LIMIT-clause-ends
-returns-then-input-gt-LIMIT-clause-ends g c =
-    let long : limit < length c.args.input.now = omega arith in
-    refused_told g.B.Bank.state c.args.play c.args.input.now too_long_text (output_of g.K.Sink c.args.sink.now) (output_of g.K.Sink c.tell.new.sink) c.args.procs.now c.tell.result
-    (TooLong long) c.tell.ensures
+pub returns-then-input-gt-SCRIPT_LIMIT-clause-ends : goal.returns-then-input-gt-SCRIPT_LIMIT-clause-ends
+returns-then-input-gt-SCRIPT_LIMIT-clause-ends g c =
+    let long : script_limit < length c.args.input.now = omega arith in
+    refused_told g.B.Bank.state c.args.play c.args.input.now too_long_text (output_of g.K.Sink c.args.sink.now) (output_of g.K.Sink c.tell_too_long.new.sink) c.args.procs.now c.tell_too_long.result
+    (TooLong long) c.tell_too_long.ensures
 
 pub write_run-requires-clause-valid : goal.write_run-requires-clause-valid
 write_run-requires-clause-valid g c = rw c.as_played.ensures (played_valid c.args.play c.in-Ok.script c.in-Ok.ensures.spelled.valid)

@@ -1,5 +1,5 @@
 use Rattle.xs_top.specs.declared.play.Play.TheVariants.{Replay}
-use Rattle.xs_top.specs.Outside.{outside}
+use Rattle.xs_outside.specs.Outside.{outside}
 use Rattle.xs_top.proofs.AnswerLemmas.{headline_told}
 use Rattle.xs_top.proofs.KnownInputs.{may_run, may_refuse}
 use Rattle.xs_top.proofs.calls.replay_call.Goals as goal

@@ -1,5 +1,5 @@
 use Rattle.xs_text.specs.Text.{history_text}
-use Rattle.xs_top.specs.Outside.{output_of}
+use Rattle.xs_outside.specs.Outside.{output_of}
 use Rattle.xs_top.proofs.AnswerLemmas.{history_told, history_keeps}
 use Rattle.xs_top.proofs.calls.write_run.Goals as goal
 
