@@ -1,4 +1,10 @@
 -- Lemmas of the machine that tells which event is legal, one file a theme.
-mod Commands
 pub mod Alike
+mod Commands
+mod Halves
+mod Lines
+mod Places
+mod Reaching
 pub mod Rights
+mod Telling
+mod Turning

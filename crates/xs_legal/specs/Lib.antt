@@ -1,4 +1,6 @@
--- What is wrong with an event, and what an event does to a block, one file a noun.
+-- What is wrong with an event, and what an event does to the blocks, one file a noun.
+pub mod Difference
+pub mod Gift
+pub mod Step
 pub mod Worked
 pub mod Wrong
-pub mod Difference

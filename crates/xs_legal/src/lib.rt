@@ -1,10 +1,12 @@
 //! Which event is a step of the machine in which each task owns a register file of its own (`xs_private`), what is wrong with an event
-//! that is none, and what a step does to its own block. It knows no bank and no area. Its contract is the definition of steps and of
-//! their effects in `xs_model`, and that of what is wrong in `specs/Wrong`.
+//! that is none, and what a step makes of the blocks. It knows no bank and no area. Its contract is the definition of steps and of their
+//! effects in `xs_model`, and that of what is wrong in `specs/Wrong`.
 #![tactic(auto)]
 
 mod difference;
 mod due;
+mod effects;
+mod giving;
 mod judging;
 mod laws;
 mod line;
@@ -12,10 +14,12 @@ mod local_reply;
 mod outer_reply;
 mod own;
 mod parts;
+mod reached;
 mod start;
 mod state;
 mod wrong;
 
+pub use effects::change;
 pub use judging::judge;
 pub use laws::wrong_once;
 pub use state::State;
