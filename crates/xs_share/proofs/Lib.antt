@@ -1,0 +1,4 @@
+pub mod Keeper
+pub mod Loops
+pub mod Steps
+pub mod Views
