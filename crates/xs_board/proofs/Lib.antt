@@ -32,3 +32,4 @@ pub mod Taking
 pub mod Asking
 pub mod FirstTasks
 pub mod Beginning
+pub mod Following

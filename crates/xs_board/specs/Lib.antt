@@ -11,3 +11,5 @@ pub mod Trapping
 pub mod Opening
 pub mod Board
 pub mod Taken
+pub mod Follows
+pub mod FollowsLaws

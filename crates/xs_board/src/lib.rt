@@ -15,6 +15,7 @@ mod member;
 mod opening;
 mod putting;
 mod registers;
+mod sharing;
 mod telling;
 mod trapping;
 mod turn;
