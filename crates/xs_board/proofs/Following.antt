@@ -2,7 +2,7 @@
 use Rattle.std.proofs.Common.{◌≡◌, ◌≢◌, ℕ, ◌==◌, Bool, true, false, List, [], ◌∷◌, ◌++◌, map, refl, sym, ap, ◌∙◌, subst, inl, inr, eq-eqb, ne_eqb}
 use Rattle.std.proofs.lemmas.Bool.{cases_eq}
 use Rattle.std.proofs.lemmas.Option.{same_Some}
-use Rattle.std.specs.Prelude.{Option, Some, None, if◌then◌else◌, slice_get}
+use Rattle.std.specs.Prelude.{Option, Some, None, if◌then◌else◌}
 use Rattle.xs_base.specs.declared.words.How.{How}
 use Rattle.xs_base.specs.declared.words.Signo.{Signo}
 use Rattle.xs_model.specs.declared.event.Event.{Event}
@@ -17,12 +17,12 @@ use Rattle.xs_model.specs.Laws.{AreElsewhere}
 use Rattle.xs_model.specs.Machine.{machine, IsLegalPast}
 use Rattle.xs_model.specs.Note.{Act, Starts, Section, Grows, Sets, Plain, task_of, act_of, set_act, set_target, is_section, is_count, notes_of, is_at, start_cpu, cpu_of, last, last_after}
 use Rattle.xs_model.specs.Script.{IsValid, command_at}
-use Rattle.xs_model.specs.State.{BlockState, stage_at, stage_of, task_at, task_of_state, turn_cpu}
+use Rattle.xs_model.specs.State.{stage_at, stage_of, task_at, task_of_state, turn_cpu}
 use Rattle.xs_board.specs.declared.turn.Close.{Close}
 use Rattle.xs_board.specs.declared.turn.Close.TheVariants.{Quantum, Yield, Outer, Refused, Trap, End}
 use Rattle.xs_board.specs.declared.turn.Entry.{Entry}
-use Rattle.xs_board.specs.Board.{Board, past_of, stage_in, private_in, turn_on, KeepsOthers, OthersKept, KeepsTurns}
-use Rattle.xs_board.specs.Follows.{Follows, Next, last_in, section_in}
+use Rattle.xs_board.specs.Board.{Board, past_of, stage_in, private_in, KeepsOthers, OthersKept, KeepsTurns}
+use Rattle.xs_board.specs.Follows.{Next, last_in, section_in}
 use Rattle.xs_board.specs.Laws.{Laws}
 use Rattle.xs_board.specs.Turn.{Answer, entry_event, close_events, trap_end, turn_events}
 use Rattle.xs_board.proofs.Events.{onto}

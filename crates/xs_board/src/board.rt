@@ -10,6 +10,7 @@ ghost use Rattle.xs_model.specs.Replay.{entry};
 ghost use Rattle.xs_model.specs.Script.{IsValid, is_user};
 ghost use Rattle.xs_model.specs.State.{none_lives};
 ghost use Rattle.xs_board.specs.Board.{past_of, machine_in, ready_of, stage_in, private_in, private_with, private_after, private_closed, begun, answer_in, turn_on, IsBoard, KeepsOthers, OthersKept, KeepsTurns};
+ghost use Rattle.xs_board.specs.Follows.{Next};
 ghost use Rattle.xs_board.specs.Home.{IsHome};
 ghost use Rattle.xs_board.specs.Taken.{HasOther, IfTurn, OnNothing, OnDone, IsTurnOf};
 ghost use Rattle.xs_board.specs.Turn.{turn_events, AreLines, stage_closed};
@@ -122,6 +123,9 @@ impl Board {
         ensures others { IfTurn result (λ turn. KeepsOthers turn.task.name self.old self.new) }
         ensures turns { KeepsTurns cpu self.old self.new }
 
+        // What every other processor may rely on.
+        ensures next { Next cpu self.old self.new }
+
         // What stays.
         ensures script { self.new.script ≡ self.old.script }
         ensures nothing_changes { OnNothing result (self.new ≡ self.old) }
@@ -187,6 +191,9 @@ impl Board {
         ensures free { turn_on self.new turn.cpu ≡ None }
         ensures others { OthersKept turn.task.name self.old self.new }
         ensures turns { KeepsTurns turn.cpu self.old self.new }
+
+        // What every other processor may rely on.
+        ensures next { Next turn.cpu self.old self.new }
 
         // What stays.
         ensures script { self.new.script ≡ self.old.script }

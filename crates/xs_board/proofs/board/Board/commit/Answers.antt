@@ -26,6 +26,7 @@ use Rattle.xs_board.proofs.Again.{beside_back, board_back, done_length}
 use Rattle.xs_board.proofs.Giving.{area_is_long, area_is_out, lives_then, members_length, place_then}
 use Rattle.xs_board.proofs.Asked.{deed_can, deed_found, deed_named, deed_room, few_live, put_room}
 use Rattle.xs_board.proofs.Committing.{MayCommit, later, leaves, turn_in_range, turn_replays}
+use Rattle.xs_board.proofs.Following.{turn_next, turn_within}
 use Rattle.xs_board.proofs.Kept.{performed}
 use Rattle.xs_board.proofs.Moving.{reverse_onto_past}
 use Rattle.xs_board.proofs.Returning.{Settles, after_is, can_trap, reply_known, settled_name, settled_place}
@@ -391,3 +392,16 @@ pub returns-clause-turns : goal.returns-clause-turns
 returns-clause-turns c =
     rw (← c.self.view_is) (λ cpu apart. ap (λ (past : List Event). runner cpu 0 (machine (old c).script past).blocks) (past_is c)
     ∙ back_turns c.machine_laws.ensures (old c) (came c).name c.args.turn.cpu (ran c) c.args.close (may_be c) cpu apart)
+
+pub returns-clause-next : goal.returns-clause-next
+returns-clause-next c =
+    let laws = c.machine_laws.ensures in
+    let t = (came c).name in
+    let cpu = c.args.turn.cpu in
+    let may = may_be c in
+    let left = leaves laws (old c) t cpu (ran c) c.args.close may in
+    let new : Board = record { script = c.self.inside.script; history = history c; home = c.put_back.new.tasks.items; pool = c.put_back.new.pool; room = vec_capacity c.tell_turn.new.events } in
+    rw (← c.self.view_is) (turn_next laws (old c) new t cpu (turn_events t (ran c) c.args.close (answer_in (old c) t (ran c) c.args.close)) (turn_within (old c).script t (ran c) c.args.close (answer_in (old c) t (ran c) c.args.close))
+    may.is_board.valid may.is_board.legal (subst (IsLegalPast (old c).script) (sym (past_is c)) left.legal) refl (past_is c) may.turn
+    (λ u other. subst (λ (past : List Event). KeepsBlock (old c).script (past_of (old c)) past u) (sym (past_is c)) (left.keeps u other))
+    (λ d apart. ap (λ (past : List Event). runner d 0 (machine (old c).script past).blocks) (past_is c) ∙ back_turns laws (old c) t cpu (ran c) c.args.close may d apart))

@@ -19,7 +19,9 @@ use Rattle.xs_base.specs.declared.words.Signo.{Signo}
 use Rattle.std.specs.Prelude.{Option}
 use Rattle.xs_board.specs.Board.{Board, begun, signal_in, IsKeptBeside, IsTaskOf, past_of, private_in}
 use Rattle.xs_board.specs.Taken.{is_user_how}
+use Rattle.xs_board.proofs.Following.{start_next}
 use Rattle.xs_board.proofs.Asking.{member_known, thread_quiet, nil_of_len, nobody_lives, somebody_lives, first_ready, ready_known, ready_lives, ready_home, may_take, other_has, user_how, skip_held, is_at_some}
+use Rattle.xs_board.proofs.Moving.{reverse_onto_past}
 use Rattle.xs_board.proofs.Taking.{MayTake, start_fits, taken_legal, taken_replay, taken_stage, taken_private, taken_others, taken_busy, taken_turns, board_taken, beside_taken}
 use Rattle.xs_board.proofs.board.Board.take.Goals as goal
 use Rattle.xs_board.proofs.board.Board.take.Goals.{then-self-eq0, else-self-eq0}
@@ -190,3 +192,14 @@ returns-clause-others c = rw (← c.self.view_is) (λ u other. taken_others c.ma
 
 pub returns-clause-turns : goal.returns-clause-turns
 returns-clause-turns c = rw (← c.self.view_is) (taken_turns c.machine_laws.ensures (old c) (t c) c.args.cpu (rest c) (how c) (signal c) (both c).0 (history c) (told c))
+
+pub returns-clause-next : goal.returns-clause-next
+returns-clause-next c =
+    let laws = c.machine_laws.ensures in
+    let may = (both c).0 in
+    let new : Board = record { script = c.self.inside.script; history = history c; home = slice_set c.self.inside.tasks.items (t c) c.take.new.self; pool = c.self.inside.pool; room = vec_capacity c.tell.new.events } in
+    rw (← c.self.view_is) (start_next (old c) new (t c) c.args.cpu (how c) (signal c) refl
+    (ap reverse (told c) ∙ reverse_onto_past (events.Start (t c) c.args.cpu (how c) (signal c) ∷ []) (old c).history)
+    may.ready
+    (taken_others laws (old c) (t c) c.args.cpu (rest c) (how c) (signal c) may (history c) (told c))
+    (taken_turns laws (old c) (t c) c.args.cpu (rest c) (how c) (signal c) may (history c) (told c)))
