@@ -1,5 +1,5 @@
 -- In what an event differs from the one that may come in its place. This project's own.
-use Rattle.std.specs.Prelude.{◌≡◌, Bool, true, Some}
+use Rattle.std.specs.Prelude.{◌≡◌, ◌<◌, Bool, true, Some}
 use Rattle.xs_model.specs.declared.event.Event.{Event}
 use Rattle.xs_model.specs.declared.event.Event.TheVariants.{Start}
 use Rattle.xs_model.specs.Script.{is_user}
@@ -16,7 +16,8 @@ Differs right event (wrongs.How how) = AreAlike event right × (how_in right ≡
 Differs right event (wrongs.Signal signal) = AreAlike event right × (how_in right ≡ how_in event) × (signal_in right ≡ Some signal) × (signal_in event ≡ Some signal → ⊥)
 Differs right event (wrongs.Reply reply) = AreAlike event right × (reply_in right ≡ Some reply) × (reply_in event ≡ Some reply → ⊥)
 
--- Whether the bank still holds the registers is known where that decides: at the Start of a user task.
+-- Whether the bank still holds the registers is known where that decides: at the Start of a user task on one of the script's
+-- processors.
 abbrev pub IsKnown : Machine → Event → Bool → Type 0
-IsKnown m (Start t cpu how signal) is_held = is_user m.script t ≡ true → is_held ≡ held m.script m.past cpu t
+IsKnown m (Start t cpu how signal) is_held = cpu < m.script.cpus → is_user m.script t ≡ true → is_held ≡ held m.script m.past cpu t
 IsKnown m other is_held = Unit {0}

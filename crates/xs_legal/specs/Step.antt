@@ -1,5 +1,5 @@
 -- What the code knows of an event that is a step.
-use Rattle.std.specs.Prelude.{◌≡◌, ℕ, ◌+◌, ◌<◌, ◌^◌, true, List, length, slice_get, Some}
+use Rattle.std.specs.Prelude.{◌≡◌, ℕ, ◌+◌, ◌<◌, ◌^◌, true, List, length, slice_get, Some, None}
 use Rattle.std.specs.List.{AllByRecursion}
 use Rattle.xs_base.specs.Task.{IsPrivateTask}
 use Rattle.xs_model.specs.declared.event.Event.{Event}
@@ -15,9 +15,10 @@ use Rattle.xs_model.specs.Line.{line_at}
 use Rattle.xs_model.specs.Machine.{IsLegalPast, IsStep, machine}
 use Rattle.xs_model.specs.Note.{is_count, task_of}
 use Rattle.xs_model.specs.Script.{IsCommand, IsValid, block_named, command_at}
-use Rattle.xs_model.specs.State.{BlockState}
+use Rattle.xs_model.specs.State.{BlockState, turn_of}
 use Rattle.xs_legal.specs.declared.giving.Gift.TheVariants as gifts
 use Rattle.xs_legal.specs.Gift.{ArePair}
+use Rattle.xs_legal.specs.Wrong.{how_in}
 
 -- The blocks are those of a legal past of the script, of whose machine the event is a step.
 pub record IsNext (script : Script) (blocks : List BlockState) (event : Event) : Type 0 where
@@ -78,3 +79,7 @@ LocalTold = (script : Script) (blocks : List BlockState) (t line : ℕ) (reply :
 
 abbrev pub OuterTold : Type 0
 OuterTold = (script : Script) (blocks : List BlockState) (t line : ℕ) (reply : Reply) → IsNext script blocks (events.Outer t line reply) → IsOuterLine script blocks t line reply
+
+-- The block of a step that is no Start is in a turn.
+abbrev pub StepTurns : Type 0
+StepTurns = (script : Script) (blocks : List BlockState) (event : Event) → IsNext script blocks event → how_in event ≡ None → (cpu : ℕ) × (turn_of blocks (task_of event) ≡ Some cpu)

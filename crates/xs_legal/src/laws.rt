@@ -5,7 +5,7 @@ ghost use Rattle.xs_model.specs.declared.event.Event.{Event};
 ghost use Rattle.xs_model.specs.Machine.{IsStep};
 ghost use Rattle.xs_model.specs.State.{Machine};
 ghost use Rattle.xs_legal.specs.declared.wrong.Wrong.{Wrong};
-ghost use Rattle.xs_legal.specs.Step.{LocalTold, OuterTold, StepValid, StepWithin};
+ghost use Rattle.xs_legal.specs.Step.{LocalTold, OuterTold, StepTurns, StepValid, StepWithin};
 ghost use Rattle.xs_legal.specs.Wrong.{IsWrong};
 
 use xs_model::{a_fork_bears, lines_found, machine_known, named_known};
@@ -17,12 +17,13 @@ pub fn wrong_once()
 {}
 
 /// What is known of a step: its block is there, each private task is valid, and where it is a line's event, the block stands at that
-/// line, and whoever the line reaches is there.
+/// line, and whoever the line reaches is there; and where it is no Start, its block is in a turn.
 pub fn steps_told()
     ensures within { StepWithin }
     ensures valid { StepValid }
     ensures local { LocalTold }
     ensures outer { OuterTold }
+    ensures turns { StepTurns }
 {
     lines_found();
     machine_known();

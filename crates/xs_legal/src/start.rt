@@ -1,6 +1,6 @@
 //! The Start that a ready block can make.
 
-ghost use Rattle.std.specs.Prelude.{◌≡◌, true, length};
+ghost use Rattle.std.specs.Prelude.{◌≡◌, ◌<◌, true, length};
 ghost use Rattle.xs_model.specs.Due as dues;
 ghost use Rattle.xs_model.specs.Held.{held};
 ghost use Rattle.xs_model.specs.Script.{is_user};
@@ -21,7 +21,7 @@ pub fn start_due(
     is_held: bool,
 ) -> Option<Event>
     requires { length blocks.now ≡ length script.now.blocks }
-    ensures { (m : Machine) → m.script ≡ script.now → m.blocks ≡ blocks.now → (is_user m.script t ≡ true → is_held ≡ held m.script m.past cpu t) → result ≡ dues.start_due m t cpu }
+    ensures { (m : Machine) → m.script ≡ script.now → m.blocks ≡ blocks.now → (cpu < m.script.cpus → is_user m.script t ≡ true → is_held ≡ held m.script m.past cpu t) → result ≡ dues.start_due m t cpu }
 {
     let block = blocks.get(t as usize)?;
     if block.stage() != Stage::Ready || cpu >= script.cpus || has_turn(blocks, cpu) {

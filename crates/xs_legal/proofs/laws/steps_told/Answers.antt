@@ -1,5 +1,6 @@
 -- What the laws tell together.
 use Rattle.xs_legal.proofs.Telling.{local_told, outer_told, step_valid, step_within}
+use Rattle.xs_legal.proofs.Numbering.{step_turns}
 use Rattle.xs_legal.proofs.laws.steps_told.Goals as goal
 
 pub returns : goal.returns
@@ -14,4 +15,5 @@ returns c =
       valid = step_valid found machines tasks named bears;
       local = local_told found machines tasks named bears;
       outer = outer_told found machines tasks named bears;
+      turns = step_turns;
     }
