@@ -1,5 +1,5 @@
 -- The machine that follows a history, before and after a step.
-use Rattle.std.proofs.Common.{◌≡◌, ℕ, ◌<◌, ◌≤◌, Bool, true, false, List, [], ◌∷◌, ◌++◌, length, take, drop, slice_get, get_or, Some, None, if◌then◌else◌, refl, sym, ap, ◌∙◌, subst, arith}
+use Rattle.std.proofs.Common.{◌≡◌, ℕ, ◌<◌, Bool, true, List, [], ◌∷◌, ◌++◌, length, take, drop, slice_get, get_or, Some, None, if◌then◌else◌, refl, sym, ap, ◌∙◌, subst, arith}
 use Rattle.std.proofs.lemmas.List.{append-nil, drop_all, get_or-replicate, length-replicate, take_all}
 use Rattle.std.proofs.lemmas.Option.{slice_get_within}
 use Rattle.std.specs.Prelude.{Option, ◌&&◌, map, replicate}
@@ -12,7 +12,7 @@ use Rattle.xs_model.specs.declared.script.Script.{Script}
 use Rattle.xs_model.specs.Held.{held}
 use Rattle.xs_model.specs.Laws.{MachineKnown, TwoNumbers}
 use Rattle.xs_model.specs.Machine.{IsStep, blocks_after, committing_after, machine}
-use Rattle.xs_model.specs.Note.{act_of, is_at, last, last_after, mark, task_of}
+use Rattle.xs_model.specs.Note.{act_of, is_at, last_after, mark, task_of}
 use Rattle.xs_model.specs.Script.{IsValid, is_user, is_user_block}
 use Rattle.xs_model.specs.State.{BlockState, Machine, opening_block}
 use Rattle.xs_legal.specs.Difference.{IsKnown}

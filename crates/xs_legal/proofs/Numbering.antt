@@ -1,5 +1,5 @@
 -- The two numbers that a machine keeps, after a step.
-use Rattle.std.proofs.Common.{◌≡◌, ℕ, ◌<◌, ◌≤◌, Bool, true, false, List, ◌∷◌, length, slice_get, slice_set, get_or, Some, None, if◌then◌else◌, refl, sym, ap, ◌∙◌, subst, arith}
+use Rattle.std.proofs.Common.{◌≡◌, ℕ, ◌<◌, ◌≤◌, Bool, true, false, List, length, slice_set, get_or, Some, None, if◌then◌else◌, refl, sym, ap, ◌∙◌, subst, arith}
 use Rattle.std.proofs.lemmas.Bool.{eqb-true, eq-eqb}
 use Rattle.std.proofs.lemmas.List.{get_or-set_other, get_or-set_same}
 use Rattle.std.specs.Prelude.{Option, ◌==◌}
@@ -9,7 +9,7 @@ use Rattle.xs_model.specs.declared.script.Script.{Script}
 use Rattle.xs_model.specs.Due.{due}
 use Rattle.xs_model.specs.Laws.{TurnsKnown}
 use Rattle.xs_model.specs.Machine.{foreseen, machine}
-use Rattle.xs_model.specs.Note.{Act, Starts, Section, Grows, Sets, Plain, act_of, cpu_of, is_at, is_count, is_section, mark_after, notes_of, set_act, set_target, start_cpu, task_of}
+use Rattle.xs_model.specs.Note.{Act, Starts, Section, Grows, Sets, Plain, act_of, cpu_of, is_count, is_section, mark_after, notes_of, set_act, set_target, start_cpu, task_of}
 use Rattle.xs_model.specs.Script.{command_at}
 use Rattle.xs_model.specs.State.{BlockState, Machine, stage_of, turn_cpu, turn_of}
 use Rattle.xs_legal.specs.Standing.{clears, cpu_after}

@@ -1,13 +1,13 @@
 -- The machine that follows a history: what it keeps, and the past after which it stands. Beside the blocks these are the two numbers by
 -- which Linux tells whether a bank still holds a task's registers (Linux 6.6, arch/x86/kernel/fpu/context.h, fpregs_state_valid): a
 -- processor's owner mark and a task's last processor.
-use Rattle.std.specs.Prelude.{◌≡◌, ℕ, ◌<◌, ◌&&◌, Bool, true, false, List, [], ◌∷◌, length, slice_index_or, Option, Some, None, if◌then◌else◌}
+use Rattle.std.specs.Prelude.{◌≡◌, ℕ, ◌<◌, ◌&&◌, Bool, true, false, List, length, slice_index_or, Option, None, if◌then◌else◌}
 use Rattle.xs_model.specs.declared.event.Event.{Event}
 use Rattle.xs_model.specs.declared.script.Script.{Script}
 use Rattle.xs_model.specs.Machine.{IsLegalPast, machine}
 use Rattle.xs_model.specs.Note.{Act, Starts, Section, Grows, Sets, Plain, act_of, cpu_of, is_at, last, last_after, mark, mark_after, notes_of, start_cpu, task_of}
 use Rattle.xs_model.specs.Script.{IsValid, is_user}
-use Rattle.xs_model.specs.State.{BlockState, Machine}
+use Rattle.xs_model.specs.State.{BlockState}
 
 pub record Standing : Type 0 where
   pub script : Script

@@ -1,5 +1,5 @@
 use Rattle.std.proofs.Common.{ap, ◌∙◌, sym, subst}
-use Rattle.std.specs.Prelude.{ℕ, List, Option, None, length, replicate}
+use Rattle.std.specs.Prelude.{ℕ, Option, None, replicate}
 use Rattle.xs_model.specs.Script.{IsValid}
 use Rattle.xs_legal.proofs.Following.{opening_standing, opening_stands}
 use Rattle.xs_legal.proofs.machine.Machine.open.Goals as goal

@@ -1,7 +1,6 @@
 -- An event is judged by what the machine keeps.
 use Rattle.std.proofs.Common.{refl, sym, subst}
 use Rattle.std.specs.Prelude.{MatchResult}
-use Rattle.xs_model.specs.declared.event.Event.{Event}
 use Rattle.xs_model.specs.Machine.{IsStep, machine}
 use Rattle.xs_model.specs.State.{Machine}
 use Rattle.xs_legal.specs.Standing.{Standing, StandsAfter}
