@@ -1,0 +1,4 @@
+-- Lemmas of the checker, one file a theme.
+pub mod Events
+mod Tellings
+mod Verdicts
