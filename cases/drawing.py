@@ -363,3 +363,13 @@ def draw(seed, number, secrets):
         if places_of(text.split("\n"), "task", "kthread"):
             # (of a script of children alone the other program may never end)
             return text.encode("latin-1")
+
+
+def draw_runnable(seed, number):
+    """A script that isn't refused but for too many events, of 2 to 16 processors and without a schedule, for runs on threads."""
+    rng = random.Random(f"{seed}/{number}/runs")
+    while True:
+        lines = [line for line in draw_script(rng, False) if not line.startswith("sched ")]
+        if places_of(lines, "task", "kthread"):
+            lines[places_of(lines, "cpus")[0]] = f"cpus {rng.choice([2, 2, 3, 4, 8, 16, rng.randint(2, 16)])}"
+            return "".join(line + "\n" for line in lines).encode("latin-1")
