@@ -3,7 +3,7 @@
 _xstate() {
     COMPREPLY=()
     if [ "$COMP_CWORD" -eq 1 ]; then
-        mapfile -t COMPREPLY < <(compgen -W 'run replay gen demo' -- "${COMP_WORDS[1]}")
+        mapfile -t COMPREPLY < <(compgen -W 'run replay check gen demo' -- "${COMP_WORDS[1]}")
     fi
 }
 complete -F _xstate xstate
