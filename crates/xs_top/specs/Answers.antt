@@ -1,6 +1,7 @@
 -- What the program answers: which inputs it accepts, and what it writes for them. All of it is this project's own.
 use Rattle.std.specs.Prelude.{◌≡◌, ℕ, ◌<◌, ◌^◌, ◌≤◌, ⊤, List, [], ◌∷◌, ◌++◌, length, codes, ◌⊎◌}
 use Rattle.xs_bank.specs.Bank.{Bank}
+use Rattle.xs_check.specs.Call.{CheckEnds}
 use Rattle.xs_gen.specs.Call.{GenEnds}
 use Rattle.xs_io.specs.Causes.{Rose}
 use Rattle.xs_machine.specs.declared.proc.Proc.{Proc}
@@ -18,7 +19,7 @@ use Rattle.xs_outside.specs.declared.status.Status.TheVariants as statuses
 use Rattle.xs_outside.specs.Statuses.{too_long_text}
 use Rattle.xs_top.specs.Statuses.{status_of}
 use Rattle.xs_outside.specs.Outside.{Output, Outside, IsRead, TakesAtMost, ReadAndEnds, WritesNothing, Writes, FailsIn, script_limit}
-use Rattle.xs_top.specs.Run.{IsCommandLine, IsRunOf, demo_words, gen_words, play_words}
+use Rattle.xs_top.specs.Run.{IsCheckLine, IsCommandLine, IsRunOf, demo_words, gen_words, play_words}
 use Rattle.xs_top.specs.Demo.{DemoEnds}
 
 abbrev pub usage_text : List ℕ
@@ -114,6 +115,12 @@ pub record DemoCall {B : Type 0} (state : B → Bank) (words : List (List ℕ)) 
   pub unread : after.input ≡ before.input
   pub ends : DemoEnds state number before.output after.output old new result
 
+-- An input of the checker was read, and the line of its verdict was written, or a front of it; or nothing for want of memory or a
+-- fault of reading. No processor changed.
+pub record CheckCall {B : Type 0} (before after : Outside) (old new : List (Proc B)) (result : Status) : Type 0 where
+  pub kept : new ≡ old
+  pub ends : CheckEnds before after result
+
 -- The output is cut short: a write failed within what the words and the input ask for. Of wrong words nothing was read, and
 -- no processor changed.
 abbrev pub IsCutShort : {B : Type 0} → (B → Bank) → List (List ℕ) → Outside → Outside → List (Proc B) → List (Proc B) → Type 0
@@ -122,6 +129,7 @@ IsCutShort state words before after old new =
     ⊎ ((play : Play) × (words ≡ play_words play) × IsPlayCutShort state play before after old new)
     ⊎ GenCall words before after old new statuses.WriteFault
     ⊎ DemoCall state words before after old new statuses.WriteFault
+    ⊎ (IsCheckLine words × CheckCall before after old new statuses.WriteFault)
 
 -- No processor changed, where no script was run to its end: at 64, 2, 3, 4 and 6. What 0, 1 and 5 leave is said with the script
 -- that ran.

@@ -39,9 +39,17 @@ demo_words number = codes "demo" ∷ decimal number ∷ []
 abbrev pub IsDemoLine : List (List ℕ) → Type 0
 IsDemoLine words = (number : ℕ) × (number < 2 ^ 32) × (words ≡ demo_words number)
 
+-- ---- the command that checks a history
+
+abbrev pub check_words : List (List ℕ)
+check_words = codes "check" ∷ []
+
+abbrev pub IsCheckLine : List (List ℕ) → Type 0
+IsCheckLine words = words ≡ check_words
+
 -- The words are one of the command lines of this version.
 abbrev pub IsCommandLine : List (List ℕ) → Type 0
-IsCommandLine words = IsPlayLine words ⊎ IsGenLine words ⊎ IsDemoLine words
+IsCommandLine words = IsPlayLine words ⊎ IsGenLine words ⊎ IsDemoLine words ⊎ IsCheckLine words
 
 -- The script that a command plays: `run` ignores the schedule, so that its processors have their turns in order.
 abbrev pub played : Play → Script → Script

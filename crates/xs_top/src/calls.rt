@@ -1,17 +1,20 @@
 //! The top call: all that the program does, over any source and sink.
 
 ghost use Rattle.std.specs.Prelude.{◌≡◌, ℕ, List, ◌⊎◌, length, map, string_bytes, Some};
+ghost use Rattle.xs_check.specs.Call.{MayTell};
+ghost use Rattle.xs_check.specs.Verdict.{IsVerdict};
 ghost use Rattle.xs_io.specs.Causes.{Rose};
 ghost use Rattle.xs_model.specs.Script.{IsValid};
 ghost use Rattle.xs_model.specs.declared.script.Script.{Script};
 ghost use Rattle.xs_script.specs.RefusalText.{refusal_text};
 ghost use Rattle.xs_text.specs.Text.{AreTasksKnown, history_text};
 ghost use Rattle.xs_top.specs.declared.play.Play.{Play};
+ghost use Rattle.xs_outside.specs.declared.status.Status as statuses;
 ghost use Rattle.xs_outside.specs.Outside.{outside, input_of, output_of, script_limit, TakesAtMost, Writes, WritesNothing};
 ghost use Rattle.xs_outside.specs.Statuses.{TellEnds, Unfailed, too_long_text};
 ghost use Rattle.xs_top.specs.Statuses as told;
-ghost use Rattle.xs_top.specs.Run.{AreNumbered, AreUncounted, IsCommandLine, IsDemoLine, IsGenLine, IsPlayLine, play_words};
-ghost use Rattle.xs_top.specs.Answers.{IsAccepted, IsRefused, AnswerEnds, DemoCall, GenCall, PlayEnds, WriteEnds, IsCutShort, IsPlayCutShort, KeepsProcessors, usage_text};
+ghost use Rattle.xs_top.specs.Run.{AreNumbered, AreUncounted, IsCheckLine, IsCommandLine, IsDemoLine, IsGenLine, IsPlayLine, play_words};
+ghost use Rattle.xs_top.specs.Answers.{IsAccepted, IsRefused, AnswerEnds, CheckCall, DemoCall, GenCall, PlayEnds, WriteEnds, IsCutShort, IsPlayCutShort, KeepsProcessors, usage_text};
 ghost use Rattle.xs_top.specs.Headline.{Headline, Refusal, MayRun, MayRefuse};
 
 use crate::command::{Command, command_of};
@@ -22,6 +25,7 @@ use crate::running::{open_board, run_script};
 use crate::status::status_of;
 use std::alloc::Global;
 use xs_bank::Bank;
+use xs_check::check_call;
 use xs_gen::gen_call;
 use xs_io::{Sink, Source};
 use xs_machine::Proc;
@@ -35,6 +39,7 @@ use xs_script::{
 const USAGE: &[u8] = b"usage: xstate run [--tasks] | replay | check | gen N | demo N\n";
 
 /// Does what the words of the command line ask: `run` and `replay` read a script from the source and write its history to the sink;
+/// `check` reads a script and a history of it, and writes whether the history is legal and whole, or which line shows that it isn't;
 /// `gen N` writes the generator's script of the number, and `demo N` runs it and writes what its history has. `words` is the command
 /// line without the program's name. The processors are sixteen, numbered from 0 in order, whose banks have counted nothing. The
 /// script's ones are the first: they are set up once all memory is found, and no other changes.
@@ -58,13 +63,20 @@ pub fn top<S: Source, K: Sink, B: Bank>(
     // this run leaves them. It is 1 exactly where a task is killed in that history.
     ensures headline { IsPlayLine (map string_bytes words.now) → (result ≡ Status.Done) ⊎ (result ≡ Status.Killed) → (play : Play) × (map string_bytes words.now ≡ play_words play)
         × Headline B.state play (outside S.Source K.Sink source.old sink.old) (outside S.Source K.Sink source.new sink.new) procs.old procs.new result }
-    // 2: what was read is no script, and what was written is the line of its first refusal.
-    ensures refused { result ≡ Status.Refused → IsPlayLine (map string_bytes words.now)
-        × Refusal (outside S.Source K.Sink source.old sink.old) (outside S.Source K.Sink source.new sink.new) }
+    // 2: only of a command that reads a script. Where it is played, what was read is no script, and what was written is the line of its
+    // first refusal.
+    ensures reads { result ≡ Status.Refused → IsPlayLine (map string_bytes words.now) ⊎ IsCheckLine (map string_bytes words.now) }
+    ensures refused { IsPlayLine (map string_bytes words.now) → result ≡ Status.Refused
+        → Refusal (outside S.Source K.Sink source.old sink.old) (outside S.Source K.Sink source.new sink.new) }
     // A known input that is a script is never refused.
     ensures runs { (input : List ℕ) (script : Script) → S.left source.old ≡ Some input → IsPlayLine (map string_bytes words.now) → IsAccepted input script → MayRun result }
     // A known input that is refused by a line is refused by no other, and never run.
     ensures refuses { (input line : List ℕ) → S.left source.old ≡ Some input → IsPlayLine (map string_bytes words.now) → IsRefused input line → MayRefuse (output_of K.Sink sink.old) (output_of K.Sink sink.new) line result }
+    // `check`: 0 where the text after `%%` is that of a whole history of the script before it, 3 where it isn't, and 2 where that is no
+    // script or too long, each with the line that says so. No processor changed.
+    ensures checked { IsCheckLine (map string_bytes words.now) → CheckCall (outside S.Source K.Sink source.old sink.old) (outside S.Source K.Sink source.new sink.new) procs.old procs.new result }
+    // A known input is told its one verdict and no other.
+    ensures verdict { (input text : List ℕ) (right : statuses.Status) → S.left source.old ≡ Some input → IsCheckLine (map string_bytes words.now) → IsVerdict input right text → MayTell right text (output_of K.Sink sink.old) (output_of K.Sink sink.new) result }
     // `gen N`: 0 where the generator's script of the number was written. Nothing was read, and no processor changed.
     ensures generated { IsGenLine (map string_bytes words.now) → GenCall (map string_bytes words.now) (outside S.Source K.Sink source.old sink.old) (outside S.Source K.Sink source.new sink.new) procs.old procs.new result }
     // `demo N`: 0 where the line was written that tells what the one history of the number's script has, and the processors are as
@@ -72,18 +84,19 @@ pub fn top<S: Source, K: Sink, B: Bank>(
     ensures summary { IsDemoLine (map string_bytes words.now) → DemoCall B.state (map string_bytes words.now) (outside S.Source K.Sink source.old sink.old) (outside S.Source K.Sink source.new sink.new) procs.old procs.new result }
     // 4: only where the source failed in this call, and nothing was written.
     ensures read_fault { result ≡ Status.ReadFault → Rose (S.fault_count source.old) (S.fault_count source.new)
-        × TakesAtMost script_limit (input_of S.Source source.old) (input_of S.Source source.new) × WritesNothing (output_of K.Sink sink.old) (output_of K.Sink sink.new) }
+        × ((IsCheckLine (map string_bytes words.now) → ⊥) → TakesAtMost script_limit (input_of S.Source source.old) (input_of S.Source source.new)) × WritesNothing (output_of K.Sink sink.old) (output_of K.Sink sink.new) }
     // 5: only where the sink failed in this call, and what was written by then is a front of the right output. Where that is
     // the text of a run, the processors are as this run leaves them; where it is a line, no processor changed.
     ensures write_fault { result ≡ Status.WriteFault → IsCutShort B.state (map string_bytes words.now) (outside S.Source K.Sink source.old sink.old) (outside S.Source K.Sink source.new sink.new) procs.old procs.new }
     // 6: nothing was written. It is the answer to want of memory, for which no clause can ask.
     ensures no_memory { result ≡ Status.NoMemory → IsCommandLine (map string_bytes words.now)
-        × TakesAtMost script_limit (input_of S.Source source.old) (input_of S.Source source.new) × WritesNothing (output_of K.Sink sink.old) (output_of K.Sink sink.new) }
-    // 3: nothing is checked in this version.
-    ensures no_verdict { result ≡ Status.Illegal → ⊥ }
+        × ((IsCheckLine (map string_bytes words.now) → ⊥) → TakesAtMost script_limit (input_of S.Source source.old) (input_of S.Source source.new)) × WritesNothing (output_of K.Sink sink.old) (output_of K.Sink sink.new) }
+    // 3: only of `check`, and 1 only of `run` and `replay`.
+    ensures illegal { result ≡ Status.Illegal → IsCheckLine (map string_bytes words.now) }
+    ensures killed { result ≡ Status.Killed → IsPlayLine (map string_bytes words.now) }
     // No fault is passed over: the source failed only at 4, and the sink only at 5.
     ensures unfailed { Unfailed (outside S.Source K.Sink source.old sink.old) (outside S.Source K.Sink source.new sink.new) result }
-    // At 64, 2, 4 and 6 no script ran, and no processor changed.
+    // At 64, 2, 3, 4 and 6 no script ran, and no processor changed.
     ensures processors { KeepsProcessors procs.old procs.new result }
     // Each processor keeps its number.
     ensures numbers { AreNumbered procs.new }
@@ -92,6 +105,7 @@ pub fn top<S: Source, K: Sink, B: Bank>(
     not_both();
     match command_of(words) {
         Some(Command::Play(play)) => play_call(alloc, play, source, sink, procs),
+        Some(Command::Check) => check_call(alloc, source, sink),
         Some(Command::Gen(number)) => gen_call(alloc, number, sink),
         Some(Command::Demo(number)) => demo_call(alloc, number, sink, procs),
         None => tell(sink, USAGE, Status::Usage),

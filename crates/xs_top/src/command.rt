@@ -12,6 +12,8 @@ use xs_script::read_number;
 pub enum Command {
     /// A script is read and played.
     Play(Play),
+    /// A script and a history of it are read, and what is wrong with the history is told.
+    Check,
     /// The generator's script of this number is written.
     Gen(u32),
     /// It is run, and what its history has is told.
@@ -24,10 +26,21 @@ pub fn command_of(words: &[String]) -> Option<Command>
     ensures none { IfNone result (IsCommandLine (map string_bytes words.now) → ⊥) }
 {
     match words {
-        [word] => Some(Command::Play(play_named(word.as_bytes())?)),
+        [word] => alone(word.as_bytes()),
         [word, number] => numbered(word.as_bytes(), number.as_bytes()),
         _ => None,
     }
+}
+
+/// The command of a word alone, if any.
+fn alone(word: &[u8]) -> Option<Command>
+    ensures some { IfSome result (IsSaidBy (word.now ∷ [])) }
+    ensures none { IfNone result (IsCommandLine (word.now ∷ []) → ⊥) }
+{
+    if word == b"check".as_slice() {
+        return Some(Command::Check);
+    }
+    Some(Command::Play(play_named(word)?))
 }
 
 /// The command of a word and a number, if any.

@@ -25,7 +25,7 @@ returns-in-Some-Play-clause-refuses g c = λ input line is run refused.
 pub returns-in-Some-Demo-clause-no_command : goal.returns-in-Some-Demo-clause-no_command
 returns-in-Some-Demo-clause-no_command g c = λ none.
     let said = rw c.in-Some-Demo.field-0-is at c.in-Some-Demo.ensures.some in
-    absurd (none (inr (inr (c.in-Some-Demo.number, said.0, said.1))))
+    absurd (none (inr (inr (inl (c.in-Some-Demo.number, said.0, said.1)))))
 
 pub returns-in-None-clause-write_fault : goal.returns-in-None-clause-write_fault
 returns-in-None-clause-write_fault g c = λ failed. elim c.tell.ensures [
