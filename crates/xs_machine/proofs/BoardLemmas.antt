@@ -1,6 +1,6 @@
 -- An entry that takes a turn from the board.
-use Rattle.std.proofs.Common.{◌≡◌, ℕ, zero, suc, ◌+◌, Bool, true, false, ◌==◌, List, [], ◌∷◌, Option, Some, None, if◌then◌else◌, slice_get, refl, sym, ap, ◌∙◌, inl, inr, arith, subst}
-use Rattle.std.proofs.lemmas.Bool.{cases_eq, cases_Bool, eq-eqb}
+use Rattle.std.proofs.Common.{◌≡◌, ℕ, Bool, true, false, ◌==◌, List, [], ◌∷◌, Option, Some, None, if◌then◌else◌, slice_get, refl, sym, ap, ◌∙◌, inl, inr, subst}
+use Rattle.std.proofs.lemmas.Bool.{cases_Bool, eq-eqb}
 use Rattle.xs_base.specs.Counts.{Counts, after_start}
 use Rattle.xs_base.specs.File.{File, AreSameButPkru, pkru_bytes, pkru_of}
 use Rattle.xs_base.specs.Task.{PrivateTask, start_pkru}
@@ -15,13 +15,12 @@ use Rattle.xs_model.specs.declared.script.Script.{Script}
 use Rattle.xs_model.specs.declared.stage.Stage.TheVariants as stages
 use Rattle.xs_model.specs.Counts as told
 use Rattle.xs_model.specs.Counts.{in_section}
-use Rattle.xs_model.specs.Laws.{KeepsBlock, TurnsKnown}
+use Rattle.xs_model.specs.Laws.{KeepsBlock}
 use Rattle.xs_model.specs.Runs.{NeverIdle}
 use Rattle.xs_model.specs.Machine.{machine}
 use Rattle.xs_model.specs.Note.{cpu_of, notes_of, mark, mark_after, last, Starts}
-use Rattle.xs_model.specs.Replay.{runner}
 use Rattle.xs_model.specs.Script.{is_user}
-use Rattle.xs_model.specs.State.{BlockState, stage_at, stage_of, task_at, task_of_state, turn_cpu, turn_of, is_on_cpu}
+use Rattle.xs_model.specs.State.{BlockState, stage_at, task_at, task_of_state, turn_cpu}
 use Rattle.xs_switch.specs.Pkru.{given_pkru}
 use Rattle.xs_task.specs.declared.task.Task.{Task}
 use Rattle.xs_board.specs.declared.turn.Turn.{Turn}
@@ -30,7 +29,7 @@ use Rattle.xs_board.specs.Board as boards
 use Rattle.xs_board.specs.Taken.{is_user_how}
 use Rattle.xs_board.specs.Turn.{line_of}
 use Rattle.xs_machine.specs.Line.{IsOn}
-use Rattle.xs_machine.specs.Running.{IsRun, IsTold, IsProcessor, IsTurnHeld, HasTurn, IsAt, LeavesOthers, MayBegin, Begun}
+use Rattle.xs_machine.specs.Running.{IsRun, IsTold, IsAt, MayBegin, Begun}
 use Rattle.xs_machine.specs.Turn.{AreRunning, Continues, HasLeft}
 use Rattle.xs_machine.proofs.Histories.{one_event, counts_here, mark_here, section_here, file_here, mark_user}
 use Rattle.xs_machine.proofs.ScriptLemmas.{handler_stands}
@@ -41,11 +40,6 @@ use Rattle.xs_machine.proofs.ScriptLemmas.{handler_stands}
 file_there : (block : Option BlockState) (file : File) → told.file_of block ≡ Some file → file ≡ (task_of_state block).file
 file_there None file is = absurd (cc)
 file_there (Some block) file is = cc
-
--- and so is one that is in a turn
-turn_there : (block : Option BlockState) (c ran : ℕ) → stage_of block ≡ stages.Turn c ran → told.file_of block ≡ Some (task_of_state block).file
-turn_there None c ran is = absurd (cc)
-turn_there (Some block) c ran is = refl
 
 -- Each block but one stays in its turn, and a last processor that it has it had before, with the same private task.
 abbrev pub LeavesBlocks : Script → ℕ → Board → Board → Type 0
@@ -58,96 +52,13 @@ module _ (script : Script) (t : ℕ) (old new : Board) (old_is : old.script ≡ 
       ∙ ((leaves u ne).held d home).1
       ∙ sym (ap (λ (s : Script). task_at (machine s (past_of old)).blocks u) old_is)
 
-  pub stage_kept : (d u : ℕ) → (u ≡ t → ⊥) → stage_in old u ≡ stages.Turn d 0 → stage_in new u ≡ stages.Turn d 0
-  stage_kept d u ne there =
-      ap (λ (s : Script). stage_at (machine s (past_of new)).blocks u) new_is
-      ∙ (leaves u ne).turn d 0 (ap (λ (s : Script). stage_at (machine s (past_of old)).blocks u) (sym old_is) ∙ there)
-
--- the block that is found in a turn on a processor is in one there
-runner_found : (cpu i t : ℕ) (blocks : List BlockState) → runner cpu i blocks ≡ Some t → (k : ℕ) × (t ≡ i + k) × (is_on_cpu cpu (turn_cpu (stage_at blocks k)) ≡ true)
-runner_found cpu i t [] is = absurd (cc)
-runner_found cpu i t (b ∷ blocks) is = go (is_on_cpu cpu (turn_cpu b.stage)) refl is (runner_found cpu (i + 1) t blocks)
-  where
-    go : (here : Bool) → is_on_cpu cpu (turn_cpu b.stage) ≡ here → (if here then Some i else runner cpu (i + 1) blocks) ≡ Some t
-        → (runner cpu (i + 1) blocks ≡ Some t → (k : ℕ) × (t ≡ i + 1 + k) × (is_on_cpu cpu (turn_cpu (stage_at blocks k)) ≡ true))
-        → (k : ℕ) × (t ≡ i + k) × (is_on_cpu cpu (turn_cpu (stage_at (b ∷ blocks) k)) ≡ true)
-    go true on is rest = let e : i ≡ t = cc in (zero, omega arith, on)
-    go false off is rest = let later = rest is in (suc later.0, omega (arith, later.1), later.2)
-
-pub on_cpu : (cpu t : ℕ) (board : Board) → turn_on board cpu ≡ Some t → is_on_cpu cpu (turn_cpu (stage_in board t)) ≡ true
-on_cpu cpu t board is =
-    let found = runner_found cpu 0 t (machine_in board).blocks is in
-    let e : t ≡ found.0 = omega (arith, found.1) in
-    rw e found.2
-
 -- ---- what remains
-
-remaining_same : (script : Script) (old new : List Event) (d : ℕ) (m : Option ℕ) → ((u : ℕ) → m ≡ Some u → told.file_after script new d u ≡ told.file_after script old d u) → told.remaining script new d m ≡ told.remaining script old d m
-remaining_same script old new d None same = refl
-remaining_same script old new d (Some u) same = same u refl
-
-pub remains_same : (script : Script) (old new : List Event) (d : ℕ) → mark script new d ≡ mark script old d → ((u : ℕ) → mark script old d ≡ Some u → told.file_after script new d u ≡ told.file_after script old d u) → told.remains script new d ≡ told.remains script old d
-remains_same script old new d marks same = ap (told.remaining script new d) marks ∙ remaining_same script old new d (mark script old d) same
 
 pub remains_at : (script : Script) (past : List Event) (d u : ℕ) → mark script past d ≡ Some u → told.remains script past d ≡ told.file_after script past d u
 remains_at script past d u is = ap (told.remaining script past d) is
 
 pub remains_none : (script : Script) (past : List Event) (d : ℕ) (file : File) → mark script past d ≡ None → told.remains script past d ≡ Some file → ⊥
 remains_none script past d file is some = let none : told.remains script past d ≡ None = ap (told.remaining script past d) is in cc
-
--- ---- other processors
-
-module _ (script : Script) (i t : ℕ) (old new : Board) (known : TurnsKnown) (old_run : IsRun script old) (new_run : IsRun script new) (cont : Continues script t i (past_of old) (past_of new)) (leaves : LeavesBlocks script t old new) (turns : KeepsTurns i old new)
-    (apart : (d u : ℕ) → (d ≡ i → ⊥) → stage_in old u ≡ stages.Turn d 0 → turn_on old d ≡ Some u → u ≡ t → ⊥) where
-  pub told_other : (d : ℕ) (bank : banks.Bank) → (d ≡ i → ⊥) → IsTold script old d bank → IsTold script new d bank
-  told_other d bank other was = record {
-    counts = cont.counts d other ∙ was.counts;
-    file = λ file is. was.file file (sym (remains_same script (past_of old) (past_of new) d (cont.mark_is d other) (λ u _. cont.files d u other)) ∙ is);
-  }
-
-  held_other : {B : Type 0} (d : ℕ) (turn : Turn) (cpu : Cpu B) (bank : banks.Bank) → (d ≡ i → ⊥) → IsTurnHeld script old d turn cpu bank → IsTurnHeld script new d turn cpu bank
-  held_other d turn cpu bank other was =
-      let u = turn.task.name in
-      let ne : u ≡ t → ⊥ = apart d u other was.stage was.busy in
-      let stage = stage_kept script t old new old_run.script_is new_run.script_is leaves d u ne was.stage in
-      let there : turn_of (machine script (past_of new)).blocks u ≡ Some d = ap turn_cpu (ap (λ (s : Script). stage_at (machine s (past_of new)).blocks u) (sym new_run.script_is) ∙ stage) in
-      let two = known script (past_of new) d u new_run.valid new_run.legal there in
-      let private = private_kept script t old new old_run.script_is new_run.script_is leaves d u ne two.1 in
-      let file = turn_there (slice_get (machine_in old).blocks u) d 0 was.stage ∙ ap (λ (p : PrivateTask). Some p.file) (sym private) ∙ sym (turn_there (slice_get (machine_in new).blocks u) d 0 stage) in
-      record {
-        cpu_is = was.cpu_is;
-        stage = stage;
-        busy = turns d other ∙ was.busy;
-        here = two.0;
-        home = two.1;
-        latest = cont.files d u other ∙ was.latest ∙ file;
-        fresh = cont.section u ne ∙ was.fresh;
-        on = rw private was.on;
-        flag = was.flag;
-        own = λ user. cont.mark_is d other ∙ was.own user;
-      }
-
-  turn_other : {B : Type 0} (d : ℕ) (slot : Option Turn) (cpu : Cpu B) (bank : banks.Bank) → (d ≡ i → ⊥) → HasTurn script old d slot cpu bank → HasTurn script new d slot cpu bank
-  turn_other d None cpu bank other was = turns d other ∙ was
-  turn_other d (Some turn) cpu bank other was = held_other d turn cpu bank other was
-
-  processor_other : {B : Type 0} (d : ℕ) (cpu : Cpu B) (bank : banks.Bank) → (d ≡ i → ⊥) → IsProcessor script old d cpu bank → IsProcessor script new d cpu bank
-  processor_other d cpu bank other was = record {
-    number = was.number;
-    layout = was.layout;
-    set_up = was.set_up;
-    mark_is = was.mark_is ∙ sym (cont.mark_is d other);
-    holds = λ u is last. elim (cases_eq u t) [
-      | inl same ↦ absurd (other (cont.home d (rw same at last)))
-      | inr ne ↦ rw (private_kept script t old new old_run.script_is new_run.script_is leaves d u ne last) (was.holds u (sym (cont.mark_is d other) ∙ is) ((leaves u ne).held d last).0)
-    ];
-  }
-
-  pub leaves_others : (B : Type 0) → LeavesOthers B script i old new
-  leaves_others B = record {
-    at = λ d slot cpu bank other was. record { told_is = told_other d bank other was.told_is; processor = processor_other d cpu bank other was.processor; turn = turn_other d slot cpu bank other was.turn };
-    told_is = told_other;
-  }
 
 -- ---- the processor itself
 
@@ -236,7 +147,7 @@ module _ {B : Type 0} (script : Script) (i : ℕ) (old new : Board) (turn begun_
   start_home = rw (eq-eqb turn.task.name turn.task.name refl) refl
 
   pub start_continues : Continues script turn.task.name i (past_of old) (past_of new)
-  start_continues = rw past (one_event script (past_of old) (events.Start turn.task.name i turn.how turn.signal) turn.task.name i refl refl (λ d home. let e : Some i ≡ Some d = sym start_home ∙ home in cc))
+  start_continues = rw past (one_event script (past_of old) (events.Start turn.task.name i turn.how turn.signal) turn.task.name i refl refl)
 
   mark_new : mark script (past_of new) i ≡ mark_after (is_user script turn.task.name) turn.task.name (Starts i) (mark script (past_of old) i)
   mark_new = rw past (mark_here script (past_of old) (events.Start turn.task.name i turn.how turn.signal) turn.task.name i refl refl)
@@ -321,17 +232,6 @@ module _ {B : Type 0} (script : Script) (i : ℕ) (old new : Board) (turn begun_
 
 -- ---- a turn that is kept runs
 
-continues_same : (script : Script) (t i : ℕ) (past : List Event) → cpu_of (notes_of script past) t ≡ Some i → last script past t ≡ Some i → Continues script t i past past
-continues_same script t i past here home = record {
-  counts = λ d apart. refl;
-  mark_is = λ d apart. refl;
-  files = λ d u apart. refl;
-  others = λ d u apart. refl;
-  section = λ u apart. refl;
-  here = here;
-  home = λ d is. let e : Some i ≡ Some d = sym home ∙ is in cc;
-}
-
 pub start_running : {B : Type 0} (script : Script) (board : Board) (i : ℕ) (turn : Turn) (cpu : Cpu B) (bank : banks.Bank) → IsRun script board → NeverIdle → IsAt script board i (Some turn) cpu bank
     → AreRunning script turn.task.name i (past_of board) bank (private_in board turn.task.name) [] (private_in board turn.task.name) turn.task cpu bank
 start_running script board i turn cpu bank run idle at = record {
@@ -343,7 +243,7 @@ start_running script board i turn cpu bank run idle at = record {
       let last : line_of script turn.task.name (task_of_state (slice_get (machine script (past_of board)).blocks turn.task.name)) ≡ None = ap (λ (s : Script). line_of script turn.task.name (task_of_state (slice_get (machine s (past_of board)).blocks turn.task.name))) (sym run.script_is) ∙ none in
       handler_stands script (past_of board) turn.task.name i 0 (idle script (past_of board) turn.task.name i run.valid run.legal (ap turn_cpu stage)) stage handling last;
   turning = record {
-    follows = continues_same script turn.task.name i (past_of board) at.turn.here at.turn.home;
+    follows = record { others = λ d u apart. refl; here = at.turn.here };
     stage = λ _. rw (sym run.script_is) at.turn.stage;
     number = at.processor.number;
     layout = at.processor.layout;

@@ -1,6 +1,6 @@
 -- An entry of the schedule: what its turn leaves.
 use Rattle.std.proofs.Common.{◌≡◌, ℕ, Bool, true, false, List, [], ◌∷◌, ◌++◌, ◌<◌, length, reverse, Option, Some, None, if◌then◌else◌, is_none, not, nat_lt, slice_get, refl, sym, ap, ◌∙◌, inl, inr, subst}
-use Rattle.std.proofs.lemmas.Bool.{cases_Bool, ne_eqb}
+use Rattle.std.proofs.lemmas.Bool.{cases_Bool}
 use Rattle.std.proofs.lemmas.List.{reverse-append}
 use Rattle.xs_base.specs.declared.component.Row.{Row}
 use Rattle.xs_base.specs.declared.words.How.TheVariants as hows
@@ -21,14 +21,14 @@ use Rattle.xs_model.specs.declared.stage.Stage.TheVariants as stages
 use Rattle.xs_model.specs.Counts as told
 use Rattle.xs_model.specs.Due.{large_count}
 use Rattle.xs_model.specs.History.{IsLegal}
-use Rattle.xs_model.specs.Laws.{KeepsBlock, OthersKeep, ThreadsQuiet, TurnsKnown}
+use Rattle.xs_model.specs.Laws.{KeepsBlock, OthersKeep, ThreadsQuiet}
 use Rattle.xs_model.specs.Line.{next_line}
 use Rattle.xs_model.specs.Runs.{NeverIdle}
 use Rattle.xs_model.specs.Machine.{IsLegalPast, machine}
 use Rattle.xs_model.specs.Note.{is_count, last}
 use Rattle.xs_model.specs.Outer.{is_blocked, task_left, with_registers}
 use Rattle.xs_model.specs.Script.{IsValid, block_named, command_at, is_user}
-use Rattle.xs_model.specs.State.{BlockState, stage_at, task_of_state, turn_cpu, is_on_cpu}
+use Rattle.xs_model.specs.State.{BlockState, stage_at, task_of_state}
 use Rattle.xs_task.specs.declared.task.Task.{Task}
 use Rattle.xs_board.specs.declared.turn.Close.{Close}
 use Rattle.xs_board.specs.declared.turn.Close.TheVariants as closes
@@ -41,11 +41,11 @@ use Rattle.xs_board.specs.Taken.{is_user_how, IsTurnOf}
 use Rattle.xs_board.specs.Turn.{Answer, AreLines, filled_by, line_closed, past_with, task_after, task_closed, task_handed, trap_closed, trap_end, trap_fate, turn_events}
 use Rattle.xs_machine.specs.Line.{Halted, KeepsCpu}
 use Rattle.xs_machine.specs.Processors.{KeepsProcessor}
-use Rattle.xs_machine.specs.Running.{IsRun, IsAt, LeavesOthers, MayBegin, Begun}
-use Rattle.xs_machine.specs.Turn.{Continues, HasLeft, SomeRunning, may_be_fate, past_after}
+use Rattle.xs_machine.specs.Running.{IsRun, IsAt, MayBegin, Begun}
+use Rattle.xs_machine.specs.Turn.{HasLeft, SomeRunning, may_be_fate, past_after}
 use Rattle.xs_machine.proofs.Histories.{last_grown}
 use Rattle.xs_machine.proofs.LineLemmas.{past_trap}
-use Rattle.xs_machine.proofs.BoardLemmas.{LeavesBlocks, on_cpu, came_home, leaves_others, start_continues, begun_at, start_running}
+use Rattle.xs_machine.proofs.BoardLemmas.{LeavesBlocks, came_home, begun_at, start_running}
 use Rattle.xs_machine.proofs.ScriptLemmas.{turn_known}
 
 -- ---- the processor stays
@@ -169,12 +169,8 @@ fate_fits script blocks p = by_two (not p.permitted) (nat_lt (large_count blocks
     by_two false true = refl
     by_two false false = refl
 
--- a turn is on one processor
-two_cpus : (d i : ℕ) → stages.Turn d 0 ≡ stages.Turn i 0 → d ≡ i
-two_cpus d i same = cc
-
 -- a board that goes on is one of the same run
-run_more : (script : Script) (old new : Board) → IsRun script old → new.script ≡ old.script → IsLegal new.script new.history → IsRun script new
+pub run_more : (script : Script) (old new : Board) → IsRun script old → new.script ≡ old.script → IsLegal new.script new.history → IsRun script new
 run_more script old new run same legal = record {
   valid = run.valid;
   script_is = same ∙ run.script_is;
@@ -204,7 +200,7 @@ module _ {B : Type 0} (script : Script) (old : Board) (turn : Turn) (task : Task
 
   module _ (new : Board) (script_same : new.script ≡ old.script) (history : new.history ≡ old.history ++ turn_events task.name items close (answer_in old task.name items close)) (legal : IsLegal new.script new.history)
       (private : private_in new task.name ≡ private_closed old task.name items close) (free : turn_on new turn.cpu ≡ None)
-      (others : OthersKept task.name old new) (turns : KeepsTurns turn.cpu old new) where
+      (others : OthersKept task.name old new) where
     -- what the board then is
     script_new : new.script ≡ script
     script_new = script_same ∙ run.script_is
@@ -253,13 +249,6 @@ module _ {B : Type 0} (script : Script) (old : Board) (turn : Turn) (task : Task
         (left_new.latest ∙ ap (λ (s : Script). told.file_of (slice_get (machine s (past_of new)).blocks turn.task.name)) (sym script_new))
         at.told_is at.processor.holds free
 
-    -- no other processor's turn is of this block
-    apart : (d u : ℕ) → (d ≡ turn.cpu → ⊥) → stage_in old u ≡ stages.Turn d 0 → turn_on old d ≡ Some u → u ≡ turn.task.name → ⊥
-    apart d u other there busy same = other (two_cpus d turn.cpu (sym there ∙ ap (stage_in old) same ∙ at.turn.stage))
-
-    pub others_home : TurnsKnown → (C : Type 0) → LeavesOthers C script turn.cpu old new
-    others_home known C = leaves_others script turn.cpu turn.task.name old new known run run_home left_new.follows leaves turns apart C
-
 -- ---- a turn begins
 
 -- no handler runs in a kernel thread
@@ -273,10 +262,6 @@ thread_outside script past t threads valid legal kernel p is = by_state (slice_g
     by_state : (block : Option BlockState) → slice_get (machine script past).blocks t ≡ block → p ≡ task_of_state block → p.handling ≡ false
     by_state None at is = ap (λ (q : PrivateTask). q.handling) is ∙ root_outside []
     by_state (Some block) at is = ap (λ (q : PrivateTask). q.handling) is ∙ (threads script past t block valid legal kernel at).1
-
--- the processor of a turn, which isn't another one
-not_there : (d i : ℕ) → (d ≡ i → ⊥) → is_on_cpu d (Some i) ≡ true → ⊥
-not_there d i other on = let off : is_on_cpu d (Some i) ≡ false = ne_eqb i d (λ e. other (sym e)) in let no : true ≡ false = sym on ∙ off in cc
 
 module _ {B : Type 0} (script : Script) (old : Board) (i : ℕ) (turn : Turn) (cpu : Cpu B) (bank : banks.Bank)
     (run : IsRun script old) (threads : ThreadsQuiet) (at : IsAt script old i None cpu bank) (is : IsTurnOf old i turn) (skip : turn.how ≡ hows.Skip → (cpu.mark ≡ Some turn.task.name) × (turn.task.last ≡ Some i)) where
@@ -299,8 +284,7 @@ module _ {B : Type 0} (script : Script) (old : Board) (i : ℕ) (turn : Turn) (c
 
   module _ (new : Board) (begun_turn : Turn) (new_cpu : Cpu B) (new_bank : banks.Bank) (begun : Begun turn begun_turn cpu new_cpu bank new_bank)
       (keeps : OthersKeep) (script_same : new.script ≡ old.script) (history : new.history ≡ old.history ++ events.Start turn.task.name i turn.how turn.signal ∷ []) (legal : IsLegal new.script new.history)
-      (stage : stage_in new turn.task.name ≡ stages.Turn i 0) (private : private_in new turn.task.name ≡ boards.begun turn.signal (private_in old turn.task.name)) (busy : turn_on new i ≡ Some turn.task.name)
-      (turns : KeepsTurns i old new) where
+      (stage : stage_in new turn.task.name ≡ stages.Turn i 0) (private : private_in new turn.task.name ≡ boards.begun turn.signal (private_in old turn.task.name)) (busy : turn_on new i ≡ Some turn.task.name) where
     -- the Start joins the past
     past_begun : past_of new ≡ events.Start turn.task.name i turn.how turn.signal ∷ past_of old
     past_begun = ap (λ (told_events : List Event). reverse told_events) history ∙ reverse-append old.history (events.Start turn.task.name i turn.how turn.signal ∷ [])
@@ -317,16 +301,3 @@ module _ {B : Type 0} (script : Script) (old : Board) (i : ℕ) (turn : Turn) (c
     pub at_begun : IsAt script new i (Some begun_turn) new_cpu new_bank
     at_begun =
         begun_at script i old new turn begun_turn cpu new_cpu bank new_bank at past_begun user_how may_begin begun run.script_is run_begun.script_is leaves_begun private stage busy is.cpu_is
-
-    -- nothing is told of others by the Start
-    continues : Continues script turn.task.name i (past_of old) (past_of new)
-    continues = start_continues script i old new turn begun_turn cpu new_cpu bank new_bank at past_begun user_how may_begin begun run.script_is run_begun.script_is leaves_begun private
-
-    -- no other processor's turn is of this block, which was ready
-    apart_begun : (d u : ℕ) → (d ≡ i → ⊥) → stage_in old u ≡ stages.Turn d 0 → turn_on old d ≡ Some u → u ≡ turn.task.name → ⊥
-    apart_begun d u other there was same =
-        let on = on_cpu d turn.task.name new (turns d other ∙ was ∙ ap Some same) in
-        not_there d i other (ap (λ s. is_on_cpu d (turn_cpu s)) (sym stage) ∙ on)
-
-    pub others_begun : TurnsKnown → (C : Type 0) → LeavesOthers C script i old new
-    others_begun known C = leaves_others script i turn.task.name old new known run run_begun continues leaves_begun turns apart_begun C

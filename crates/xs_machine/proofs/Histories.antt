@@ -1,14 +1,13 @@
 -- What an event of a block on a processor tells of other processors, and of other blocks but for their last processors: nothing.
-use Rattle.std.proofs.Common.{◌≡◌, ℕ, Bool, true, false, ◌&&◌, ◌==◌, List, [], ◌∷◌, slice_get, Option, Some, None, if◌then◌else◌, refl, sym, ◌∙◌}
+use Rattle.std.proofs.Common.{◌≡◌, ℕ, Bool, true, false, ◌&&◌, ◌==◌, List, [], ◌∷◌, slice_get, Option, Some, None, refl, sym, ◌∙◌}
 use Rattle.std.proofs.lemmas.Bool.{ne_eqb, eq-eqb}
 use Rattle.xs_model.specs.declared.event.Event.{Event}
 use Rattle.xs_model.specs.declared.event.Event.TheVariants.{Grow}
 use Rattle.xs_model.specs.declared.script.Script.{Script}
 use Rattle.xs_model.specs.Counts as told
 use Rattle.xs_model.specs.Counts.{in_section, is_event_on, is_section_act, counted_by}
-use Rattle.xs_model.specs.Held.{is_start}
 use Rattle.xs_model.specs.Machine.{machine}
-use Rattle.xs_model.specs.Note.{Act, Starts, Section, Grows, Sets, Plain, task_of, act_of, set_act, notes_of, is_at, start_cpu, cpu_of, mark, mark_after, last, last_after}
+use Rattle.xs_model.specs.Note.{Act, Starts, Section, Grows, Sets, Plain, task_of, act_of, set_act, notes_of, is_at, start_cpu, cpu_of, mark, mark_after, last}
 use Rattle.xs_model.specs.Script.{is_user}
 use Rattle.xs_machine.specs.Turn.{Continues}
 
@@ -21,39 +20,23 @@ and_no false = refl
 pub at_self : (c : ℕ) → is_at (Some c) c ≡ true
 at_self c = eq-eqb c c refl
 
-pub at_other : (c d : ℕ) → (d ≡ c → ⊥) → is_at (Some c) d ≡ false
-at_other c d apart = ne_eqb c d (λ e. apart (sym e))
-
 -- ---- acts within a turn
-
--- After an act that starts no turn, a last processor is the one that it was.
-drops : (gone : Bool) (older : Option ℕ) (d : ℕ) → (if gone then None else older) ≡ Some d → older ≡ Some d
-drops true older d is = absurd (cc)
-drops false older d is = is
-
-pub last_within : (act : Act) (task t d : ℕ) (older : Option ℕ) → is_start act ≡ false → last_after task act t older ≡ Some d → older ≡ Some d
-last_within (Starts c) task t d older within is = absurd (cc)
-last_within Section task t d older within is = is
-last_within Grows task t d older within is = drops (task == t) older d is
-last_within (Sets u) task t d older within is = drops (u == t) older d is
-last_within Plain task t d older within is = is
 
 -- An act that closes a turn: last processors aside, it is as plain as the others.
 pub record IsClosing (act : Act) : Type 0 where
-  pub within : is_start act ≡ false
   pub cpu : (older : Option ℕ) → start_cpu act older ≡ older
   pub section : is_section_act act ≡ false
   pub mark_is : (user : Bool) (t : ℕ) (older : Option ℕ) → mark_after user t act older ≡ mark_after user t Plain older
 
 pub plain_closes : IsClosing Plain
-plain_closes = record { within = refl; cpu = λ older. refl; section = refl; mark_is = λ user t older. refl }
+plain_closes = record { cpu = λ older. refl; section = refl; mark_is = λ user t older. refl }
 
 grows_mark : (user : Bool) (t : ℕ) (older : Option ℕ) → mark_after user t Grows older ≡ mark_after user t Plain older
 grows_mark true t older = refl
 grows_mark false t older = refl
 
 pub grows_closes : IsClosing Grows
-grows_closes = record { within = refl; cpu = λ older. refl; section = refl; mark_is = grows_mark }
+grows_closes = record { cpu = λ older. refl; section = refl; mark_is = grows_mark }
 
 sets_mark : (u : ℕ) (user : Bool) (t : ℕ) (older : Option ℕ) → mark_after user t (Sets u) older ≡ mark_after user t Plain older
 sets_mark u true t older = refl
@@ -62,7 +45,7 @@ sets_mark u false t older = refl
 -- That of an outer line is one, whatever it is and answers.
 pub outer_closes : (target : Option ℕ) (accepted : Bool) → IsClosing (set_act target accepted)
 outer_closes None accepted = plain_closes
-outer_closes (Some u) true = record { within = refl; cpu = λ older. refl; section = refl; mark_is = sets_mark u }
+outer_closes (Some u) true = record { cpu = λ older. refl; section = refl; mark_is = sets_mark u }
 outer_closes (Some u) false = plain_closes
 
 -- after a Grow a block has no last processor
@@ -74,9 +57,6 @@ last_grown script past t = rw (eq-eqb t t refl) refl
 module _ (script : Script) (past : List Event) (event : Event) (t c : ℕ) (is : task_of event ≡ t) (at : start_cpu (act_of script event) (cpu_of (notes_of script past) t) ≡ Some c) where
   cpu_is : start_cpu (act_of script event) (cpu_of (notes_of script past) (task_of event)) ≡ Some c
   cpu_is = rw is at
-
-  off : (d : ℕ) → (d ≡ c → ⊥) → is_event_on script past event d ≡ false
-  off d apart = rw cpu_is (at_other c d apart)
 
   on : is_event_on script past event c ≡ true
   on = rw cpu_is (at_self c)
@@ -100,28 +80,12 @@ module _ (script : Script) (past : List Event) (event : Event) (t c : ℕ) (is :
   pub file_here : told.file_after script (event ∷ past) c t ≡ told.file_of (slice_get (machine script (event ∷ past)).blocks t)
   file_here = rw (own, on) refl
 
-  pub one_event : ((d : ℕ) → last script (event ∷ past) t ≡ Some d → d ≡ c) → Continues script t c past (event ∷ past)
-  one_event home = record {
-    counts = λ d apart. rw (off d apart) refl;
-    mark_is = λ d apart. rw (off d apart) refl;
-    files = λ d u apart. rw (off d apart, and_no (task_of event == u)) refl;
-    others = λ d u apart. rw (other u apart) refl;
-    section = λ u apart. rw (other u apart) refl;
-    here = rw own at;
-    home = home;
-  }
+  pub one_event : Continues script t c past (event ∷ past)
+  one_event = record { others = λ d u apart. rw (other u apart) refl; here = rw own at }
 
 -- One past goes on to another, and this one to a third.
 pub then_on : (script : Script) (t c : ℕ) (old past new : List Event) → Continues script t c old past → Continues script t c past new → Continues script t c old new
-then_on script t c old past new a b = record {
-  counts = λ d apart. b.counts d apart ∙ a.counts d apart;
-  mark_is = λ d apart. b.mark_is d apart ∙ a.mark_is d apart;
-  files = λ d u apart. b.files d u apart ∙ a.files d u apart;
-  others = λ d u apart. b.others d u apart ∙ a.others d u apart;
-  section = λ u apart. b.section u apart ∙ a.section u apart;
-  here = b.here;
-  home = b.home;
-}
+then_on script t c old past new a b = record { others = λ d u apart. b.others d u apart ∙ a.others d u apart; here = b.here }
 
 -- a mark is a user task
 module _ (script : Script) (past : List Event) (c u : ℕ) (event : Event) (before : mark script past c ≡ Some u → is_user script u ≡ true) where

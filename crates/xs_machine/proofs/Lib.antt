@@ -17,3 +17,4 @@ pub mod Schedules
 pub mod Rounds
 pub mod Idle
 pub mod Opening
+pub mod Following

@@ -21,21 +21,16 @@ use Rattle.xs_model.specs.Counts.{in_section, exec_of, numbers_of, reloads, save
 use Rattle.xs_model.specs.Due.{violation}
 use Rattle.xs_model.specs.Line.{local_after, frame_cause, is_frame_cause}
 use Rattle.xs_model.specs.Machine.{goes_on}
-use Rattle.xs_model.specs.Held.{is_start}
-use Rattle.xs_model.specs.Note.{Section, Plain, act_of, task_of, cpu_of, notes_of, is_count, is_section, set_target, mark, mark_after, last, start_cpu}
+use Rattle.xs_model.specs.Note.{Section, Plain, act_of, task_of, cpu_of, notes_of, is_count, is_section, set_target, mark, mark_after, start_cpu}
 use Rattle.xs_model.specs.Script.{command_at, is_user, is_return}
 use Rattle.xs_task.specs.declared.task.Task.{Task}
 use Rattle.xs_board.specs.Turn.{trap_end, trap_signal}
 use Rattle.xs_machine.specs.Line.{IsOn, CameBack, KeepsCpu, RanLine, WasRefused, WasTrapped}
 use Rattle.xs_machine.specs.Turn.{IsTurning, may_be_fate}
-use Rattle.xs_machine.proofs.Histories.{IsClosing, plain_closes, grows_closes, outer_closes, last_within, one_event, then_on, counts_here, mark_here, section_here, file_here}
+use Rattle.xs_machine.proofs.Histories.{IsClosing, plain_closes, grows_closes, outer_closes, one_event, then_on, counts_here, mark_here, section_here, file_here}
 use Rattle.xs_machine.proofs.Stages.{line_stage, line_ends, end_ends, grow_ends, kill_ends, outer_ends}
 
 -- ---- acts
-
-within_by : (section : Bool) → is_start (if section then Section else Plain) ≡ false
-within_by true = refl
-within_by false = refl
 
 section_by : (section : Bool) → is_section_act (if section then Section else Plain) ≡ section
 section_by true = refl
@@ -154,9 +149,6 @@ module _ {B : Type 0} (script : Script) (t c : ℕ) (first past : List Event) (b
     cpu_at : start_cpu (act_of script (events.Local t line reply)) (cpu_of (notes_of script past) t) ≡ Some c
     cpu_at = ap (λ a. start_cpu a (cpu_of (notes_of script past) t)) act ∙ start_by (is_section (Some command)) (cpu_of (notes_of script past) t) ∙ turn.follows.here
 
-    home : (d : ℕ) → last script (events.Local t line reply ∷ past) t ≡ Some d → d ≡ c
-    home d is = turn.follows.home d (last_within (act_of script (events.Local t line reply)) t t d (last script past t) (ap is_start act ∙ within_by (is_section (Some command))) is)
-
     section_new : in_section script (events.Local t line reply ∷ past) t ≡ is_section (Some command)
     section_new = section_here script past (events.Local t line reply) t c refl cpu_at ∙ ap is_section_act act ∙ section_by (is_section (Some command))
 
@@ -193,7 +185,7 @@ module _ {B : Type 0} (script : Script) (t c : ℕ) (first past : List Event) (b
 
     pub line_turned : IsTurning script t c first (events.Local t line reply ∷ past) before (not (goes_on script command ran)) (ran + 1) (local_after p command) task2 cpu2 bank2
     line_turned = record {
-      follows = then_on script t c first past (events.Local t line reply ∷ past) turn.follows (one_event script past (events.Local t line reply) t c refl cpu_at home);
+      follows = then_on script t c first past (events.Local t line reply ∷ past) turn.follows (one_event script past (events.Local t line reply) t c refl cpu_at);
       stage = λ goes. line_stage script past t c ran line reply command found (turn.stage refl) (not_off (goes_on script command ran) goes);
       number = ap (λ (x : Cpu B). x.number) done.cpu ∙ ap (λ (x : Cpu B). x.number) back.cpu ∙ turn.number;
       layout = ap (λ (x : Cpu B). x.layout) done.cpu ∙ cpu1_layout;
@@ -221,9 +213,6 @@ module _ {B : Type 0} (script : Script) (t c : ℕ) (first past : List Event) (b
     close_at : start_cpu (act_of script event) (cpu_of (notes_of script past) t) ≡ Some c
     close_at = closes.cpu (cpu_of (notes_of script past) t) ∙ turn.follows.here
 
-    close_home : (d : ℕ) → last script (event ∷ past) t ≡ Some d → d ≡ c
-    close_home d home = turn.follows.home d (last_within (act_of script event) (task_of event) t d (last script past t) closes.within home)
-
     close_section : in_section script (event ∷ past) t ≡ false
     close_section = section_here script past event t c is close_at ∙ closes.section
 
@@ -247,7 +236,7 @@ module _ {B : Type 0} (script : Script) (t c : ℕ) (first past : List Event) (b
 
     close_turned : IsTurning script t c first (event ∷ past) before true 0 q task2 cpu2 bank2
     close_turned = record {
-      follows = then_on script t c first past (event ∷ past) turn.follows (one_event script past event t c is close_at close_home);
+      follows = then_on script t c first past (event ∷ past) turn.follows (one_event script past event t c is close_at);
       stage = λ no. absurd (cc);
       number = ap (λ (x : Cpu B). x.number) closed.cpu ∙ ap (λ (x : Cpu B). x.number) back.cpu ∙ turn.number;
       layout = ap (λ (x : Cpu B). x.layout) closed.cpu ∙ cpu1_layout;

@@ -15,7 +15,7 @@ use Rattle.xs_model.specs.Counts as told
 use Rattle.xs_model.specs.Counts.{in_section}
 use Rattle.xs_model.specs.Line.{is_frame_cause}
 use Rattle.xs_model.specs.Machine.{machine}
-use Rattle.xs_model.specs.Note.{cpu_of, notes_of, mark, last}
+use Rattle.xs_model.specs.Note.{cpu_of, notes_of, mark}
 use Rattle.xs_model.specs.Script.{is_user}
 use Rattle.xs_model.specs.State.{stage_at}
 use Rattle.xs_task.specs.declared.task.Task.{Task}
@@ -25,16 +25,11 @@ use Rattle.xs_board.specs.Home.{IsHome}
 use Rattle.xs_board.specs.Turn.{Answer, AreLines, HaveRun, line_of, past_with, task_after, task_handed, turn_events}
 use Rattle.xs_machine.specs.Line.{IsOn}
 
--- The new past is the old one and events of block t on processor c. By them nothing is told of another processor, and no section or
--- file of another block. Block t had its latest Start there, and has no other last processor.
+-- The new past is the old one and events of block t on processor c. By them nothing is told of another block's file. Block t had its
+-- latest Start there.
 pub record Continues (script : Script) (t c : ℕ) (old new : List Event) : Type 0 where
-  pub counts : (d : ℕ) → (d ≡ c → ⊥) → told.counts_of script new d ≡ told.counts_of script old d
-  pub mark_is : (d : ℕ) → (d ≡ c → ⊥) → mark script new d ≡ mark script old d
-  pub files : (d u : ℕ) → (d ≡ c → ⊥) → told.file_after script new d u ≡ told.file_after script old d u
   pub others : (d u : ℕ) → (u ≡ t → ⊥) → told.file_after script new d u ≡ told.file_after script old d u
-  pub section : (u : ℕ) → (u ≡ t → ⊥) → in_section script new u ≡ in_section script old u
   pub here : cpu_of (notes_of script new) t ≡ Some c
-  pub home : (d : ℕ) → last script new t ≡ Some d → d ≡ c
 
 -- Block t is in a turn on processor c, and the past went on from `first`, when the bank was `before`. The task is that private task.
 -- Where the turn is over, its registers wait for their save. The processor has the mark and the bank the counts that the past gives

@@ -15,7 +15,9 @@ use xs_bank::{Bank, Cpu};
 use xs_base::How;
 use xs_board::{Board, Entries, Taken, Turn};
 use xs_frame::deliver;
-use xs_model::{Script, machine_known, never_idle, signals_known, task_stays, turns_known};
+use xs_model::{
+    Script, machine_known, never_idle, signals_known, task_stays, turns_known, unseen_stays,
+};
 use xs_switch::{switch_in, to_kernel};
 
 /// One entry of the schedule on a processor: it takes a turn where it has none, and else runs its turn and brings it back. The list
@@ -45,6 +47,7 @@ pub fn run_entry<B: Bank>(
     signals_known();
     turns_known();
     task_stays();
+    unseen_stays();
     match slot.take() {
         Some(turn) => {
             finish_turn(script, board, cpu, turn, lines);
@@ -106,6 +109,7 @@ fn finish_turn<B: Bank>(
     machine_known();
     never_idle();
     turns_known();
+    unseen_stays();
     let mut turn = turn;
     let close = run_lines(script, cpu, &mut turn.task, lines);
     leave(script, cpu, &mut turn.task);
