@@ -1,5 +1,5 @@
 -- What is told of an input.
-use Rattle.std.proofs.Common.{◌≡◌, ℕ, ◌-◌, ◌≤◌, List, ◌++◌, length, length-append, take, drop, Some, None, sym, ap, ◌∙◌, subst, arith, inl, inr}
+use Rattle.std.proofs.Common.{◌≡◌, ℕ, ◌-◌, ◌≤◌, List, ◌++◌, length, length-append, take, drop, Some, None, refl, sym, ap, ◌∙◌, subst, arith, inl, inr}
 use Rattle.std.proofs.lemmas.Bool.{cases_lt}
 use Rattle.std.proofs.lemmas.List.{append-nil, length-drop, take_all}
 use Rattle.std.specs.Prelude.{Option}
@@ -12,7 +12,7 @@ use Rattle.xs_outside.specs.Statuses.{TellEnds, too_long_text}
 use Rattle.xs_script.specs.Grammar.{Spells}
 use Rattle.xs_script.specs.RefusalText.{refusal_text}
 use Rattle.xs_check.specs.declared.following.Finding.TheVariants as findings
-use Rattle.xs_check.specs.Call.{AnswerEnds, MayTell, Tells, TellsOf}
+use Rattle.xs_check.specs.Call.{AnswerEnds, MayJudge, MayTell, Tells, TellsOf}
 use Rattle.xs_check.specs.Verdict.{HasParts, IsIllegalOne, IsLegalOne, IsVerdict, LongInput, LongScript, NoScript, check_limit, illegal_text, legal_text}
 
 -- the rest of a list up to its end
@@ -90,3 +90,20 @@ may_tell once input taken text right left rest before after statuses.ReadFault i
 may_tell once input taken text right left rest before after statuses.WriteFault is read whole verdict ends = tt
 may_tell once input taken text right left rest before after statuses.NoMemory is read whole verdict ends = tt
 may_tell once input taken text right left rest before after statuses.Usage is read whole verdict ends = absurd ends
+
+abbrev pub NoRefusal : Type 0
+NoRefusal = (input script_text text line : List ℕ) (script : Script) (status : Status) → HasParts input script_text text → Spells script_text script → IsVerdict input status line → status ≡ statuses.Refused → ⊥
+
+pub may_judge : NoRefusal → (input taken script_text text : List ℕ) (script : Script) (left rest : Option (List ℕ)) (before after : Output) (result : Status) → left ≡ Some input
+    → Consumes left rest taken → (length taken ≤ check_limit → IsAtEnd rest) → HasParts input script_text text → Spells script_text script → AnswerEnds taken before after result → MayJudge result
+may_judge never input taken a b script left rest before after statuses.Done is read whole parts spelled ends = tt
+may_judge never input taken a b script left rest before after statuses.Killed is read whole parts spelled ends = absurd ends
+may_judge never input taken a b script left rest before after statuses.Refused is read whole parts spelled ends =
+    let h = known input taken rest (rw is at read) whole in
+    let short : length taken ≤ check_limit = (let most = parts.short in let long = h.long in omega arith) in
+    never input a b ends.0 script statuses.Refused parts spelled (subst (λ (bytes : List ℕ). IsVerdict bytes statuses.Refused ends.0) (h.whole short) ends.1) refl
+may_judge never input taken a b script left rest before after statuses.Illegal is read whole parts spelled ends = tt
+may_judge never input taken a b script left rest before after statuses.ReadFault is read whole parts spelled ends = tt
+may_judge never input taken a b script left rest before after statuses.WriteFault is read whole parts spelled ends = tt
+may_judge never input taken a b script left rest before after statuses.NoMemory is read whole parts spelled ends = tt
+may_judge never input taken a b script left rest before after statuses.Usage is read whole parts spelled ends = absurd ends

@@ -6,6 +6,7 @@ use Rattle.xs_model.specs.declared.script.Script.{Script}
 use Rattle.xs_model.specs.History.{IsWhole}
 use Rattle.xs_model.specs.Script.{IsValid}
 use Rattle.xs_outside.specs.declared.status.Status.{Status}
+use Rattle.xs_outside.specs.declared.status.Status.TheVariants as statuses
 use Rattle.xs_outside.specs.Outside.{script_limit}
 use Rattle.xs_script.specs.declared.refusal.Kind.{Kind}
 use Rattle.xs_script.specs.Grammar.{Spells}
@@ -49,6 +50,26 @@ OneBadLine = (script : Script) (text : List ℕ) (m n : ℕ) → IsValid script 
 abbrev pub ReadOrBad : Type 0
 ReadOrBad = (script : Script) (text : List ℕ) (history : List Event) (n : ℕ) → IsValid script → IsHistoryOf script text history → IsFirstBadLine script text n → ⊥
 
+-- ---- two readings of an input
+
+small_long : (input a b c d : List ℕ) → HasParts input a b → IsSplit input c d → script_limit < length c → ⊥
+small_long input a b c d parts split long =
+    let same : length a ≡ length c = ap length (one_split input a b c d parts.split split).0 in
+    let small = parts.small in
+    omega arith
+
+refused_not_read : NotBoth → (input a b c d : List ℕ) (m : ℕ) (k : Kind) (script : Script) → HasParts input a b → HasParts input c d → Refuses a m k → Spells c script → ⊥
+refused_not_read not_both input a b c d m k script one other refuses spelled =
+    not_both c script m k spelled (subst (λ (text : List ℕ). Refuses text m k) (one_split input a b c d one.split other.split).0 refuses)
+
+-- an accepted script isn't refused
+pub no_refusal : NotBoth → (input script_text text line : List ℕ) (script : Script) (status : Status) → HasParts input script_text text → Spells script_text script → IsVerdict input status line → status ≡ statuses.Refused → ⊥
+no_refusal not_both input a b line script status parts spelled (LongInput long) is = absurd (omega (arith, parts.short))
+no_refusal not_both input a b line script status parts spelled (LongScript c d short split long) is = small_long input a b c d parts split long
+no_refusal not_both input a b line script status parts spelled (NoScript c d m k there refuses) is = refused_not_read not_both input c d a b m k script there parts refuses spelled
+no_refusal not_both input a b line script status parts spelled (IsLegalOne c d t n there told whole) is = cc is
+no_refusal not_both input a b line script status parts spelled (IsIllegalOne c d t n there told broken) is = cc is
+
 module _ (scripts : OneScript) (refusals : OneRefusal) (not_both : NotBoth) (histories : OneHistory) (bad_lines : OneBadLine) (read_or_bad : ReadOrBad) where
   same_history : (script : Script) (text : List ℕ) (h g : List Event) → IsValid script → IsHistoryOf script text h → IsHistoryOf script text g → h ≡ g
   same_history script text h g valid one other = histories script h g valid one.events other.events (sym one.spelled ∙ other.spelled)
@@ -70,24 +91,14 @@ module _ (scripts : OneScript) (refusals : OneRefusal) (not_both : NotBoth) (his
   one_whole : (script : Script) (text : List ℕ) (m n : ℕ) → IsValid script → IsWholeText script text m → IsWholeText script text n → m ≡ n
   one_whole script text m n valid one other = one.3 ∙ ap length (same_history script text one.0 other.0 valid one.1 other.1) ∙ sym other.3
 
-  -- two readings of an input
+  -- the same of both
   abbrev Same : Status → Status → List ℕ → List ℕ → Type 0
   Same status right one other = (status ≡ right) × (one ≡ other)
-
-  small_long : (input a b c d : List ℕ) → HasParts input a b → IsSplit input c d → script_limit < length c → ⊥
-  small_long input a b c d parts split long =
-      let same : length a ≡ length c = ap length (one_split input a b c d parts.split split).0 in
-      let small = parts.small in
-      omega arith
 
   refused_once : (input a b c d : List ℕ) (m n : ℕ) (k j : Kind) → HasParts input a b → HasParts input c d → Refuses a m k → Refuses c n j → refusal_text m k ≡ refusal_text n j
   refused_once input a b c d m n k j one other refuses told =
       let same = refusals c m n k j (subst (λ (text : List ℕ). Refuses text m k) (one_split input a b c d one.split other.split).0 refuses) told in
       ap (λ (number : ℕ). refusal_text number k) same.0 ∙ ap (refusal_text n) same.1
-
-  refused_not_read : (input a b c d : List ℕ) (m : ℕ) (k : Kind) (script : Script) → HasParts input a b → HasParts input c d → Refuses a m k → Spells c script → ⊥
-  refused_not_read input a b c d m k script one other refuses spelled =
-      not_both c script m k spelled (subst (λ (text : List ℕ). Refuses text m k) (one_split input a b c d one.split other.split).0 refuses)
 
   same_script : (input a b c d : List ℕ) (s t : Script) → HasParts input a b → HasParts input c d → Spells a s → Spells c t → s ≡ t
   same_script input a b c d s t one other spelled told = scripts c s t (subst (λ (text : List ℕ). Spells text s) (one_split input a b c d one.split other.split).0 spelled) told
@@ -109,11 +120,11 @@ module _ (scripts : OneScript) (refusals : OneRefusal) (not_both : NotBoth) (his
   one_verdict input one other status right (NoScript a b m k here refuses) (LongInput far) = absurd (omega (arith, here.short))
   one_verdict input one other status right (NoScript a b m k here refuses) (LongScript c d small cut far) = absurd (small_long input a b c d here cut far)
   one_verdict input one other status right (NoScript a b m k here refuses) (NoScript c d n j there told) = (refl, refused_once input a b c d m n k j here there refuses told)
-  one_verdict input one other status right (NoScript a b m k here refuses) (IsLegalOne c d t n there told whole) = absurd (refused_not_read input a b c d m k t here there refuses told)
-  one_verdict input one other status right (NoScript a b m k here refuses) (IsIllegalOne c d t n there told broken) = absurd (refused_not_read input a b c d m k t here there refuses told)
+  one_verdict input one other status right (NoScript a b m k here refuses) (IsLegalOne c d t n there told whole) = absurd (refused_not_read not_both input a b c d m k t here there refuses told)
+  one_verdict input one other status right (NoScript a b m k here refuses) (IsIllegalOne c d t n there told broken) = absurd (refused_not_read not_both input a b c d m k t here there refuses told)
   one_verdict input one other status right (IsLegalOne a b s m here spelled whole) (LongInput far) = absurd (omega (arith, here.short))
   one_verdict input one other status right (IsLegalOne a b s m here spelled whole) (LongScript c d small cut far) = absurd (small_long input a b c d here cut far)
-  one_verdict input one other status right (IsLegalOne a b s m here spelled whole) (NoScript c d n j there told) = absurd (refused_not_read input c d a b n j s there here told spelled)
+  one_verdict input one other status right (IsLegalOne a b s m here spelled whole) (NoScript c d n j there told) = absurd (refused_not_read not_both input c d a b n j s there here told spelled)
   one_verdict input one other status right (IsLegalOne a b s m here spelled whole) (IsLegalOne c d t n there told finished) =
       let moved = subst (λ (script : Script). IsWholeText script d m) (same_script input a b c d s t here there spelled told) (subst (λ (text : List ℕ). IsWholeText s text m) (same_rest input a b c d here there) whole) in
       (refl, ap legal_text (one_whole t d m n told.valid moved finished))
@@ -122,7 +133,7 @@ module _ (scripts : OneScript) (refusals : OneRefusal) (not_both : NotBoth) (his
       absurd (whole_or_broken t d m n told.valid moved broken)
   one_verdict input one other status right (IsIllegalOne a b s m here spelled broken) (LongInput far) = absurd (omega (arith, here.short))
   one_verdict input one other status right (IsIllegalOne a b s m here spelled broken) (LongScript c d small cut far) = absurd (small_long input a b c d here cut far)
-  one_verdict input one other status right (IsIllegalOne a b s m here spelled broken) (NoScript c d n j there told) = absurd (refused_not_read input c d a b n j s there here told spelled)
+  one_verdict input one other status right (IsIllegalOne a b s m here spelled broken) (NoScript c d n j there told) = absurd (refused_not_read not_both input c d a b n j s there here told spelled)
   one_verdict input one other status right (IsIllegalOne a b s m here spelled broken) (IsLegalOne c d t n there told whole) =
       let moved = subst (λ (script : Script). IsBroken script d m) (same_script input a b c d s t here there spelled told) (subst (λ (text : List ℕ). IsBroken s text m) (same_rest input a b c d here there) broken) in
       absurd (whole_or_broken t d n m told.valid whole moved)

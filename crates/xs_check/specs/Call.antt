@@ -50,3 +50,14 @@ MayTell right text before after statuses.ReadFault = ⊤
 MayTell right text before after statuses.WriteFault = ⊤
 MayTell right text before after statuses.NoMemory = ⊤
 MayTell right text before after status = (status ≡ right) × Appends before.written after.written text
+
+-- What may be answered to a known input whose script is accepted: what is found of its history, a fault, or want of memory.
+abbrev pub MayJudge : Status → Type 0
+MayJudge statuses.Done = ⊤
+MayJudge statuses.Killed = ⊥
+MayJudge statuses.Refused = ⊥
+MayJudge statuses.Illegal = ⊤
+MayJudge statuses.ReadFault = ⊤
+MayJudge statuses.WriteFault = ⊤
+MayJudge statuses.NoMemory = ⊤
+MayJudge statuses.Usage = ⊥

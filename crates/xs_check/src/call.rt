@@ -1,16 +1,18 @@
 //! The command that checks a history.
 
 ghost use Rattle.std.specs.Prelude.{◌≡◌, ℕ, List, Some};
+ghost use Rattle.xs_model.specs.declared.script.Script as scripts;
 ghost use Rattle.xs_model.specs.Script.{IsValid};
 ghost use Rattle.xs_outside.specs.declared.status.Status as statuses;
 ghost use Rattle.xs_outside.specs.Outside.{output_of, outside};
 ghost use Rattle.xs_outside.specs.Statuses.{TellEnds, Unfailed};
+ghost use Rattle.xs_script.specs.Grammar.{Spells};
 ghost use Rattle.xs_script.specs.RefusalText.{refusal_text};
-ghost use Rattle.xs_check.specs.Call.{AnswerEnds, CheckEnds, MayTell, TellsOf};
-ghost use Rattle.xs_check.specs.Verdict.{IsVerdict};
+ghost use Rattle.xs_check.specs.Call.{AnswerEnds, CheckEnds, MayJudge, MayTell, TellsOf};
+ghost use Rattle.xs_check.specs.Verdict.{HasParts, IsVerdict};
 
 use crate::following::{Finding, find};
-use crate::laws::one_verdict;
+use crate::laws::{no_refusal, one_verdict};
 use crate::split::split;
 use crate::verdict::{illegal_line, legal_line};
 use std::alloc::Global;
@@ -31,10 +33,13 @@ pub fn check_call<S: Source, K: Sink>(alloc: Global, source: &mut S, sink: &mut 
     ensures ends { CheckEnds (outside S.Source K.Sink source.old sink.old) (outside S.Source K.Sink source.new sink.new) result }
     // A known input is told its verdict and no other.
     ensures told { (input text : List ℕ) (right : statuses.Status) → S.left source.old ≡ Some input → IsVerdict input right text → MayTell right text (output_of K.Sink sink.old) (output_of K.Sink sink.new) result }
+    // One whose script is accepted is never refused.
+    ensures judges { (input script_text text : List ℕ) (script : scripts.Script) → S.left source.old ≡ Some input → HasParts input script_text text → Spells script_text script → MayJudge result }
     // No fault is passed over.
     ensures unfailed { Unfailed (outside S.Source K.Sink source.old sink.old) (outside S.Source K.Sink source.new sink.new) result }
 {
     one_verdict();
+    no_refusal();
     match read_up_to(alloc, CHECK_LIMIT, source) {
         Ok(input) => answer(alloc, input.as_slice(), sink),
         Err(ReadError::Fault) => Status::ReadFault,

@@ -1,8 +1,11 @@
 //! The laws of a verdict, for proofs: a caller has them by calling their function, which does nothing.
 
 ghost use Rattle.std.specs.Prelude.{◌≡◌, ℕ, List};
+ghost use Rattle.xs_model.specs.declared.script.Script.{Script};
 ghost use Rattle.xs_outside.specs.declared.status.Status.{Status};
-ghost use Rattle.xs_check.specs.Verdict.{IsVerdict};
+ghost use Rattle.xs_outside.specs.declared.status.Status.TheVariants as statuses;
+ghost use Rattle.xs_script.specs.Grammar.{Spells};
+ghost use Rattle.xs_check.specs.Verdict.{HasParts, IsVerdict};
 
 use xs_script::{not_both, one_refusal, one_script};
 use xs_text::{not_both as not_both_texts, one_bad_line, one_history};
@@ -17,4 +20,11 @@ pub fn one_verdict()
     one_history();
     one_bad_line();
     not_both_texts();
+}
+
+/// An input isn't refused whose parts aren't too long, and whose script's text spells a script.
+pub fn no_refusal()
+    ensures { (input script_text text line : List ℕ) (script : Script) (status : Status) → HasParts input script_text text → Spells script_text script → IsVerdict input status line → status ≡ statuses.Refused → ⊥ }
+{
+    not_both();
 }

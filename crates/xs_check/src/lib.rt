@@ -11,4 +11,4 @@ mod split;
 mod verdict;
 
 pub use call::check_call;
-pub use laws::one_verdict;
+pub use laws::{no_refusal, one_verdict};
