@@ -1,4 +1,4 @@
--- How a call of the checker ends, by its status.
+-- How a call of the checker ends, by its status. This project's own.
 use Rattle.std.specs.Prelude.{◌≡◌, ℕ, ⊤, List}
 use Rattle.std.specs.Io.KnownBytes.{Appends}
 use Rattle.xs_io.specs.Causes.{Rose}

@@ -22,7 +22,7 @@ pub fn one_verdict()
     not_both_texts();
 }
 
-/// An input isn't refused whose parts aren't too long, and whose script's text spells a script.
+/// An input isn't refused where neither it nor its script's text is too long, and that text spells a script.
 pub fn no_refusal()
     ensures { (input script_text text line : List ℕ) (script : Script) (status : Status) → HasParts input script_text text → Spells script_text script → IsVerdict input status line → status ≡ statuses.Refused → ⊥ }
 {

@@ -1,11 +1,12 @@
 //! The top call: all that the program does, over any source and sink.
 
 ghost use Rattle.std.specs.Prelude.{◌≡◌, ℕ, List, ◌⊎◌, length, map, string_bytes, Some};
-ghost use Rattle.xs_check.specs.Call.{MayTell};
-ghost use Rattle.xs_check.specs.Verdict.{IsVerdict};
+ghost use Rattle.xs_check.specs.Call.{MayJudge, MayTell};
+ghost use Rattle.xs_check.specs.Verdict.{HasParts, IsVerdict};
 ghost use Rattle.xs_io.specs.Causes.{Rose};
 ghost use Rattle.xs_model.specs.Script.{IsValid};
 ghost use Rattle.xs_model.specs.declared.script.Script.{Script};
+ghost use Rattle.xs_script.specs.Grammar.{Spells};
 ghost use Rattle.xs_script.specs.RefusalText.{refusal_text};
 ghost use Rattle.xs_text.specs.Text.{AreTasksKnown, history_text};
 ghost use Rattle.xs_top.specs.declared.play.Play.{Play};
@@ -73,10 +74,12 @@ pub fn top<S: Source, K: Sink, B: Bank>(
     // A known input that is refused by a line is refused by no other, and never run.
     ensures refuses { (input line : List ℕ) → S.left source.old ≡ Some input → IsPlayLine (map string_bytes words.now) → IsRefused input line → MayRefuse (output_of K.Sink sink.old) (output_of K.Sink sink.new) line result }
     // `check`: 0 where the text after `%%` is that of a whole history of the script before it, 3 where it isn't, and 2 where that is no
-    // script or too long, each with the line that says so. No processor changed.
+    // script, or it or the input is too long, each with the line that says so. No processor changed.
     ensures checked { IsCheckLine (map string_bytes words.now) → CheckCall (outside S.Source K.Sink source.old sink.old) (outside S.Source K.Sink source.new sink.new) procs.old procs.new result }
     // A known input is told its one verdict and no other.
     ensures verdict { (input text : List ℕ) (right : statuses.Status) → S.left source.old ≡ Some input → IsCheckLine (map string_bytes words.now) → IsVerdict input right text → MayTell right text (output_of K.Sink sink.old) (output_of K.Sink sink.new) result }
+    // One whose script is accepted is never refused.
+    ensures judges { (input script_text text : List ℕ) (script : Script) → S.left source.old ≡ Some input → IsCheckLine (map string_bytes words.now) → HasParts input script_text text → Spells script_text script → MayJudge result }
     // `gen N`: 0 where the generator's script of the number was written. Nothing was read, and no processor changed.
     ensures generated { IsGenLine (map string_bytes words.now) → GenCall (map string_bytes words.now) (outside S.Source K.Sink source.old sink.old) (outside S.Source K.Sink source.new sink.new) procs.old procs.new result }
     // `demo N`: 0 where the line was written that tells what the one history of the number's script has, and the processors are as

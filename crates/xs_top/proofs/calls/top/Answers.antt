@@ -32,3 +32,6 @@ returns-in-None-clause-write_fault g c = λ failed. elim c.tell.ensures [
   | inl told ↦ absurd (cc (told.0, failed))
   | inr fails ↦ inl (c.in-None.ensures.none, refl, refl, fails.1)
 ]
+
+pub returns-in-Some-Check-clause-judges : goal.returns-in-Some-Check-clause-judges
+returns-in-Some-Check-clause-judges g c = λ input script_text text script is said parts spelled. c.check_call.ensures.judges input script_text text script is parts spelled
