@@ -1,5 +1,5 @@
 -- What one block gives another: its registers to a child at its birth, a register set to the buffer of its tracer, or the first
--- bytes of its buffer as a register set.
+-- bytes of its buffer as a register set. This project's own.
 use Rattle.std.specs.Prelude.{◌≡◌, ℕ, ◌≤◌, List, take, slice_get, Some, None}
 use Rattle.xs_base.specs.declared.component.Row.{Row}
 use Rattle.xs_base.specs.RegisterSet.{set_errno, set_result}

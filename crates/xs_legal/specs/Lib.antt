@@ -1,4 +1,4 @@
--- What is wrong with an event, and what an event does to the blocks, one file a noun.
+-- What is wrong with an event, what an event does to the blocks, and the machine that follows a history, one file a noun.
 pub mod Difference
 pub mod Gift
 pub mod Standing

@@ -1,4 +1,4 @@
--- What the code knows of an event that is a step.
+-- What the code knows of an event that is a step. This project's own.
 use Rattle.std.specs.Prelude.{◌≡◌, ℕ, ◌+◌, ◌<◌, ◌^◌, true, List, length, slice_get, Some, None}
 use Rattle.std.specs.List.{AllByRecursion}
 use Rattle.xs_base.specs.Task.{IsPrivateTask}

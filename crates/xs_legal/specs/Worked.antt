@@ -1,4 +1,4 @@
--- What a local line asks of its task, beside that it goes on with the next one.
+-- What a local line asks of its task, beside that it goes on with the next one. This project's own.
 use Rattle.xs_base.specs.Bytes.{splice}
 use Rattle.xs_base.specs.File.{write_place}
 use Rattle.xs_base.specs.Register.{place_of}

@@ -1,6 +1,7 @@
 //! Which event is a step of the machine in which each task owns a register file of its own (`xs_private`), what is wrong with an event
 //! that is none, and what a step makes of the blocks. It knows no bank and no area. Its contract is the definition of steps and of their
-//! effects in `xs_model`, and that of what is wrong in `specs/Wrong`.
+//! effects in `xs_model`, and that of what is wrong in `specs/Wrong`. `Machine` follows a history by both; what it stands for is said in
+//! `specs/Standing`.
 #![tactic(auto)]
 
 mod difference;

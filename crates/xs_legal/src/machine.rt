@@ -29,7 +29,7 @@ use xs_model::{Block, BlockKind, Event, Script, Stage, machine_known, two_number
 const PROCESSORS: usize = 16;
 
 /// The machine of a script, in which each task owns a register file, after the events that were made so far. It keeps what the next
-/// step needs and none of the events: so it takes memory when it is opened alone, and a step takes the same time after any history.
+/// step needs and none of the events: so it takes memory at its opening alone, and a step takes the same time after any history.
 #[derive(Drop)]
 pub struct Machine {
     script: Script,

@@ -42,7 +42,7 @@ impl<K: Kept> Shared<K> {
     }
 
     /// Takes all passes back, none with the turn, and answers the value. To each processor it follows the value that
-    /// its pass last took or gave, and to one that never had a pass it follows the value that was opened.
+    /// its pass last took or gave, and to a processor from 16 on, which never has a pass, the value that was opened.
     pub fn close(self, passes: Passes<K>) -> K
         requires all { HasAll (name_of self) passes }
         requires idle { EachPass (IsIdle (name_of self)) passes.list.items }
