@@ -27,7 +27,7 @@ mod TaskSets
 mod TaskLines
 mod LocalLines
 mod MachineTasks
-mod Replaying
+pub mod Replaying
 mod Bookkeeping
 mod LineCosts
 mod DueOrders
@@ -52,7 +52,6 @@ mod OuterRisers
 mod SignalLaws
 mod PendingLaws
 mod QuietLaws
-mod Unscheduled
 mod LargeTasks
 mod LargeAreas
 mod LargeUsers

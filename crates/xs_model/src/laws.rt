@@ -2,7 +2,7 @@
 
 ghost use Rattle.xs_model.specs.Laws.{LinesFound, TurnsKnown, TurnsApart, TurnsMarked, TwoNumbers, ReadyOnce, FirstReady, NobodyReady, MarkUnseen, CountsUnseen, RemainsUnseen, LastUnseen, HeldUnseen, MachineKnown, TasksValid, StartIsStep, LocalIsStep, EndIsStep, FreeTells, FreeFound, OuterOutside, ReturnInside, OuterOfUser, NamedUser, ThreadsQuiet, PendingRise, QuietUnlessAlive, TaskStays, OthersKeep, WaitsForChild, NeverStuck, FewEvents, ForkBears, BornByFork, UnbornUnseen, OuterIsStep, RefusalIsStep, TrapIsStep, LargeStays, LargeGrows, LargeEnds, LargeKilled, FewLarge, LargeKnown, TrapOfUser, LinesValid};
 ghost use Rattle.xs_model.specs.Effects.{StartedBlock, RanBlock, OuterOwn, OuterOther, EndedBlock, KilledBlock, StartOthers, LocalOthers, EndOthers, KilledOthers, StartTakes, LocalKeeps, LocalRises, OuterRises, EndRises, KillRises, GrewBlock, GrowOthers, GrowRises};
-ghost use Rattle.xs_model.specs.Runs.{OneReplay, TurnsShort, NeverIdle, MachineUnscheduled, LegalUnscheduled, WholeUnscheduled, MarkUnscheduled, CountsUnscheduled, RemainsUnscheduled};
+ghost use Rattle.xs_model.specs.Runs.{OneReplay, TurnsShort, NeverIdle};
 
 /// A line of a valid script is found by its number.
 pub fn lines_found()
@@ -75,17 +75,6 @@ pub fn a_fork_bears()
     ensures bears { ForkBears }
     ensures by_fork { BornByFork }
     ensures unseen { UnbornUnseen }
-{}
-
-/// Two scripts that differ in their schedules alone have the same legal and whole histories, and these say the same of
-/// each bank.
-pub fn schedule_unseen()
-    ensures machine { MachineUnscheduled }
-    ensures legal { LegalUnscheduled }
-    ensures whole { WholeUnscheduled }
-    ensures mark { MarkUnscheduled }
-    ensures counts { CountsUnscheduled }
-    ensures remains { RemainsUnscheduled }
 {}
 
 /// What newer events on other processors, or of other blocks, leave as it was.

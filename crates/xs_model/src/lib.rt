@@ -22,8 +22,7 @@ pub use items::Items;
 pub use laws::{
     a_fork_bears, blocks_known, few_events, free_processors_known, large_known, lines_found,
     machine_known, named_known, never_idle, never_stuck, one_replay, ready_once, risers_known,
-    schedule_unseen, signals_known, steps_known, task_stays, turns_known, two_numbers,
-    unseen_stays, waits_known,
+    signals_known, steps_known, task_stays, turns_known, two_numbers, unseen_stays, waits_known,
 };
 pub use name::Name;
 pub use pending::add_signal;

@@ -196,8 +196,8 @@ module _ {K : Type 0} (follows : ℕ → K → K → Type 0) where
 
   -- Once all passes are back, the value is at home
   pub comes_back : (id : ℕ) (v : View K) (words : List ℕ) (slots : List (Option K)) → v.keeps ≡ true → v.out ≡ 0 → Final (Seen Rule id v) words slots
-      → (k : K) × (get_elem? slots 0 ≡ some (Some k)) × All (λ p. follows p.0 p.1 k) v.ended × ((c : ℕ) → 16 ≤ c → follows c v.first k)
-  comes_back id v words slots kept all_back h = (r.last, at_home_kept 0 (Some r.last) (r.home at_home), (λ i d l. (own.ended kept i d l).1), (λ c l. own.unmade kept c (let most = r.order.1 in omega arith)))
+      → (k : K) × (get_elem? slots 0 ≡ some (Some k)) × All (λ p. follows p.0 p.1 k) v.ended × ((c : ℕ) → v.made ≤ c → follows c v.first k)
+  comes_back id v words slots kept all_back h = (r.last, at_home_kept 0 (Some r.last) (r.home at_home), (λ i d l. (own.ended kept i d l).1), (λ c l. own.unmade kept c (subst (λ (n : ℕ). n ≤ c) (own.keeper kept).1 l)))
     where
       s : Table
       s = h.0

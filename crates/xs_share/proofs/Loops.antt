@@ -12,7 +12,7 @@ use Rattle.xs_share.specs.declared.rule.View.{View}
 use Rattle.xs_share.specs.declared.pass.Pass.{Pass}
 use Rattle.xs_share.specs.declared.pass.Passes.{Passes}
 use Rattle.xs_share.specs.Rule.{Ruled, with_pass, new_pass, without_pass}
-use Rattle.xs_share.specs.Passes.{home_of, view, opened, EachPass, IsIdle, IsNew}
+use Rattle.xs_share.specs.Passes.{home_of, view, opened, EachPass, HasAll, IsIdle, IsNew}
 use Rattle.xs_share.proofs.Keeper.{comes_back}
 
 module _ {K : Type 0} where
@@ -111,12 +111,12 @@ module _ {K : Type 0} (follows : ℕ → K → K → Type 0) where
   all_follow ended k all c (Some p) has = subst (λ (x : ℕ × K). follows x.0 x.1 k) has.2 (all has.0 (c, (view p).last) has.1)
 
   -- what lies in the slot once all passes are back
-  pub comes_home : (ps : Passes K) (list : List (Option (Pass K))) (keeper : Seat (Option K) (View K)) (words : List ℕ) (slots : List (Option K)) (slot : Option K) → HasBack ps list keeper → length list ≡ 0
+  pub comes_home : (name : TableId) (ps : Passes K) (list : List (Option (Pass K))) (keeper : Seat (Option K) (View K)) (words : List ℕ) (slots : List (Option K)) (slot : Option K) → HasAll name ps → HasBack ps list keeper → length list ≡ 0
       → Final (Seen (Ruled follows) keeper.id keeper.me.0) words slots → get_elem? slots 0 ≡ some slot
-      → (k : K) × (slot ≡ Some k) × EachPass (λ c p. follows c (view p).last k) ps.list.items × ((c : ℕ) → 16 ≤ c → follows c (opened ps) k)
-  comes_home ps list keeper words slots slot h all final at = let back = comes_back follows keeper.id keeper.me.0 words slots h.keeps.0 (h.counts.1 ∙ all) final in (
+      → (k : K) × (slot ≡ Some k) × EachPass (λ c p. follows c (view p).last k) ps.list.items × ((c : ℕ) → length ps.list.items ≤ c → follows c (opened ps) k)
+  comes_home name ps list keeper words slots slot whole h all final at = let back = comes_back follows keeper.id keeper.me.0 words slots h.keeps.0 (h.counts.1 ∙ all) final in (
     back.0,
     some-injective slot (Some back.0) (sym at ∙ back.1),
     (λ c l. all_follow keeper.me.0.ended back.0 back.2 c (slice_index_or ps.list.items c None) (h.ended c (omega arith) l)),
-    (λ c l. subst (λ x. follows c x back.0) h.opened (back.3 c l)),
+    (λ c l. subst (λ x. follows c x back.0) h.opened (back.3 c (let made = h.counts.0 in let count = whole.count in omega arith))),
   )

@@ -42,12 +42,12 @@ impl<K: Kept> Shared<K> {
     }
 
     /// Takes all passes back, none with the turn, and answers the value. To each processor it follows the value that
-    /// its pass last took or gave, and to a processor from 16 on, which never has a pass, the value that was opened.
+    /// its pass last took or gave, and to a processor that has no pass the value that was opened.
     pub fn close(self, passes: Passes<K>) -> K
         requires all { HasAll (name_of self) passes }
         requires idle { EachPass (IsIdle (name_of self)) passes.list.items }
         ensures passes { EachPass (λ c p. K.follows c (view p).last result) passes.list.items }
-        ensures opened { (c : ℕ) → 16 ≤ c → K.follows c (opened passes) result }
+        ensures opened { (c : ℕ) → length passes.list.items ≤ c → K.follows c (opened passes) result }
     {
         let Passes {
             mut keeper,

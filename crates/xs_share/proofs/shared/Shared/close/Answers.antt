@@ -31,16 +31,16 @@ loop-slot-preserved g c = let now = c.loop-slot.invariant in let p = c.unwrap-pa
 
 pub unwrap-kept-requires : goal.unwrap-kept-requires
 unwrap-kept-requires g c = let empty : length c.loop-slot.list.items ≡ 0 = search rules in
-    let home = comes_home g.K.Kept.follows c.args.passes _ _ _ _ c.take.result c.loop-slot.invariant empty c.close_with-closed.ensures.values.2 c.take.ensures.value in ap is_some home.1
+    let home = comes_home g.K.Kept.follows _ c.args.passes _ _ _ _ c.take.result c.requires.all c.loop-slot.invariant empty c.close_with-closed.ensures.values.2 c.take.ensures.value in ap is_some home.1
 
 pub returns-clause-passes : goal.returns-clause-passes
 returns-clause-passes g c = let empty : length c.loop-slot.list.items ≡ 0 = search rules in
-    let home = comes_home g.K.Kept.follows c.args.passes _ _ _ _ c.take.result c.loop-slot.invariant empty c.close_with-closed.ensures.values.2 c.take.ensures.value in
+    let home = comes_home g.K.Kept.follows _ c.args.passes _ _ _ _ c.take.result c.requires.all c.loop-slot.invariant empty c.close_with-closed.ensures.values.2 c.take.ensures.value in
     let is : Some c.unwrap-kept.result ≡ Some home.0 = search rules in let same : home.0 ≡ c.unwrap-kept.result = cc is in
     subst (λ k. EachPass (λ c' p. g.K.Kept.follows c' (view p).last k) c.args.passes.list.items) same home.2
 
 pub returns-clause-opened : goal.returns-clause-opened
 returns-clause-opened g c = let empty : length c.loop-slot.list.items ≡ 0 = search rules in
-    let home = comes_home g.K.Kept.follows c.args.passes _ _ _ _ c.take.result c.loop-slot.invariant empty c.close_with-closed.ensures.values.2 c.take.ensures.value in
+    let home = comes_home g.K.Kept.follows _ c.args.passes _ _ _ _ c.take.result c.requires.all c.loop-slot.invariant empty c.close_with-closed.ensures.values.2 c.take.ensures.value in
     let is : Some c.unwrap-kept.result ≡ Some home.0 = search rules in let same : home.0 ≡ c.unwrap-kept.result = cc is in
     λ c' high. subst (λ k. g.K.Kept.follows c' (opened c.args.passes) k) same (home.3 c' high)
