@@ -18,3 +18,11 @@ pub mod Rounds
 pub mod Idle
 pub mod Opening
 pub mod Following
+pub mod Marks
+pub mod Alone
+pub mod Ended
+pub mod Away
+pub mod Takings
+pub mod Ending
+pub mod Parts
+pub mod Seating

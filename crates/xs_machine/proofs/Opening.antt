@@ -24,7 +24,7 @@ use Rattle.xs_model.specs.Script.{IsValid}
 use Rattle.xs_model.specs.State.{Machine, is_on_cpu, none_lives, opening, opening_block, opening_stage, turn_cpu}
 
 -- a number is below a bound or not
-compare : (X : Type 0) (i n : ℕ) → (i < n → X) → (n ≤ i → X) → X
+pub compare : (X : Type 0) (i n : ℕ) → (i < n → X) → (n ≤ i → X) → X
 compare X i zero below above = above (omega arith)
 compare X zero (suc n) below above = below (omega arith)
 compare X (suc i) (suc n) below above = compare X i n (λ (l : i < n). below (omega arith)) (λ (l : n ≤ i). above (omega arith))
@@ -70,7 +70,7 @@ module _ (script : Script) (board : Board) (script_is : board.script ≡ script)
   pub schedule_opened : KeepsToSchedule script board
   schedule_opened c without = free_opened c
 
-  told_opened : (i : ℕ) (bank : banks.Bank) → banks.HasCountedNothing bank → IsTold script board i bank
+  pub told_opened : (i : ℕ) (bank : banks.Bank) → banks.HasCountedNothing bank → IsTold script board i bank
   told_opened i bank none = record {
     counts = ap (λ (p : List Event). told.counts_of script p i) past ∙ no_counts script i bank none;
     file = λ (file : File) (is : told.remains script (past_of board) i ≡ Some file). let e : told.remains script (past_of board) i ≡ None = ap (λ (p : List Event). told.remains script p i) past in absurd (cc (e, is));

@@ -4,6 +4,7 @@ use Rattle.std.proofs.lemmas.Option.{get_or_from_slice_get, slice_get-get_or}
 use Rattle.xs_bank.specs.declared.cpu.Cpu.{Cpu}
 use Rattle.xs_bank.specs.Bank as banks
 use Rattle.xs_board.specs.Board.{Board}
+use Rattle.xs_share.specs.declared.pass.Pass.{Pass}
 use Rattle.xs_board.specs.declared.turn.Turn.{Turn}
 use Rattle.xs_machine.specs.declared.proc.Proc.{Proc}
 use Rattle.xs_machine.specs.Processors.{KeepsProcessor, KeepProcessors}
@@ -44,13 +45,13 @@ at_entry state script board turns procs i slot proc at known room many =
     (at.script_has i (slice_index_or procs i proc) known (slice_get-get_or procs i proc many))
 
 -- after an entry on one processor all are as the board tells
-pub at_after : {B : Type 0} (state : B → banks.Bank) (script : Script) (old new : Board) (turns : List (Option Turn)) (procs : List (Proc B)) (i : ℕ) (slot : Option Turn) (cpu : Cpu B)
+pub at_after : {B : Type 0} (state : B → banks.Bank) (script : Script) (old new : Board) (turns : List (Option Turn)) (procs : List (Proc B)) (i : ℕ) (slot : Option Turn) (cpu : Cpu B) (pass : Option (Pass Board))
     → AreAt state script old turns procs → i < script.cpus → i < length turns → IsAt script new i slot cpu (state cpu.bank) → LeavesOthers B script i old new
-    → AreAt state script new (slice_set turns i slot) (slice_set procs i (record { cpu = cpu }))
-at_after {B} state script old new turns procs i slot cpu at known room here others = record { script_has = mine; beyond = rest }
+    → AreAt state script new (slice_set turns i slot) (slice_set procs i (record { cpu = cpu; pass = pass }))
+at_after {B} state script old new turns procs i slot cpu pass at known room here others = record { script_has = mine; beyond = rest }
   where
     proc : Proc B
-    proc = record { cpu = cpu }
+    proc = record { cpu = cpu; pass = pass }
 
     mine : (j : ℕ) (p : Proc B) → j < script.cpus → slice_get (slice_set procs i proc) j ≡ Some p → IsAt script new j (slice_index_or (slice_set turns i slot) j None) p.cpu (state p.cpu.bank)
     mine j p below is = split (IsAt script new j (slice_index_or (slice_set turns i slot) j None) p.cpu (state p.cpu.bank)) j i same apart
@@ -74,11 +75,11 @@ at_after {B} state script old new turns procs i slot cpu at known room here othe
         others.told_is j (state p.cpu.bank) other (at.beyond j p above (sym (set_there procs i j proc other) ∙ is))
 
 -- a processor that was set is the one that it was
-pub kept_after : {B : Type 0} (procs : List (Proc B)) (i : ℕ) (proc : Proc B) (cpu : Cpu B) → KeepsProcessor (slice_index_or procs i proc).cpu cpu → KeepProcessors procs (slice_set procs i (record { cpu = cpu }))
-kept_after {B} procs i proc cpu kept j before after was is = split (KeepsProcessor before.cpu after.cpu) j i same apart
+pub kept_after : {B : Type 0} (procs : List (Proc B)) (i : ℕ) (proc : Proc B) (cpu : Cpu B) (pass : Option (Pass Board)) → KeepsProcessor (slice_index_or procs i proc).cpu cpu → KeepProcessors procs (slice_set procs i (record { cpu = cpu; pass = pass }))
+kept_after {B} procs i proc cpu pass kept j before after was is = split (KeepsProcessor before.cpu after.cpu) j i same apart
   where
     set : Proc B
-    set = record { cpu = cpu }
+    set = record { cpu = cpu; pass = pass }
 
     same : j ≡ i → KeepsProcessor before.cpu after.cpu
     same e =

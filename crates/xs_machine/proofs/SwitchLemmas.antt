@@ -31,8 +31,8 @@ use Rattle.xs_machine.specs.Running.{Begun, MayBegin}
 abbrev loaded_task : Task → ℕ → Task
 loaded_task task cpu = if task.need_load then record task { last = Some cpu; need_load = false } else task
 
-loaded_fields : (task : Task) (cpu : ℕ) → ((loaded_task task cpu).name ≡ task.name) × ((loaded_task task cpu).place ≡ task.place) × ((loaded_task task cpu).need_load ≡ false)
-loaded_fields task cpu = elim (cases_Bool task.need_load) [ inl on ↦ rw on (refl, refl, refl) | inr off ↦ rw off (refl, refl, refl) ]
+loaded_fields : (task : Task) (cpu : ℕ) → ((loaded_task task cpu).name ≡ task.name) × ((loaded_task task cpu).place ≡ task.place) × ((loaded_task task cpu).need_load ≡ false) × ((loaded_task task cpu).handling ≡ task.handling)
+loaded_fields task cpu = elim (cases_Bool task.need_load) [ inl on ↦ rw on (refl, refl, refl, refl) | inr off ↦ rw off (refl, refl, refl, refl) ]
 
 -- before a line
 pub user_back : {B : Type 0} (cpu new_cpu : Cpu B) (task new_task : Task) (old new : banks.Bank)
@@ -52,6 +52,7 @@ user_back {B} cpu new_cpu task new_task old new set_up whole task_is mark cpu_is
       mark = mark;
       name = ap (λ (x : Task). x.name) task_is ∙ fields.0;
       place = ap (λ (x : Task). x.place) task_is ∙ fields.1;
+      handling = ap (λ (x : Task). x.handling) task_is ∙ fields.3;
       loaded = λ _. ap (λ (x : Task). x.need_load) task_is ∙ fields.2;
       on = λ p on. record { whole = rw layout at whole; ready = rw layout at ready; running = rw layout at (running p on.running) };
       holds = λ _ p on. holds p on.running;

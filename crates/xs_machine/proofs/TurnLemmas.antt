@@ -36,7 +36,7 @@ section_by : (section : Bool) → is_section_act (if section then Section else P
 section_by true = refl
 section_by false = refl
 
-start_by : (section : Bool) (older : Option ℕ) → start_cpu (if section then Section else Plain) older ≡ older
+pub start_by : (section : Bool) (older : Option ℕ) → start_cpu (if section then Section else Plain) older ≡ older
 start_by true older = refl
 start_by false older = refl
 

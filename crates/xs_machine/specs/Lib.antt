@@ -3,3 +3,4 @@ pub mod Processors
 pub mod Line
 pub mod Turn
 pub mod Running
+pub mod Threads

@@ -1,5 +1,5 @@
 -- What a line does to the task in a turn and to its processor. Both a user task and a kernel thread may be the task.
-use Rattle.std.specs.Prelude.{◌≡◌, ℕ, Bool, true, false, ◌&&◌, List, Some, None, if◌then◌else◌}
+use Rattle.std.specs.Prelude.{◌≡◌, ℕ, Bool, true, false, ◌&&◌, List, slice_get, Option, Some, None, if◌then◌else◌}
 use Rattle.std.specs.Int.{from_le_bytes, w32}
 use Rattle.xs_base.specs.declared.component.Place.{Place}
 use Rattle.xs_base.specs.declared.component.Row.{Row}
@@ -18,12 +18,14 @@ use Rattle.xs_image.specs.declared.image.Restored.{Restored}
 use Rattle.xs_image.specs.declared.image.Restored.TheVariants as answers
 use Rattle.xs_model.specs.declared.event.Reply.{Reply}
 use Rattle.xs_model.specs.declared.event.Reply.TheVariants as replies
+use Rattle.xs_model.specs.declared.script.Block.{Block}
 use Rattle.xs_model.specs.declared.script.Command.{Command}
+use Rattle.xs_model.specs.declared.script.Order.{Order}
 use Rattle.xs_model.specs.declared.script.Script.{Script}
 use Rattle.xs_model.specs.Counts.{exec_of, numbers_of, is_pkru}
-use Rattle.xs_model.specs.Line.{frame_cause, local_after, local_reply, refusal, traps}
+use Rattle.xs_model.specs.Line.{frame_cause, local_after, local_reply, order_at, refusal, traps}
 use Rattle.xs_model.specs.Note.{is_section}
-use Rattle.xs_model.specs.Script.{is_return}
+use Rattle.xs_model.specs.Script.{is_return, is_user}
 use Rattle.xs_task.specs.declared.task.Task.{Task}
 use Rattle.xs_task.specs.TaskArea.{IsTask}
 use Rattle.xs_switch.specs.Running.{CanSave, IsRunning}
@@ -67,6 +69,7 @@ pub record CameBack {B : Type 0} (user : Bool) (old new : Task) (before after : 
   pub mark : after.mark ≡ (if user && old.need_load then Some old.name else before.mark)
   pub name : new.name ≡ old.name
   pub place : new.place ≡ old.place
+  pub handling : new.handling ≡ old.handling
   pub loaded : user ≡ true → new.need_load ≡ false
   pub on : (p : PrivateTask) → IsOn user before.layout old bank_before p → IsOn user before.layout new bank_after p
   pub holds : user ≡ true → (p : PrivateTask) → IsOn user before.layout old bank_before p → Holds bank_after p
@@ -144,3 +147,26 @@ Halted user command other old new before after bank_before bank_after = ⊥
 pub record StandsAt (user : Bool) (task : Task) (private : PrivateTask) : Type 0 where
   pub inside : private.handling ≡ (user && task.handling)
   pub place : task.place ≡ private.place
+
+-- ---- the owner mark (Linux 6.6, arch/x86/kernel/fpu/context.h, fpregs_restore_userregs, and core.c, kernel_fpu_begin_mask)
+
+-- the line of a block at a place: one of the handler while that runs
+abbrev pub order_in : Option Block → Bool → ℕ → Option Order
+order_in None handling place = None
+order_in (Some lines) handling place = order_at lines handling place
+
+abbrev pub next_order : Script → Task → Option Order
+next_order script task = order_in (slice_get script.blocks task.name) (is_user script task.name && task.handling) task.place
+
+abbrev pub is_section_order : Option Order → Bool
+is_section_order None = false
+is_section_order (Some order) = is_section (Some order.command)
+
+-- the next line of the task is a kernel section
+abbrev pub is_next_section : Script → Task → Bool
+is_next_section script task = is_section_order (next_order script task)
+
+-- The processor's mark after the task's next line, or where none is left: none after a section, and else a user task, whose registers
+-- came back for it. A kernel thread leaves it.
+abbrev pub line_mark : Script → Task → Option ℕ → Option ℕ
+line_mark script task mark = if is_next_section script task then None else if is_user script task.name then Some task.name else mark

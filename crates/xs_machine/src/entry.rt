@@ -4,21 +4,25 @@ ghost use Rattle.std.specs.Prelude.{◌≡◌, ◌<◌, IsTrue, [], false, lengt
 ghost use Rattle.xs_base.specs.declared.words.How.TheVariants as hows;
 ghost use Rattle.xs_base.specs.Task.{PrivateTask};
 ghost use Rattle.xs_bank.specs.SetUp.{WasSetUp};
+ghost use Rattle.xs_board.specs.declared.turn.Turn as turns;
+ghost use Rattle.xs_board.specs.Board as boards;
 ghost use Rattle.xs_board.specs.Board.{past_of, KeepsTurns};
 ghost use Rattle.xs_board.specs.Taken.{is_user_how};
 ghost use Rattle.xs_model.specs.Replay.{entry};
 ghost use Rattle.xs_machine.specs.Processors.{KeepsProcessor};
 ghost use Rattle.xs_machine.specs.Running.{IsAt, IsRun, LeavesOthers, IsIdle, MayBegin, Begun};
+ghost use Rattle.xs_machine.specs.Threads.{HasRunTurn, SomeTurn};
 
 use crate::turn::{leave, run_lines};
 use xs_bank::{Bank, Cpu};
 use xs_base::How;
-use xs_board::{Board, Entries, Taken, Turn};
+use xs_board::{Board, Close, Entries, Taken, Turn};
 use xs_frame::deliver;
 use xs_model::{
     Script, machine_known, never_idle, signals_known, task_stays, turns_known, unseen_stays,
 };
 use xs_switch::{switch_in, to_kernel};
+use xs_task::Task;
 
 /// One entry of the schedule on a processor: it takes a turn where it has none, and else runs its turn and brings it back. The list
 /// of lines is empty between turns. Answers whether an event was made.
@@ -65,7 +69,7 @@ pub fn run_entry<B: Bank>(
 
 /// Begins a turn that the board handed out: the registers of a user task come to the bank, and its signal is delivered. A kernel
 /// thread has no registers but its PKRU, and no signal.
-fn begin_turn<B: Bank>(cpu: &mut Cpu<B>, turn: Turn) -> Turn
+pub fn begin_turn<B: Bank>(cpu: &mut Cpu<B>, turn: Turn) -> Turn
     requires set_up { WasSetUp cpu.old.layout (B.state cpu.old.bank) cpu.old.initial }
     requires home { (p : PrivateTask) × MayBegin cpu.old.layout turn (B.state cpu.old.bank) p }
     requires skip { turn.how ≡ hows.Skip → (cpu.old.mark ≡ Some turn.task.name) × (turn.task.last ≡ Some cpu.old.number) }
@@ -106,13 +110,30 @@ fn finish_turn<B: Bank>(
     ensures kept { KeepsProcessor cpu.old cpu.new }
     ensures grows { length board.old.history < length board.new.history }
 {
-    machine_known();
-    never_idle();
     turns_known();
     unseen_stays();
     let mut turn = turn;
-    let close = run_lines(script, cpu, &mut turn.task, lines);
-    leave(script, cpu, &mut turn.task);
+    let close = run_turn(script, cpu, &mut turn.task, lines);
     board.commit(turn, lines, close);
     lines.clear();
+}
+
+/// Runs the lines of a turn, after which its task leaves the processor. Answers how the turn closes. It looks at no board: what it
+/// promises holds for each board that has the turn.
+fn run_turn<B: Bank>(
+    script: &Script,
+    cpu: &mut Cpu<B>,
+    task: &mut Task,
+    lines: &mut Entries,
+) -> Close
+    requires none { lines.old.items ≡ [] }
+    requires some { SomeTurn script.now task.old cpu.old (B.state cpu.old.bank) }
+    ensures ran { (board : boards.Board) (turn : turns.Turn) → turn.task ≡ task.old → IsRun script.now board → IsAt script.now board turn.cpu (Some turn) cpu.old (B.state cpu.old.bank) → HasRunTurn script.now board turn (B.state cpu.old.bank) lines.new.items result task.new cpu.new (B.state cpu.new.bank) }
+    ensures kept { KeepsProcessor cpu.old cpu.new }
+{
+    machine_known();
+    never_idle();
+    let close = run_lines(script, cpu, task, lines);
+    leave(script, cpu, task);
+    close
 }

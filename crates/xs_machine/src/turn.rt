@@ -6,6 +6,7 @@ ghost use Rattle.xs_bank.specs.Bank as banks;
 ghost use Rattle.xs_board.specs.Turn.{task_after};
 ghost use Rattle.xs_model.specs.declared.event.Event.{Event};
 ghost use Rattle.xs_model.specs.Script.{IsValid};
+ghost use Rattle.xs_machine.specs.Line.{line_mark};
 ghost use Rattle.xs_machine.specs.Processors.{KeepsProcessor};
 ghost use Rattle.xs_machine.specs.Turn.{AfterLine, AreOver, AreRunning, HasLeft, IsTurning, SomeOver, SomeRunning};
 
@@ -40,7 +41,7 @@ pub fn run_lines<B: Bank>(
 /// Runs the next line of a turn, which joins the entries, and answers how the turn is over where it doesn't go on. An outer line is
 /// left to the board, and so is a line that traps; a refused return ends the task, and without a line the turn closes with the
 /// body's end.
-fn run_line<B: Bank>(
+pub fn run_line<B: Bank>(
     script: &Script,
     cpu: &mut Cpu<B>,
     task: &mut Task,
@@ -50,6 +51,8 @@ fn run_line<B: Bank>(
     requires turning { SomeRunning script.now entries.old.items task.old cpu.old (B.state cpu.old.bank) }
     ensures after { (t c : ℕ) (past : List Event) (before : banks.Bank) (start private : PrivateTask) → AreRunning script.now t c past before start entries.old.items private task.old cpu.old (B.state cpu.old.bank) → AfterLine script.now t c past before start entries.new.items result task.new cpu.new (B.state cpu.new.bank) }
     ensures longer { IfNone result (length entries.new.items ≡ length entries.old.items + 1) }
+    ensures mark { cpu.new.mark ≡ line_mark script.now task.old cpu.old.mark }
+    ensures name { task.new.name ≡ task.old.name }
     ensures kept { KeepsProcessor cpu.old cpu.new }
 {
     lines_found();
@@ -82,6 +85,7 @@ pub fn leave<B: Bank>(script: &Script, cpu: &mut Cpu<B>, task: &mut Task)
     requires known { task.old.name < length script.now.blocks }
     ensures left { (t c : ℕ) (first past : List Event) (before : banks.Bank) (private : PrivateTask) → IsTurning script.now t c first past before true 0 private task.old cpu.old (B.state cpu.old.bank) → HasLeft script.now t c first past before private task.new cpu.new (B.state cpu.new.bank) }
     ensures name { task.new.name ≡ task.old.name }
+    ensures mark { cpu.new.mark ≡ cpu.old.mark }
     ensures kept { KeepsProcessor cpu.old cpu.new }
 {
     if script.is_user(task.name) {

@@ -2,7 +2,6 @@
 pub mod KnownBytes
 pub mod HistoryFront
 pub mod RunLemmas
-pub mod PlayLemmas
 pub mod AnswerLemmas
 pub mod KnownInputs
 pub mod NewProcessors

@@ -13,7 +13,6 @@ use Rattle.xs_script.specs.Refusal.{Refuses}
 use Rattle.xs_script.specs.RefusalText.{refusal_text}
 use Rattle.xs_text.specs.Text.{history_text}
 use Rattle.xs_top.specs.declared.play.Play.{Play}
-use Rattle.xs_top.specs.declared.play.Play.TheVariants.{Replay}
 use Rattle.xs_outside.specs.declared.status.Status.{Status}
 use Rattle.xs_outside.specs.declared.status.Status.TheVariants as statuses
 use Rattle.xs_outside.specs.Statuses.{too_long_text}
@@ -51,20 +50,50 @@ IsOutput state play input text old new = RunsTo state play input text old new �
 
 -- ---- how calls end, by the status
 
--- The history of a run by the script's schedule was written whole, and the status is that of this history.
-abbrev pub WroteHistory : {B : Type 0} → (B → Bank) → Script → Output → Output → List (Proc B) → List (Proc B) → Status → Type 0
-WroteHistory state script before after old new status = (history : List Event) × IsRunOf state Replay script history old new × (status ≡ status_of history) × Writes before after (history_text script history)
+-- A script was read, and nothing was written.
+pub record HasScript (script : Script) (before after : Outside) : Type 0 where
+  pub unfailed : after.input.faults ≡ before.input.faults
+  pub input : List ℕ
+  pub read : IsRead script_limit before.input after.input input
+  pub accepted : IsAccepted input script
+  pub unwritten : after.output ≡ before.output
 
--- the run of a script by its schedule
-abbrev pub WriteEnds : {B : Type 0} → (B → Bank) → Script → Output → Output → List (Proc B) → List (Proc B) → Status → Type 0
-WriteEnds state script before after old new statuses.Done = WroteHistory state script before after old new statuses.Done
-WriteEnds state script before after old new statuses.Killed = WroteHistory state script before after old new statuses.Killed
-WriteEnds state script before after old new statuses.Refused = ⊥
-WriteEnds state script before after old new statuses.Illegal = ⊥
-WriteEnds state script before after old new statuses.ReadFault = ⊥
-WriteEnds state script before after old new statuses.WriteFault = (history : List Event) × IsRunOf state Replay script history old new × FailsIn before after (history_text script history)
-WriteEnds state script before after old new statuses.NoMemory = WritesNothing before after
-WriteEnds state script before after old new statuses.Usage = ⊥
+-- The input is no script, and the line that says why was written, or a front of it; or there was no memory to read it in.
+abbrev pub NoScriptIn : List ℕ → Output → Output → Status → Type 0
+NoScriptIn input before after statuses.Done = ⊥
+NoScriptIn input before after statuses.Killed = ⊥
+NoScriptIn input before after statuses.Refused = (text : List ℕ) × IsRefused input text × Writes before after text
+NoScriptIn input before after statuses.Illegal = ⊥
+NoScriptIn input before after statuses.ReadFault = ⊥
+NoScriptIn input before after statuses.WriteFault = (text : List ℕ) × IsRefused input text × FailsIn before after text
+NoScriptIn input before after statuses.NoMemory = WritesNothing before after
+NoScriptIn input before after statuses.Usage = ⊥
+
+-- So it was with what was read, or reading failed.
+abbrev pub NoScript : Outside → Outside → Status → Type 0
+NoScript before after statuses.Done = ⊥
+NoScript before after statuses.Killed = ⊥
+NoScript before after statuses.Refused = ReadAndEnds script_limit before after (λ input. NoScriptIn input before.output after.output statuses.Refused)
+NoScript before after statuses.Illegal = ⊥
+NoScript before after statuses.ReadFault = Rose before.input.faults after.input.faults × TakesAtMost script_limit before.input after.input × WritesNothing before.output after.output
+NoScript before after statuses.WriteFault = ReadAndEnds script_limit before after (λ input. NoScriptIn input before.output after.output statuses.WriteFault)
+NoScript before after statuses.NoMemory = (after.input.faults ≡ before.input.faults) × TakesAtMost script_limit before.input after.input × WritesNothing before.output after.output
+NoScript before after statuses.Usage = ⊥
+
+-- The history of a run was written whole, and the status is that of this history.
+abbrev pub WroteHistory : {B : Type 0} → (B → Bank) → Play → Script → Output → Output → List (Proc B) → List (Proc B) → Status → Type 0
+WroteHistory state play script before after old new status = (history : List Event) × IsRunOf state play script history old new × (status ≡ status_of history) × Writes before after (history_text script history)
+
+-- the run of a script
+abbrev pub WriteEnds : {B : Type 0} → (B → Bank) → Play → Script → Output → Output → List (Proc B) → List (Proc B) → Status → Type 0
+WriteEnds state play script before after old new statuses.Done = WroteHistory state play script before after old new statuses.Done
+WriteEnds state play script before after old new statuses.Killed = WroteHistory state play script before after old new statuses.Killed
+WriteEnds state play script before after old new statuses.Refused = ⊥
+WriteEnds state play script before after old new statuses.Illegal = ⊥
+WriteEnds state play script before after old new statuses.ReadFault = ⊥
+WriteEnds state play script before after old new statuses.WriteFault = (history : List Event) × IsRunOf state play script history old new × FailsIn before after (history_text script history)
+WriteEnds state play script before after old new statuses.NoMemory = WritesNothing before after
+WriteEnds state play script before after old new statuses.Usage = ⊥
 
 -- The text of a run was written whole, and the status is that of its history.
 abbrev pub AnswersRun : {B : Type 0} → (B → Bank) → Play → List ℕ → Output → Output → List (Proc B) → List (Proc B) → Status → Type 0

@@ -9,13 +9,13 @@ use Rattle.xs_outside.specs.declared.status.Status.{Status}
 use Rattle.xs_outside.specs.declared.status.Status.TheVariants as statuses
 use Rattle.xs_outside.specs.Outside.{Output, FailsIn, Writes, WritesNothing}
 use Rattle.xs_script.specs.Grammar.{Spells}
-use Rattle.xs_top.specs.declared.play.Play.TheVariants.{Replay}
+use Rattle.xs_top.specs.declared.play.Play.TheVariants.{Run}
 use Rattle.xs_top.specs.Run.{IsRunOf}
 use Rattle.xs_top.specs.Summary.{summary_text}
 
--- The text is the summary of a run of the script by its schedule, and the processors are as this run leaves them.
+-- The text is the summary of a run of the script, and the processors are as this run leaves them.
 abbrev pub IsSummary : {B : Type 0} → (B → Bank) → Script → List ℕ → List (Proc B) → List (Proc B) → Type 0
-IsSummary state script text old new = (history : List Event) × IsRunOf state Replay script history old new × (text ≡ summary_text script history)
+IsSummary state script text old new = (history : List Event) × IsRunOf state Run script history old new × (text ≡ summary_text script history)
 
 -- A script was run, and its summary was written, or a front of it; or nothing was done for want of memory.
 abbrev pub SummaryEnds : {B : Type 0} → (B → Bank) → Script → Output → Output → List (Proc B) → List (Proc B) → Status → Type 0

@@ -51,10 +51,11 @@ IsCheckLine words = words ≡ check_words
 abbrev pub IsCommandLine : List (List ℕ) → Type 0
 IsCommandLine words = IsPlayLine words ⊎ IsGenLine words ⊎ IsDemoLine words ⊎ IsCheckLine words
 
--- The script that a command plays: `run` ignores the schedule, so that its processors have their turns in order.
-abbrev pub played : Play → Script → Script
-played Run script = record script { sched = [] }
-played Replay script = script
+-- Which of a script's whole histories a command may write: `replay` the one of its schedule; `run` that of any order of its processors'
+-- steps, so that with one processor it is the same.
+abbrev pub IsPlayed : Play → Script → List Event → Type 0
+IsPlayed Run script history = script.cpus ≡ 1 → IsReplay script history
+IsPlayed Replay script history = IsReplay script history
 
 -- ---- processors
 
@@ -72,12 +73,12 @@ HaveMachineOf {B = B} script procs = (i : ℕ) (proc : Proc B) → i < script.cp
 
 -- ---- a run
 
--- The history is a whole one of the script, namely the replay of the script as the command plays it. Each bank has counted what
--- the history tells of it, and has the file that the history leaves in it, PKRU aside. The script's processors have its machine
--- and the owner marks that the history gives them, and no other processor changed.
+-- The history is a whole one of the script, and one that the command may write. Each bank has counted what the history tells of it, and
+-- has the file that the history leaves in it, PKRU aside. The script's processors have its machine and the owner marks that the history
+-- gives them, and no other processor changed.
 pub record IsRunOf {B : Type 0} (state : B → Bank) (play : Play) (script : Script) (history : List Event) (old new : List (Proc B)) : Type 0 where
   pub whole : IsWhole script history
-  pub replay : IsReplay (played play script) history
+  pub played : IsPlayed play script history
   pub banks : HaveRun state script history new
   pub machine : HaveMachineOf script new
   pub others : drop script.cpus new ≡ drop script.cpus old

@@ -4,37 +4,31 @@ ghost use Rattle.std.specs.Prelude.{◌≡◌, ℕ, List, ◌⊎◌, length, map
 ghost use Rattle.xs_check.specs.Call.{MayJudge, MayTell};
 ghost use Rattle.xs_check.specs.Verdict.{HasParts, IsVerdict};
 ghost use Rattle.xs_io.specs.Causes.{Rose};
-ghost use Rattle.xs_model.specs.Script.{IsValid};
 ghost use Rattle.xs_model.specs.declared.script.Script.{Script};
 ghost use Rattle.xs_script.specs.Grammar.{Spells};
-ghost use Rattle.xs_script.specs.RefusalText.{refusal_text};
-ghost use Rattle.xs_text.specs.Text.{AreTasksKnown, history_text};
 ghost use Rattle.xs_top.specs.declared.play.Play.{Play};
 ghost use Rattle.xs_outside.specs.declared.status.Status as statuses;
 ghost use Rattle.xs_outside.specs.Outside.{outside, input_of, output_of, script_limit, TakesAtMost, Writes, WritesNothing};
-ghost use Rattle.xs_outside.specs.Statuses.{TellEnds, Unfailed, too_long_text};
-ghost use Rattle.xs_top.specs.Statuses as told;
+ghost use Rattle.xs_outside.specs.Statuses.{Unfailed};
 ghost use Rattle.xs_top.specs.Run.{AreNumbered, AreUncounted, IsCheckLine, IsCommandLine, IsDemoLine, IsGenLine, IsPlayLine, play_words};
-ghost use Rattle.xs_top.specs.Answers.{IsAccepted, IsRefused, AnswerEnds, CheckCall, DemoCall, GenCall, PlayEnds, WriteEnds, IsCutShort, IsPlayCutShort, KeepsProcessors, usage_text};
+ghost use Rattle.xs_top.specs.Answers.{IsAccepted, IsRefused, CheckCall, DemoCall, GenCall, PlayEnds, IsCutShort, IsPlayCutShort, KeepsProcessors, usage_text};
 ghost use Rattle.xs_top.specs.Headline.{Headline, Refusal, MayRun, MayRefuse};
 
 use crate::command::{Command, command_of};
 use crate::demo::demo_call;
-use crate::history::write_history;
-use crate::play::{Play, as_played};
-use crate::running::{open_board, run_script};
-use crate::status::status_of;
+use crate::play::Play;
+use crate::playing::{write_replay, write_run};
+use crate::reading::read_play;
 use std::alloc::Global;
+use std::sync::Wait;
+use std::thread::Threads;
 use xs_bank::Bank;
 use xs_check::check_call;
 use xs_gen::gen_call;
 use xs_io::{Sink, Source};
-use xs_machine::Proc;
-use xs_model::{Event, Script, schedule_unseen};
-use xs_outside::{ReadError, SCRIPT_LIMIT, Status, read_up_to, tell, tell_too_long};
-use xs_script::{
-    Kind, RefusalLine, ScriptError, not_both, one_refusal, read_script, write_refusal,
-};
+use xs_machine::{Gate, Proc};
+use xs_outside::{Status, tell};
+use xs_script::{not_both, one_refusal};
 
 /// The line that answers other words than a command.
 const USAGE: &[u8] = b"usage: xstate run [--tasks] | replay | check | gen N | demo N\n";
@@ -43,13 +37,16 @@ const USAGE: &[u8] = b"usage: xstate run [--tasks] | replay | check | gen N | de
 /// `check` reads a script and a history of it, and writes whether the history is legal and whole, or which line shows that it isn't;
 /// `gen N` writes the generator's script of the number, and `demo N` runs it and writes what its history has. `words` is the command
 /// line without the program's name. The processors are sixteen, numbered from 0 in order, whose banks have counted nothing. The
-/// script's ones are the first: they are set up once all memory is found, and no other changes.
-pub fn top<S: Source, K: Sink, B: Bank>(
+/// script's ones are the first: they are set up once all memory is found, and no other changes. `run` and `demo` have each of them on a
+/// thread of its own, which calls `gate`; they may wait, and it isn't promised that they return. All else waits for nobody.
+pub fn top<R: Threads + Wait + Sync, S: Source, K: Sink, B: Bank + Send, G: Gate + Sync>(
+    rt: &R,
     alloc: Global,
     words: &[String],
     source: &mut S,
     sink: &mut K,
     procs: &mut [Proc<B>],
+    gate: &G,
 ) -> Status
     requires many { length procs.old ≡ 16 }
     requires numbers { AreNumbered procs.old }
@@ -107,10 +104,11 @@ pub fn top<S: Source, K: Sink, B: Bank>(
     one_refusal();
     not_both();
     match command_of(words) {
-        Some(Command::Play(play)) => play_call(alloc, play, source, sink, procs),
+        Some(Command::Play(Play::Run)) => play_call(rt, alloc, source, sink, procs, gate),
+        Some(Command::Play(Play::Replay)) => schedule_call(alloc, source, sink, procs),
         Some(Command::Check) => check_call(alloc, source, sink),
         Some(Command::Gen(number)) => gen_call(alloc, number, sink),
-        Some(Command::Demo(number)) => demo_call(alloc, number, sink, procs),
+        Some(Command::Demo(number)) => demo_call(rt, alloc, number, sink, procs, gate),
         None => tell(sink, USAGE, Status::Usage),
     }
 }
@@ -152,13 +150,34 @@ pub fn replay_call<S: Source, K: Sink, B: Bank>(
 {
     one_refusal();
     not_both();
-    play_call(alloc, Play::Replay, source, sink, procs)
+    schedule_call(alloc, source, sink, procs)
 }
 
-/// Reads a script, plays it as the command does and writes its history.
-fn play_call<S: Source, K: Sink, B: Bank>(
+/// Reads a script, runs it on threads and writes its history.
+fn play_call<R: Threads + Wait + Sync, S: Source, K: Sink, B: Bank + Send, G: Gate + Sync>(
+    rt: &R,
     alloc: Global,
-    play: Play,
+    source: &mut S,
+    sink: &mut K,
+    procs: &mut [Proc<B>],
+    gate: &G,
+) -> Status
+    requires many { length procs.old ≡ 16 }
+    requires numbers { AreNumbered procs.old }
+    requires counts { AreUncounted B.state procs.old }
+    ensures ends { PlayEnds B.state Play.Run (outside S.Source K.Sink source.old sink.old) (outside S.Source K.Sink source.new sink.new) procs.old procs.new result }
+    ensures processors { KeepsProcessors procs.old procs.new result }
+    ensures numbers { AreNumbered procs.new }
+{
+    match read_play(alloc, source, sink) {
+        Ok(script) => write_run(rt, alloc, &script, sink, procs, gate),
+        Err(status) => status,
+    }
+}
+
+/// Reads a script, runs it by its schedule and writes its history.
+fn schedule_call<S: Source, K: Sink, B: Bank>(
+    alloc: Global,
     source: &mut S,
     sink: &mut K,
     procs: &mut [Proc<B>],
@@ -166,83 +185,12 @@ fn play_call<S: Source, K: Sink, B: Bank>(
     requires many { length procs.old ≡ 16 }
     requires numbers { AreNumbered procs.old }
     requires counts { AreUncounted B.state procs.old }
-    ensures ends { PlayEnds B.state play (outside S.Source K.Sink source.old sink.old) (outside S.Source K.Sink source.new sink.new) procs.old procs.new result }
+    ensures ends { PlayEnds B.state Play.Replay (outside S.Source K.Sink source.old sink.old) (outside S.Source K.Sink source.new sink.new) procs.old procs.new result }
     ensures processors { KeepsProcessors procs.old procs.new result }
     ensures numbers { AreNumbered procs.new }
 {
-    match read_up_to(alloc, SCRIPT_LIMIT, source) {
-        Ok(input) => answer(alloc, play, input.as_slice(), sink, procs),
-        Err(ReadError::Fault) => Status::ReadFault,
-        Err(ReadError::Memory) => Status::NoMemory,
-    }
-}
-
-/// Answers an input: with its history, or with one line where it is no script.
-fn answer<K: Sink, B: Bank>(
-    alloc: Global,
-    play: Play,
-    input: &[u8],
-    sink: &mut K,
-    procs: &mut [Proc<B>],
-) -> Status
-    requires many { length procs.old ≡ 16 }
-    requires numbers { AreNumbered procs.old }
-    requires counts { AreUncounted B.state procs.old }
-    ensures ends { AnswerEnds B.state play input.now (output_of K.Sink sink.old) (output_of K.Sink sink.new) procs.old procs.new result }
-    ensures processors { KeepsProcessors procs.old procs.new result }
-    ensures numbers { AreNumbered procs.new }
-{
-    schedule_unseen();
-    if input.len() > SCRIPT_LIMIT {
-        return tell_too_long(sink);
-    }
-    match read_script(alloc, input) {
-        Ok(script) => write_run(alloc, &as_played(alloc, play, script), sink, procs),
-        Err(ScriptError::Refused { line, kind }) => tell_refusal(line, kind, sink),
-        Err(ScriptError::Memory) => Status::NoMemory,
-    }
-}
-
-/// Writes the line of a refusal.
-fn tell_refusal<K: Sink>(line: u32, kind: Kind, sink: &mut K) -> Status
-    ensures { TellEnds Status.Refused (refusal_text line kind) (output_of K.Sink sink.old) (output_of K.Sink sink.new) result }
-{
-    let mut text = RefusalLine::new();
-    write_refusal(line, kind, &mut text);
-    tell(sink, text.as_slice(), Status::Refused)
-}
-
-/// Runs a script and writes its history.
-fn write_run<K: Sink, B: Bank>(
-    alloc: Global,
-    script: &Script,
-    sink: &mut K,
-    procs: &mut [Proc<B>],
-) -> Status
-    requires valid { IsValid script.now }
-    requires many { length procs.old ≡ 16 }
-    requires numbers { AreNumbered procs.old }
-    requires counts { AreUncounted B.state procs.old }
-    ensures ends { WriteEnds B.state script.now (output_of K.Sink sink.old) (output_of K.Sink sink.new) procs.old procs.new result }
-    ensures processors { KeepsProcessors procs.old procs.new result }
-    ensures numbers { AreNumbered procs.new }
-{
-    match open_board(alloc, script) {
-        Ok(board) => {
-            let history = run_script(script, board, procs);
-            tell_history(script, history.events(), sink)
-        }
-        Err(_) => Status::NoMemory,
-    }
-}
-
-/// Writes a history, and answers its status.
-fn tell_history<K: Sink>(script: &Script, history: &[Event], sink: &mut K) -> Status
-    requires { AreTasksKnown script.now history.now }
-    ensures { TellEnds (told.status_of history.now) (history_text script.now history.now) (output_of K.Sink sink.old) (output_of K.Sink sink.new) result }
-{
-    match write_history(script, history, sink) {
-        Ok(()) => status_of(history),
-        Err(_) => Status::WriteFault,
+    match read_play(alloc, source, sink) {
+        Ok(script) => write_replay(alloc, &script, sink, procs),
+        Err(status) => status,
     }
 }

@@ -8,23 +8,27 @@ ghost use Rattle.xs_script.specs.Grammar.{Spells};
 ghost use Rattle.xs_top.specs.Demo.{DemoEnds, SummaryEnds};
 ghost use Rattle.xs_top.specs.Run.{AreNumbered, AreUncounted};
 
-use crate::running::{open_board, run_script};
+use crate::running::{open_shared, run_on_threads};
 use crate::summary::summary_line;
 use std::alloc::{AllocError, Global};
+use std::sync::Wait;
+use std::thread::Threads;
 use xs_bank::Bank;
 use xs_gen::{every_number_has_a_script, generate, no_number_is_refused};
 use xs_io::Sink;
-use xs_machine::Proc;
+use xs_machine::{Gate, Proc};
 use xs_model::Script;
 use xs_outside::{Status, tell};
 use xs_script::{ScriptError, read_script};
 
-/// Runs the generator's script of the number by its schedule, and writes the line of its summary.
-pub fn demo_call<K: Sink, B: Bank>(
+/// Runs the generator's script of the number with each of its processors on a thread, and writes the line of its summary.
+pub fn demo_call<R: Threads + Wait + Sync, K: Sink, B: Bank + Send, G: Gate + Sync>(
+    rt: &R,
     alloc: Global,
     number: u32,
     sink: &mut K,
     procs: &mut [Proc<B>],
+    gate: &G,
 ) -> Status
     requires many { length procs.old ≡ 16 }
     requires numbers { AreNumbered procs.old }
@@ -33,7 +37,7 @@ pub fn demo_call<K: Sink, B: Bank>(
     ensures numbers { AreNumbered procs.new }
 {
     match generated_script(alloc, number) {
-        Ok(script) => tell_run(alloc, &script, sink, procs),
+        Ok(script) => tell_run(rt, alloc, &script, sink, procs, gate),
         Err(_) => Status::NoMemory,
     }
 }
@@ -53,11 +57,13 @@ fn generated_script(alloc: Global, number: u32) -> Result<Script, AllocError>
 }
 
 /// Runs a script, and writes the line of its summary.
-fn tell_run<K: Sink, B: Bank>(
+fn tell_run<R: Threads + Wait + Sync, K: Sink, B: Bank + Send, G: Gate + Sync>(
+    rt: &R,
     alloc: Global,
     script: &Script,
     sink: &mut K,
     procs: &mut [Proc<B>],
+    gate: &G,
 ) -> Status
     requires valid { IsValid script.now }
     requires many { length procs.old ≡ 16 }
@@ -66,10 +72,10 @@ fn tell_run<K: Sink, B: Bank>(
     ensures ends { SummaryEnds B.state script.now (output_of K.Sink sink.old) (output_of K.Sink sink.new) procs.old procs.new result }
     ensures numbers { AreNumbered procs.new }
 {
-    let Ok(board) = open_board(alloc, script) else {
+    let Ok((shared, passes)) = open_shared(alloc, script) else {
         return Status::NoMemory;
     };
-    let history = run_script(script, board, procs);
+    let history = run_on_threads(rt, script, shared, passes, procs, gate);
     let line = summary_line(script, history.events());
     tell(sink, line.as_slice(), Status::Done)
 }

@@ -1,15 +1,12 @@
 //! The commands that play a script.
 
 ghost use Rattle.std.specs.Prelude.{◌≡◌, [], ◌∷◌, IfSome, IfNone};
-ghost use Rattle.xs_top.specs.Run.{IsPlayLine, play_words, played};
-
-use std::alloc::Global;
-use xs_model::{Items, Script};
+ghost use Rattle.xs_top.specs.Run.{IsPlayLine, play_words};
 
 /// How a script is played.
 #[derive(Clone, Copy, PartialEq, Eq)]
 pub enum Play {
-    /// `run`: the processors have their turns in the order of their numbers.
+    /// `run`: each processor runs on a thread of its own, and they come to their turns as they may.
     Run,
     /// `replay`: they have them as the script's schedule says.
     Replay,
@@ -27,17 +24,4 @@ pub fn play_named(word: &[u8]) -> Option<Play>
         return Some(Play::Replay);
     }
     None
-}
-
-/// The script as the command plays it: `run` ignores the schedule. Takes no memory.
-pub fn as_played(alloc: Global, play: Play, script: Script) -> Script
-    ensures { result ≡ played play script }
-{
-    match play {
-        Play::Run => Script {
-            sched: Items::new(alloc),
-            ..script
-        },
-        Play::Replay => script,
-    }
 }

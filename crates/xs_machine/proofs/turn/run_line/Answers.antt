@@ -5,6 +5,7 @@ use Rattle.xs_board.specs.declared.turn.Entry.{Entry}
 use Rattle.xs_machine.proofs.LineLemmas.{block_known, back_here, place_here, layout_here, on_here, outside_here, handles_here, none_here, line_here, entry_here, halted_lines, handler_over, body_over, outer_over, halted_over, after_line, if_longer}
 use Rattle.xs_machine.proofs.ScriptLemmas.{line_found, known_line, kernel_line, place_fits, line_follows}
 use Rattle.xs_machine.proofs.EntryLemmas.{keeps_more, keeps_cpu, keeps_halted}
+use Rattle.xs_machine.proofs.Marks.{end_mark, outer_mark, halt_mark, ran_mark, halted_name}
 use Rattle.xs_machine.proofs.turn.run_line.Goals as goal
 
 pub is_user-user-requires : goal.is_user-user-requires
@@ -25,7 +26,7 @@ returns-in_default-clause-after g c = λ t cpu first before start p are.
     let bank1 = g.B.Bank.state c.come_back.new.cpu.bank in
     let user = c.is_user-user.result in
     let same : user ≡ is_user script t = c.is_user-user.ensures ∙ ap (is_user script) are.turning.name in
-    let none = none_here script t cpu first before start items p c.args.task.now c.args.cpu.now bank are c.come_back.new.task c.come_back.new.cpu bank1 user same c.come_back.ensures c.in_default.ensures in
+    let none = none_here script t cpu first before start items p c.args.task.now c.args.cpu.now bank are c.come_back.new.task c.come_back.new.cpu bank1 user same c.come_back.ensures c.in_default.ensures.line in
     body_over script t cpu first before start items p c.args.task.now c.come_back.new.task c.args.cpu.now c.come_back.new.cpu bank bank1 are
     (back_here script t cpu first before start items p c.args.task.now c.args.cpu.now bank are c.come_back.new.task c.come_back.new.cpu bank1 user same c.come_back.ensures)
     (c.lines_follow.ensures.end script t start items p (length items) are.run none (handler_over script t cpu first before start items p c.args.task.now c.args.cpu.now bank are none))
@@ -43,7 +44,7 @@ returns-then-is_outer-clause-after g c = λ t cpu first before start p are.
     let order = c.in-Some.order.now in
     let same : user ≡ is_user script t = c.is_user-user.ensures ∙ ap (is_user script) are.turning.name in
     let back = back_here script t cpu first before start items p c.args.task.now c.args.cpu.now bank are c.come_back.new.task c.come_back.new.cpu bank1 user same c.come_back.ensures in
-    let at = line_here script t cpu first before start items p c.args.task.now c.args.cpu.now bank are c.come_back.new.task c.come_back.new.cpu bank1 user same c.come_back.ensures order c.in-Some.ensures in
+    let at = line_here script t cpu first before start items p c.args.task.now c.args.cpu.now bank are c.come_back.new.task c.come_back.new.cpu bank1 user same c.come_back.ensures order c.in-Some.ensures.line in
     let outer = sym c.is_outer.ensures ∙ c.if-is_outer.true in
     outer_over script t cpu first before start items p c.args.task.now c.come_back.new.task c.args.cpu.now c.come_back.new.cpu bank bank1 are back
     order.number (c.lines_follow.ensures.outer script t start items p (length items) order.number order are.run (record { at = at; number = refl; outer = outer }))
@@ -68,7 +69,7 @@ run_local-requires-clause-known g c =
     let user = c.is_user-user.result in
     let order = c.in-Some.order.now in
     let same : user ≡ is_user script r.t = c.is_user-user.ensures ∙ ap (is_user script) r.running.turning.name in
-    let at = line_here script r.t r.c r.first r.before r.start items r.private c.args.task.now c.args.cpu.now bank r.running c.come_back.new.task c.come_back.new.cpu bank1 user same c.come_back.ensures order c.in-Some.ensures in
+    let at = line_here script r.t r.c r.first r.before r.start items r.private c.args.task.now c.args.cpu.now bank r.running c.come_back.new.task c.come_back.new.cpu bank1 user same c.come_back.ensures order c.in-Some.ensures.line in
     let layout = layout_here script r.t r.c r.first r.before r.start items r.private c.args.task.now c.args.cpu.now bank r.running c.come_back.new.task c.come_back.new.cpu bank1 user same c.come_back.ensures in
     rw layout (known_line script c.requires.valid r.t r.private order at)
 
@@ -82,7 +83,7 @@ run_local-requires-clause-kind g c = λ kernel.
     let user = c.is_user-user.result in
     let order = c.in-Some.order.now in
     let same : user ≡ is_user script r.t = c.is_user-user.ensures ∙ ap (is_user script) r.running.turning.name in
-    let at = line_here script r.t r.c r.first r.before r.start items r.private c.args.task.now c.args.cpu.now bank r.running c.come_back.new.task c.come_back.new.cpu bank1 user same c.come_back.ensures order c.in-Some.ensures in
+    let at = line_here script r.t r.c r.first r.before r.start items r.private c.args.task.now c.args.cpu.now bank r.running c.come_back.new.task c.come_back.new.cpu bank1 user same c.come_back.ensures order c.in-Some.ensures.line in
     let outside = outside_here script r.t r.c r.first r.before r.start items r.private c.args.task.now c.args.cpu.now bank r.running c.come_back.new.task c.come_back.new.cpu bank1 user same c.come_back.ensures kernel in
     kernel_line script c.requires.valid r.t r.private order at outside (sym same ∙ kernel)
 
@@ -96,7 +97,7 @@ run_local-requires-clause-inside g c = λ returns.
     let user = c.is_user-user.result in
     let order = c.in-Some.order.now in
     let same : user ≡ is_user script r.t = c.is_user-user.ensures ∙ ap (is_user script) r.running.turning.name in
-    let at = line_here script r.t r.c r.first r.before r.start items r.private c.args.task.now c.args.cpu.now bank r.running c.come_back.new.task c.come_back.new.cpu bank1 user same c.come_back.ensures order c.in-Some.ensures in
+    let at = line_here script r.t r.c r.first r.before r.start items r.private c.args.task.now c.args.cpu.now bank r.running c.come_back.new.task c.come_back.new.cpu bank1 user same c.come_back.ensures order c.in-Some.ensures.line in
     let l = line_found script r.t r.private order at in
     let inside = c.named_known.ensures.inside script r.t l.lines r.private order c.requires.valid l.known l.at returns in
     handles_here script r.t r.c r.first r.before r.start items r.private c.args.task.now c.args.cpu.now bank r.running c.come_back.new.task c.come_back.new.cpu bank1 user same c.come_back.ensures inside
@@ -111,7 +112,7 @@ run_local-requires-clause-fits g c =
     let user = c.is_user-user.result in
     let order = c.in-Some.order.now in
     let same : user ≡ is_user script r.t = c.is_user-user.ensures ∙ ap (is_user script) r.running.turning.name in
-    let at = line_here script r.t r.c r.first r.before r.start items r.private c.args.task.now c.args.cpu.now bank r.running c.come_back.new.task c.come_back.new.cpu bank1 user same c.come_back.ensures order c.in-Some.ensures in
+    let at = line_here script r.t r.c r.first r.before r.start items r.private c.args.task.now c.args.cpu.now bank r.running c.come_back.new.task c.come_back.new.cpu bank1 user same c.come_back.ensures order c.in-Some.ensures.line in
     let fits = place_fits script c.requires.valid r.t r.private order at in
     let place = place_here script r.t r.c r.first r.before r.start items r.private c.args.task.now c.args.cpu.now bank r.running c.come_back.new.task c.come_back.new.cpu bank1 user same c.come_back.ensures in
     omega (arith, fits, place)
@@ -126,7 +127,7 @@ returns-in-Err-clause-after g c = λ t cpu first before start p are.
     let order = c.in-Some.order.now in
     let same : user ≡ is_user script t = c.is_user-user.ensures ∙ ap (is_user script) are.turning.name in
     let back = back_here script t cpu first before start items p c.args.task.now c.args.cpu.now bank are c.come_back.new.task c.come_back.new.cpu bank1 user same c.come_back.ensures in
-    let at = line_here script t cpu first before start items p c.args.task.now c.args.cpu.now bank are c.come_back.new.task c.come_back.new.cpu bank1 user same c.come_back.ensures order c.in-Some.ensures in
+    let at = line_here script t cpu first before start items p c.args.task.now c.args.cpu.now bank are c.come_back.new.task c.come_back.new.cpu bank1 user same c.come_back.ensures order c.in-Some.ensures.line in
     let bank2 = g.B.Bank.state c.run_local.new.cpu.bank in
     let close = c.in-Err.close in
     halted_over script t cpu first before start items p c.args.task.now c.come_back.new.task c.args.cpu.now c.come_back.new.cpu bank bank1 are back
@@ -149,7 +150,7 @@ returns-clause-after g c = λ t cpu first before start p are.
     let order = c.in-Some.order.now in
     let same : user ≡ is_user script t = c.is_user-user.ensures ∙ ap (is_user script) are.turning.name in
     let back = back_here script t cpu first before start items p c.args.task.now c.args.cpu.now bank are c.come_back.new.task c.come_back.new.cpu bank1 user same c.come_back.ensures in
-    let at = line_here script t cpu first before start items p c.args.task.now c.args.cpu.now bank are c.come_back.new.task c.come_back.new.cpu bank1 user same c.come_back.ensures order c.in-Some.ensures in
+    let at = line_here script t cpu first before start items p c.args.task.now c.args.cpu.now bank are c.come_back.new.task c.come_back.new.cpu bank1 user same c.come_back.ensures order c.in-Some.ensures.line in
     let l = line_found script t p order at in
     let found = c.lines_found.ensures script t l.lines p order c.requires.valid l.known l.at in
     let bank2 = g.B.Bank.state c.run_local.new.cpu.bank in
@@ -172,3 +173,36 @@ returns-clause-longer g c = rw c.push.ensures.items (if_longer c.args.entries.no
 
 pub returns-clause-kept : goal.returns-clause-kept
 returns-clause-kept g c = keeps_more c.args.cpu.now c.come_back.new.cpu c.run_local.new.cpu (keeps_cpu c.args.cpu.now c.come_back.new.cpu c.come_back.ensures.cpu) (keeps_cpu c.come_back.new.cpu c.run_local.new.cpu c.in-Ok.ensures.cpu)
+
+-- the mark after it, and the task's name
+
+pub returns-in_default-clause-mark : goal.returns-in_default-clause-mark
+returns-in_default-clause-mark g c =
+    end_mark c.args.script.now c.args.entries.now.items c.args.task.now c.args.cpu.now (g.B.Bank.state c.args.cpu.now.bank) c.requires.turning
+    c.come_back.new.task c.come_back.new.cpu (g.B.Bank.state c.come_back.new.cpu.bank) c.is_user-user.result c.is_user-user.ensures c.come_back.ensures c.in_default.ensures.order
+
+pub returns-then-is_outer-clause-mark : goal.returns-then-is_outer-clause-mark
+returns-then-is_outer-clause-mark g c =
+    outer_mark c.args.script.now c.args.entries.now.items c.args.task.now c.args.cpu.now (g.B.Bank.state c.args.cpu.now.bank) c.requires.turning
+    c.come_back.new.task c.come_back.new.cpu (g.B.Bank.state c.come_back.new.cpu.bank) c.is_user-user.result c.is_user-user.ensures c.come_back.ensures c.in-Some.order.now c.in-Some.ensures.order
+    (sym c.is_outer.ensures ∙ c.if-is_outer.true)
+
+pub returns-in-Err-clause-mark : goal.returns-in-Err-clause-mark
+returns-in-Err-clause-mark g c =
+    halt_mark c.args.script.now c.args.entries.now.items c.args.task.now c.args.cpu.now (g.B.Bank.state c.args.cpu.now.bank) c.requires.turning
+    c.come_back.new.task c.come_back.new.cpu (g.B.Bank.state c.come_back.new.cpu.bank) c.is_user-user.result c.is_user-user.ensures c.come_back.ensures c.in-Some.order.now c.in-Some.ensures.order
+    c.in-Err.close c.run_local.new.task c.run_local.new.cpu (g.B.Bank.state c.run_local.new.cpu.bank) c.in-Err.ensures
+
+pub returns-clause-mark : goal.returns-clause-mark
+returns-clause-mark g c =
+    ran_mark c.args.script.now c.args.entries.now.items c.args.task.now c.args.cpu.now (g.B.Bank.state c.args.cpu.now.bank) c.requires.turning
+    c.come_back.new.task c.come_back.new.cpu (g.B.Bank.state c.come_back.new.cpu.bank) c.is_user-user.result c.is_user-user.ensures c.come_back.ensures c.in-Some.order.now c.in-Some.ensures.order
+    c.run_local.new.cpu.mark c.in-Ok.ensures.mark
+
+pub returns-in-Err-clause-name : goal.returns-in-Err-clause-name
+returns-in-Err-clause-name g c =
+    halted_name c.is_user-user.result c.in-Some.order.now.command c.in-Err.close c.come_back.new.task c.run_local.new.task c.come_back.new.cpu c.run_local.new.cpu (g.B.Bank.state c.come_back.new.cpu.bank) (g.B.Bank.state c.run_local.new.cpu.bank) c.in-Err.ensures
+    ∙ c.come_back.ensures.name
+
+pub returns-clause-name : goal.returns-clause-name
+returns-clause-name g c = c.in-Ok.ensures.name ∙ c.come_back.ensures.name

@@ -17,8 +17,8 @@ each-preserved g c =
     let lt : n < length procs = omega (arith, c.each-test.true, c.requires.many, c.each.auto.procs) in
     let ready = next_ready state script procs n old new lt c.index-procs-number.is so_far.numbers now.number now.layout now.set_up now.mark in
     record {
-      first = first_and_next state script procs n (record { cpu = new }) so_far.first ready;
-      numbers = numbers_set procs n (record { cpu = new }) so_far.numbers ready.number_is;
-      counts = counts_set state procs n (record { cpu = new }) so_far.counts (next_uncounted state script.layout procs n old new lt c.index-procs-number.is so_far.counts now.bank);
-      others = drop-set-lt script.cpus procs n (record { cpu = new }) c.each-test.true ∙ so_far.others;
+      first = first_and_next state script procs n (record { cpu = new; pass = old.pass }) so_far.first ready;
+      numbers = numbers_set procs n (record { cpu = new; pass = old.pass }) so_far.numbers ready.number_is;
+      counts = counts_set state procs n (record { cpu = new; pass = old.pass }) so_far.counts (next_uncounted state script.layout procs n old new lt c.index-procs-number.is so_far.counts now.bank);
+      others = drop-set-lt script.cpus procs n (record { cpu = new; pass = old.pass }) c.each-test.true ∙ so_far.others;
     }

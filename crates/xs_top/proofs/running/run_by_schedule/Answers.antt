@@ -1,7 +1,7 @@
 -- What a run leaves: that of the schedule, over processors that are set up.
 use Rattle.std.proofs.Common.{◌≡◌, length, ◌∙◌, arith}
 use Rattle.xs_top.proofs.RunLemmas.{known_tasks, machine_kept, numbers_kept}
-use Rattle.xs_top.proofs.running.run_script.Goals as goal
+use Rattle.xs_top.proofs.running.run_by_schedule.Goals as goal
 
 pub returns-clause-run : goal.returns-clause-run
 returns-clause-run g c =
@@ -10,7 +10,7 @@ returns-clause-run g c =
     let len : length c.run_schedule.new.procs ≡ length c.set_up.new.procs = omega (arith, c.run_schedule.auto.procs, c.set_up.auto.procs) in
     record {
       whole = ran.whole;
-      replay = ran.replay;
+      played = ran.replay;
       banks = ran.banks;
       machine = machine_kept g.B.Bank.state script c.set_up.new.procs c.run_schedule.new.procs len ran.kept c.set_up.ensures.set_up;
       others = ran.others ∙ c.set_up.ensures.others;
