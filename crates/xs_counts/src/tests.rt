@@ -2,8 +2,14 @@
 
 use crate::call::counts_call;
 use std::alloc::{AllocError, Global};
+use std::sync::Wait;
+use std::sync::atomic::AtomicBool;
+use std::sync::atomic::Ordering::SeqCst;
 use std::test::Fail;
+use std::thread;
+use std::thread::Threads;
 use xs_io::{MemSink, MemSource};
+use xs_machine::{Gate, OpenGate, Point};
 use xs_outside::Status;
 use xs_top::{processors, top};
 
@@ -157,7 +163,8 @@ const HISTORY: &[u8] = b"start a 0 load -\nlocal a 7 =00000000000000000000000000
 /// Runs the script over a source and a sink in memory: the read and the write of these numbers fail, none where the number
 /// is 0, and the sink has room for so many bytes. Answers the status, and how many bytes of the history were written: none
 /// where other bytes were.
-fn run_with(
+fn run_with<T: Threads + Wait + Sync>(
+    threads: &T,
     alloc: Global,
     read: u64,
     write: u64,
@@ -168,7 +175,15 @@ fn run_with(
     let mut source = MemSource::new(bytes, vec![in alloc; read]?);
     let mut sink = MemSink::open(alloc, room, vec![in alloc; write]?)?;
     let mut procs = processors(alloc)?;
-    let status = top(alloc, &words, &mut source, &mut sink, &mut procs);
+    let status = top(
+        threads,
+        alloc,
+        &words,
+        &mut source,
+        &mut sink,
+        &mut procs,
+        &OpenGate,
+    );
     let written = sink.bytes();
     let is_front = HISTORY.starts_with(written);
     Ok((status, is_front.then_some(written.len())))
@@ -185,8 +200,90 @@ fn faults_are_told(rt: HostRuntime) -> Result<(), Fail> {
         (0, 0, 30, Status::WriteFault, 30),
         (0, 0, 66, Status::WriteFault, 66),
     ] {
-        let answer = run_with(rt.alloc(), read, write, room)?;
+        let answer = run_with(&rt, rt.alloc(), read, write, room)?;
         assert_eq!(rt; answer, (status, Some(written)));
     }
+    Ok(())
+}
+
+/// Two tasks on two processors. The first turn of each processor waits for that of the other.
+const PAIR: &str = "\
+xstate 1
+machine amx
+cpus 2
+quantum 1
+large 0
+task a
+set xmm0 11111111111111111111111111111111
+get xmm0
+end
+task b
+set xmm0 22222222222222222222222222222222
+get xmm0
+end
+";
+
+/// Holds a processor that took its first turn until the other one did too, or for as many turns of its loop as the limit.
+struct Meeting {
+    came: [AtomicBool; 2],
+}
+
+const LIMIT: u32 = 10_000_000;
+
+impl Gate for Meeting {
+    fn at(&self, cpu: u32, point: Point) {
+        if cpu > 1 || point != Point::Took {
+            return;
+        }
+        let cpu = cpu as usize;
+        self.came[cpu].store(true, SeqCst);
+        'meets: for _ in 0..LIMIT {
+            if self.came[1 - cpu].load(SeqCst) {
+                break;
+            }
+            thread::yield_now();
+        }
+    }
+}
+
+/// What the program answers to this word and input, at this gate.
+fn answer_at<T: Threads + Wait + Sync, G: Gate + Sync>(
+    threads: &T,
+    alloc: Global,
+    word: &str,
+    input: &[u8],
+    gate: &G,
+) -> Result<(Status, Vec<u8>), AllocError> {
+    let words = vec![in alloc; String::from_str(alloc, word)?]?;
+    let mut source = MemSource::new(Vec::from_slice(alloc, input)?, Vec::new(alloc));
+    let mut sink = MemSink::open(alloc, 1000, Vec::new(alloc))?;
+    let mut procs = processors(alloc)?;
+    let status = top(
+        threads,
+        alloc,
+        &words,
+        &mut source,
+        &mut sink,
+        &mut procs,
+        gate,
+    );
+    Ok((status, Vec::from_slice(alloc, sink.bytes())?))
+}
+
+/// Whatever their order is, both processors have a turn at once, and `check` finds the history legal.
+#[test]
+fn two_processors_run_at_once(rt: HostRuntime) -> Result<(), Fail> {
+    let alloc = rt.alloc();
+    let meeting = Meeting {
+        came: [AtomicBool::new(false), AtomicBool::new(false)],
+    };
+    let (status, history) = answer_at(&rt, alloc, "run", PAIR.as_bytes(), &meeting)?;
+    let [one, other] = &meeting.came;
+    let met = one.load(SeqCst) && other.load(SeqCst);
+    let mut input = Vec::from_slice(alloc, PAIR.as_bytes())?;
+    input.extend_from_slice(b"%%\n")?;
+    input.extend_from_slice(&history)?;
+    let (verdict, _) = answer_at(&rt, alloc, "check", &input, &OpenGate)?;
+    assert_eq!(rt; (status, met, verdict), (Status::Done, true, Status::Done));
     Ok(())
 }

@@ -75,5 +75,3 @@ nothing_follows script [] past none legal = refl
 nothing_follows script (event ∷ newer) past none legal =
     let nothing = nothing_follows script newer past none legal.0 in
     absurd (no_step (machine script past) event none (subst (λ (more : List Event). IsStep (machine script (more ++ past)) event) nothing legal.1))
-
-

@@ -44,15 +44,15 @@ module _ {B : Type 0} (state : B → banks.Bank) (script : Script) (front back :
         compare (HasRun script history i proc.cpu (state proc.cpu.bank)) i (length new)
         (λ below. run i proc (sym (in_front new back i below) ∙ is))
         (λ above.
-            let old : slice_get (front ++ back) i ≡ Some proc = behind front back i (omega (arith, as_many, above)) ∙ ap (λ (n : ℕ). slice_get back (i - n)) (sym as_many) ∙ sym (behind new back i above) ∙ is in
-            beyond i proc.cpu (state proc.cpu.bank) (omega (arith, as_many, many, above)) (set_up.counts i proc old))
+        let old : slice_get (front ++ back) i ≡ Some proc = behind front back i (omega (arith, as_many, above)) ∙ ap (λ (n : ℕ). slice_get back (i - n)) (sym as_many) ∙ sym (behind new back i above) ∙ is in
+        beyond i proc.cpu (state proc.cpu.bank) (omega (arith, as_many, many, above)) (set_up.counts i proc old))
 
     pub all_keep : KeepProcessors front new → KeepProcessors (front ++ back) (new ++ back)
     all_keep keeps i before after old now =
         compare (KeepsProcessor before.cpu after.cpu) i (length new)
         (λ below. keeps i before after (sym (in_front front back i (omega (arith, as_many, below))) ∙ old) (sym (in_front new back i below) ∙ now))
         (λ above.
-            let there : slice_get (front ++ back) i ≡ slice_get (new ++ back) i = behind front back i (omega (arith, as_many, above)) ∙ ap (λ (n : ℕ). slice_get back (i - n)) (sym as_many) ∙ sym (behind new back i above) in
-            let same : Some before ≡ Some after = sym old ∙ there ∙ now in
-            let is : before ≡ after = cc same in
-            subst (λ (proc : Proc B). KeepsProcessor before.cpu proc.cpu) is (record { number = refl; layout = refl; initial = refl }))
+        let there : slice_get (front ++ back) i ≡ slice_get (new ++ back) i = behind front back i (omega (arith, as_many, above)) ∙ ap (λ (n : ℕ). slice_get back (i - n)) (sym as_many) ∙ sym (behind new back i above) in
+        let same : Some before ≡ Some after = sym old ∙ there ∙ now in
+        let is : before ≡ after = cc same in
+        subst (λ (proc : Proc B). KeepsProcessor before.cpu proc.cpu) is (record { number = refl; layout = refl; initial = refl }))

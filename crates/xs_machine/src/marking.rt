@@ -46,11 +46,26 @@ pub fn begin_marked<B: Bank>(
     ensures begun { Begun turn result cpu.old cpu.new (B.state cpu.old.bank) (B.state cpu.new.bank) }
     ensures pass { HasPass (name_of shared.now) cpu.old.number (view pass.old).last cpu.new.mark pass.new }
 {
-    if turn.how != How::Load {
-        return begin_turn(cpu, turn);
+    match turn.how {
+        How::Load => {
+            shared.mark(pass, None);
+            begin_unmarked(shared, pass, cpu, turn)
+        }
+        _ => begin_held(cpu, turn),
     }
-    shared.mark(pass, None);
-    begin_unmarked(shared, pass, cpu, turn)
+}
+
+/// Begins a turn whose registers the bank still holds, or that has none. The processor keeps its mark.
+fn begin_held<B: Bank>(cpu: &mut Cpu<B>, turn: Turn) -> Turn
+    requires set_up { WasSetUp cpu.old.layout (B.state cpu.old.bank) cpu.old.initial }
+    requires home { (p : PrivateTask) × MayBegin cpu.old.layout turn (B.state cpu.old.bank) p }
+    requires skip { turn.how ≡ hows.Skip → (cpu.old.mark ≡ Some turn.task.name) × (turn.task.last ≡ Some cpu.old.number) }
+    requires quiet { is_user_how turn.how ≡ false → turn.signal ≡ None }
+    requires held { turn.how ≡ hows.Load → ⊥ }
+    ensures begun { Begun turn result cpu.old cpu.new (B.state cpu.old.bank) (B.state cpu.new.bank) }
+    ensures mark { cpu.new.mark ≡ cpu.old.mark }
+{
+    begin_turn(cpu, turn)
 }
 
 /// Begins a turn whose registers come to the bank, on a processor whose mark word is none. Then the task is its mark.
@@ -147,8 +162,32 @@ fn run_marked_line<B: Bank>(
     machine_known();
     if is_section_next(script, task) {
         shared.mark(pass, None);
-        return run_section(script, pass, cpu, task, entries);
+        run_section(script, pass, cpu, task, entries)
+    } else {
+        run_plain(script, shared, pass, cpu, task, entries)
     }
+}
+
+/// Runs the next line of a turn, which is no kernel section. A user task whose registers came back for it becomes the mark.
+fn run_plain<B: Bank>(
+    script: &Script,
+    shared: &Shared<Board>,
+    pass: &mut Pass<Board>,
+    cpu: &mut Cpu<B>,
+    task: &mut Task,
+    entries: &mut Entries,
+) -> Option<Close>
+    requires valid { IsValid script.now }
+    requires turning { SomeRunning script.now entries.old.items task.old cpu.old (B.state cpu.old.bank) }
+    requires plain { is_next_section script.now task.old ≡ false }
+    requires pass { HasPass (name_of shared.now) cpu.old.number (view pass.old).last cpu.old.mark pass.old }
+    requires runs { is_user script.now task.old.name ≡ true → Runs cpu.old.number (view pass.old).last task.old.name }
+    ensures after { (t c : ℕ) (past : List Event) (before : banks.Bank) (start private : PrivateTask) → AreRunning script.now t c past before start entries.old.items private task.old cpu.old (B.state cpu.old.bank) → AfterLine script.now t c past before start entries.new.items result task.new cpu.new (B.state cpu.new.bank) }
+    ensures longer { IfNone result (length entries.new.items ≡ length entries.old.items + 1) }
+    ensures name { task.new.name ≡ task.old.name }
+    ensures kept { KeepsProcessor cpu.old cpu.new }
+    ensures pass { HasPass (name_of shared.now) cpu.old.number (view pass.old).last cpu.new.mark pass.new }
+{
     let mark = cpu.mark;
     let close = run_line(script, cpu, task, entries);
     if cpu.mark != mark {

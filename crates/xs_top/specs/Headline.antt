@@ -1,7 +1,7 @@
--- The sentence that the program stands for: the bytes written are the text of one whole history of the script that was read, and
--- each processor's bank has counted and still holds what this history says. What is whole is said of a machine where every task
--- owns its registers, so each lane read is that machine's, and a Start is a skip exactly where the bank still holds the task's
--- current state.
+-- The sentence that the program stands for, of every script, number of processors and interleaving of their steps: the bytes written
+-- are the text of one whole history of the script that was read, and each processor's bank has counted and still holds what this
+-- history says. What is whole is said of a machine where every task owns its registers, so each lane read is that machine's, and a
+-- Start is a skip exactly where the bank still holds the task's current state.
 use Rattle.std.specs.Prelude.{◌≡◌, ℕ, List, ⊤}
 use Rattle.std.specs.Io.KnownBytes.{Appends, Consumes, IsAtEnd}
 use Rattle.xs_bank.specs.Bank.{Bank}
@@ -18,8 +18,8 @@ use Rattle.xs_top.specs.Answers.{IsAccepted, IsRefused}
 use Rattle.xs_top.specs.Run.{IsRunOf}
 
 -- The input was read to its end, it is the text of a script, and what was written is the text of one history. That is a whole
--- history of this script, the one that the command plays, and the processors are as this run leaves them. The status tells
--- whether a task is killed in it.
+-- history of this script, one that the command may write, and the processors are as this run leaves them. For `run` that is so
+-- whatever the interleaving of its processors' steps was. The status tells whether a task is killed in it.
 pub record Headline {B : Type 0} (state : B → Bank) (play : Play) (before after : Outside) (old new : List (Proc B)) (result : Status) : Type 0 where
   pub input : List ℕ
   pub read : Consumes before.input.left after.input.left input

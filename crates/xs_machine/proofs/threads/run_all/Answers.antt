@@ -12,15 +12,14 @@ work_all-requires-clause-ready g c = λ _ _. all_ready (name_of c.args.shared) c
 pub close-requires : goal.close-requires
 close-requires g c =
     let numbers = all_numbered (name_of c.args.shared) c.args.script.now (opened c.args.passes) c.requires.valid c.requires.script c.requires.new g.B.Bank.state c.args.procs.now c.seat.new.procs c.args.passes.list.items c.requires.many c.requires.count c.requires.set_up c.requires.passes c.seat.ensures.procs c.seat.ensures.many c.work_all.new.procs c.work_all.ensures.many c.work_all.ensures.kept in
-    let some : 0 < length c.args.procs.now = omega (arith, c.requires.many, c.requires.valid.cpus.0) in
-    (
+    let some : 0 < length c.args.procs.now = omega (arith, c.requires.many, c.requires.valid.cpus.0) in (
       search rules,
       (
-      record {
-        table = c.requires.all.table;
-        count = c.collect.ensures.count ∙ c.work_all.ensures.many ∙ c.seat.ensures.many ∙ c.requires.many ∙ sym c.requires.count ∙ c.requires.all.count;
-      },
-      all_idle (name_of c.args.shared) c.args.script.now g.B.Bank.state (head_of c.args.procs.now some) c.work_all.new.procs c.collect.new.list.items c.collect.ensures.count numbers c.work_all.ensures.done c.collect.ensures.list,
+        record {
+          table = c.requires.all.table;
+          count = c.collect.ensures.count ∙ c.work_all.ensures.many ∙ c.seat.ensures.many ∙ c.requires.many ∙ sym c.requires.count ∙ c.requires.all.count;
+        },
+        all_idle (name_of c.args.shared) c.args.script.now g.B.Bank.state (head_of c.args.procs.now some) c.work_all.new.procs c.collect.new.list.items c.collect.ensures.count numbers c.work_all.ensures.done c.collect.ensures.list,
       ),
     )
 
