@@ -1,5 +1,5 @@
 -- What is answered for an input that is known as a whole.
-use Rattle.std.proofs.Common.{◌≡◌, ℕ, ◌≤◌, List, ◌++◌, length, length-append, Some, None, refl, sym, ap, ◌∙◌, subst, arith}
+use Rattle.std.proofs.Common.{◌≡◌, ℕ, ◌≤◌, List, [], ◌++◌, length, length-append, Some, None, refl, sym, ap, ◌∙◌, subst, arith}
 use Rattle.std.proofs.lemmas.List.{append-nil}
 use Rattle.std.specs.Prelude.{Option}
 use Rattle.std.specs.Io.KnownBytes.{Appends, Consumes, IsAtEnd}
@@ -13,7 +13,7 @@ use Rattle.xs_script.specs.declared.refusal.Kind.{Kind}
 use Rattle.xs_script.specs.Grammar.{Spells}
 use Rattle.xs_script.specs.Refusal.{Refuses}
 use Rattle.xs_script.specs.RefusalText.{refusal_text}
-use Rattle.xs_outside.specs.Outside.{Input, Outside, IsRead, script_limit}
+use Rattle.xs_outside.specs.Outside.{Input, Outside, IsRead, TakesAtMost, script_limit}
 use Rattle.xs_top.specs.Answers.{IsAccepted, IsRefused, TooLong, ByLine, PlayEnds}
 use Rattle.xs_top.specs.Headline.{MayRun, MayRefuse}
 
@@ -97,3 +97,11 @@ may_refuse state play input line before after old new statuses.ReadFault not_bot
 may_refuse state play input line before after old new statuses.WriteFault not_both one is refused ends = tt
 may_refuse state play input line before after old new statuses.NoMemory not_both one is refused ends = tt
 may_refuse state play input line before after old new statuses.Usage not_both one is refused ends = ends
+
+-- nothing was taken of an input that stays
+consumes_none : (left : Option (List ℕ)) → Consumes left left []
+consumes_none None = tt
+consumes_none (Some bytes) = refl
+
+pub takes_nothing : (input : Input) → TakesAtMost script_limit input input
+takes_nothing input = record { bytes = []; taken = consumes_none input.left; most = omega arith }

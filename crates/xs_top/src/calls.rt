@@ -104,8 +104,7 @@ pub fn top<R: Threads + Wait + Sync, S: Source, K: Sink, B: Bank + Send, G: Gate
     one_refusal();
     not_both();
     match command_of(words) {
-        Some(Command::Play(Play::Run)) => play_call(rt, alloc, source, sink, procs, gate),
-        Some(Command::Play(Play::Replay)) => schedule_call(alloc, source, sink, procs),
+        Some(Command::Play(play)) => play_call(rt, alloc, play, source, sink, procs, gate),
         Some(Command::Check) => check_call(alloc, source, sink),
         Some(Command::Gen(number)) => gen_call(alloc, number, sink),
         Some(Command::Demo(number)) => demo_call(rt, alloc, number, sink, procs, gate),
@@ -153,8 +152,31 @@ pub fn replay_call<S: Source, K: Sink, B: Bank>(
     schedule_call(alloc, source, sink, procs)
 }
 
-/// Reads a script, runs it on threads and writes its history.
+/// Reads a script, plays it as the command does and writes its history.
 fn play_call<R: Threads + Wait + Sync, S: Source, K: Sink, B: Bank + Send, G: Gate + Sync>(
+    rt: &R,
+    alloc: Global,
+    play: Play,
+    source: &mut S,
+    sink: &mut K,
+    procs: &mut [Proc<B>],
+    gate: &G,
+) -> Status
+    requires many { length procs.old ≡ 16 }
+    requires numbers { AreNumbered procs.old }
+    requires counts { AreUncounted B.state procs.old }
+    ensures ends { PlayEnds B.state play (outside S.Source K.Sink source.old sink.old) (outside S.Source K.Sink source.new sink.new) procs.old procs.new result }
+    ensures processors { KeepsProcessors procs.old procs.new result }
+    ensures numbers { AreNumbered procs.new }
+{
+    match play {
+        Play::Run => threads_call(rt, alloc, source, sink, procs, gate),
+        Play::Replay => schedule_call(alloc, source, sink, procs),
+    }
+}
+
+/// Reads a script, runs it on threads and writes its history.
+fn threads_call<R: Threads + Wait + Sync, S: Source, K: Sink, B: Bank + Send, G: Gate + Sync>(
     rt: &R,
     alloc: Global,
     source: &mut S,

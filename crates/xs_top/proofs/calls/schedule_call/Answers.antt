@@ -5,16 +5,16 @@ use Rattle.xs_top.proofs.AnswerLemmas.{none_played, played, same_keeps}
 use Rattle.xs_top.proofs.calls.schedule_call.Goals as goal
 
 pub write_replay-requires-clause-valid : goal.write_replay-requires-clause-valid
-write_replay-requires-clause-valid g c = c.in-Ok.ensures.accepted.spelled.valid
+write_replay-requires-clause-valid g c = c.in-Ok.ensures.script.accepted.spelled.valid
 
 pub returns-in-Ok-clause-ends : goal.returns-in-Ok-clause-ends
 returns-in-Ok-clause-ends g c =
     played g.B.Bank.state Replay c.in-Ok.script (outside g.S.Source g.K.Sink c.args.source.now c.args.sink.now) (input_of g.S.Source c.read_play.new.source) (output_of g.K.Sink c.read_play.new.sink) (output_of g.K.Sink c.write_replay.new.sink)
-    c.args.procs.now c.write_replay.new.procs c.in-Ok.ensures c.write_replay.result c.write_replay.ensures.ends
+    c.args.procs.now c.write_replay.new.procs c.in-Ok.ensures.script c.write_replay.result c.write_replay.ensures.ends
 
 pub returns-in-Err-clause-ends : goal.returns-in-Err-clause-ends
 returns-in-Err-clause-ends g c =
-    none_played g.B.Bank.state Replay (outside g.S.Source g.K.Sink c.args.source.now c.args.sink.now) (outside g.S.Source g.K.Sink c.read_play.new.source c.read_play.new.sink) c.args.procs.now c.in-Err.status c.in-Err.ensures
+    none_played g.B.Bank.state Replay (outside g.S.Source g.K.Sink c.args.source.now c.args.sink.now) (outside g.S.Source g.K.Sink c.read_play.new.source c.read_play.new.sink) c.args.procs.now c.in-Err.status c.in-Err.ensures.none
 
 pub returns-in-Err-clause-processors : goal.returns-in-Err-clause-processors
 returns-in-Err-clause-processors g c = same_keeps c.args.procs.now c.in-Err.status
