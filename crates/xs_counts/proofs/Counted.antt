@@ -53,7 +53,7 @@ counted state input text old new ran = record {
   accepted = ran.accepted;
   history = ran.history;
   whole = ran.run.whole;
-  replay = ran.run.replay;
+  replay = ran.run.played;
   written = ap (λ (front : List ℕ). front ++ counts_text ran.script ran.history) ran.written;
 }
 

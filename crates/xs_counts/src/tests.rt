@@ -224,6 +224,7 @@ end
 ";
 
 /// Holds a processor that took its first turn until the other one did too, or for as many turns of its loop as the limit.
+#[derive(Drop)]
 struct Meeting {
     came: [AtomicBool; 2],
 }

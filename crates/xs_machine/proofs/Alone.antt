@@ -1,7 +1,6 @@
 -- On one processor every event is its own, and the history is the replay.
-use Rattle.std.proofs.Common.{◌≡◌, ℕ, zero, suc, ◌+◌, ◌-◌, ◌<◌, ◌≤◌, Bool, true, false, not, ◌&&◌, ◌==◌, nat_lt, List, [], ◌∷◌, ◌++◌, length, reverse, Option, Some, None, if◌then◌else◌, slice_get, refl, sym, ap, ◌∙◌, subst, inl, inr, arith}
-use Rattle.std.proofs.lemmas.Bool.{and_parts, cases_Bool, eq-eqb, ltb-true}
-use Rattle.std.proofs.lemmas.List.{reverse-reverse}
+use Rattle.std.proofs.Common.{◌≡◌, ℕ, zero, suc, ◌+◌, ◌-◌, ◌<◌, ◌≤◌, Bool, true, false, not, ◌&&◌, ◌==◌, nat_lt, List, [], ◌∷◌, ◌++◌, length, reverse, Option, Some, None, if◌then◌else◌, slice_get, refl, sym, ap, ◌∙◌, subst, arith}
+use Rattle.std.proofs.lemmas.Bool.{ltb-true}
 use Rattle.std.specs.List.{AllByRecursion}
 use Rattle.xs_model.specs.declared.event.Event.{Event}
 use Rattle.xs_model.specs.declared.event.Event.TheVariants.{Start, Local, Outer, Grow, Kill, End}
@@ -14,13 +13,13 @@ use Rattle.xs_model.specs.Counts.{is_event_on}
 use Rattle.xs_model.specs.Due.{block_event, block_start, due, turn_event}
 use Rattle.xs_model.specs.Laws.{AreElsewhere, TurnsKnown}
 use Rattle.xs_model.specs.Machine.{IsLegalPast, IsStep, machine}
-use Rattle.xs_model.specs.Note.{act_of, cpu_of, is_at, is_count, is_section, notes_of, set_target, start_cpu, task_of}
+use Rattle.xs_model.specs.Note.{act_of, cpu_of, is_count, is_section, notes_of, set_target, start_cpu, task_of}
 use Rattle.xs_model.specs.Replay.{IsReplay, entries, entry, rounds, schedule_of}
 use Rattle.xs_model.specs.Script.{IsValid, command_at}
 use Rattle.xs_model.specs.State.{BlockState, Machine, none_lives, stage_of, turn_cpu, turn_of}
 use Rattle.xs_model.proofs.Replaying.{idle_entry}
 use Rattle.xs_machine.specs.Threads.{entered, IsEntered}
-use Rattle.xs_machine.proofs.Histories.{at_self, outer_closes}
+use Rattle.xs_machine.proofs.Histories.{outer_closes}
 use Rattle.xs_machine.proofs.Stages.{script_stays}
 use Rattle.xs_machine.proofs.TurnLemmas.{start_by}
 

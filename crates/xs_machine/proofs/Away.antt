@@ -1,12 +1,11 @@
 -- A turn whose lines ran away from the board, by each board that has the turn.
-use Rattle.std.proofs.Common.{◌≡◌, ℕ, ◌<◌, true, List, [], length, Option, Some, ap, ◌∙◌, subst, sym}
+use Rattle.std.proofs.Common.{◌≡◌, ℕ, ◌<◌, true, List, [], length, Some, subst}
 use Rattle.xs_base.specs.Task.{PrivateTask}
 use Rattle.xs_bank.specs.declared.cpu.Cpu.{Cpu}
 use Rattle.xs_bank.specs.Bank as banks
 use Rattle.xs_model.specs.declared.event.Event.{Event}
 use Rattle.xs_model.specs.declared.script.Script.{Script}
 use Rattle.xs_model.specs.Laws.{MachineKnown}
-use Rattle.xs_model.specs.Machine.{machine}
 use Rattle.xs_model.specs.Runs.{NeverIdle}
 use Rattle.xs_task.specs.declared.task.Task.{Task}
 use Rattle.xs_board.specs.declared.turn.Turn.{Turn}

@@ -13,13 +13,12 @@ use Rattle.xs_model.specs.Machine.{machine}
 use Rattle.xs_model.specs.Replay.{IsReplay}
 use Rattle.xs_model.specs.Script.{IsValid}
 use Rattle.xs_model.specs.State.{none_lives}
-use Rattle.xs_board.specs.declared.turn.Turn.{Turn}
-use Rattle.xs_board.specs.Board.{Board, IsBoard, machine_in, past_of}
+use Rattle.xs_board.specs.Board.{Board, IsBoard, past_of}
 use Rattle.xs_board.specs.Follows.{Follows}
 use Rattle.xs_machine.specs.declared.proc.Proc.{Proc}
-use Rattle.xs_machine.specs.Processors.{AreSetUp, HasRun, HaveRun, IsSetUpProc, KeepProcessors, KeepsProcessor}
+use Rattle.xs_machine.specs.Processors.{AreSetUp, HasRun, HaveRun, IsSetUpProc, KeepProcessors}
 use Rattle.xs_machine.specs.Running.{IsAt, IsRun}
-use Rattle.xs_machine.specs.Threads.{EachProc, HasPass, IsDone, IsEntered, IsOver, IsReady, KeepEach, Stands}
+use Rattle.xs_machine.specs.Threads.{EachProc, IsDone, IsEntered, IsOver, IsReady, KeepEach, Stands}
 use Rattle.xs_machine.proofs.Alone.{is_replay}
 use Rattle.xs_machine.proofs.Ended.{nothing_follows}
 use Rattle.xs_machine.proofs.Following.{at_kept, told_kept}

@@ -6,7 +6,7 @@ use Rattle.xs_bank.specs.declared.cpu.Cpu.{Cpu}
 use Rattle.xs_bank.specs.Bank as banks
 use Rattle.xs_share.specs.declared.pass.Pass.{Pass}
 use Rattle.xs_share.specs.declared.rule.View.{View}
-use Rattle.xs_share.specs.Passes.{home_of, view, mark_word, IsIdle}
+use Rattle.xs_share.specs.Passes.{home_of, view, mark_word}
 use Rattle.xs_share.specs.Rule.{took, gave, marked}
 use Rattle.xs_model.specs.declared.script.Command.{Command}
 use Rattle.xs_model.specs.declared.script.Command.TheVariants as commands

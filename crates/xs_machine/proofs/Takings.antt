@@ -1,5 +1,5 @@
 -- What a worker finds of the board, and what it leaves there.
-use Rattle.std.proofs.Common.{◌≡◌, ℕ, ◌<◌, List, [], ◌++◌, Option, Some, None, sym, ap, ◌∙◌, subst}
+use Rattle.std.proofs.Common.{◌≡◌, ℕ, ◌<◌, List, ◌++◌, Option, sym, ap, ◌∙◌, subst}
 use Rattle.atomic_table.specs.Seated.{TableId}
 use Rattle.xs_bank.specs.declared.cpu.Cpu.{Cpu}
 use Rattle.xs_bank.specs.Bank as banks

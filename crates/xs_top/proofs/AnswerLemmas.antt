@@ -1,5 +1,5 @@
 -- The answers to inputs.
-use Rattle.std.proofs.Common.{◌≡◌, ℕ, Bool, true, false, List, refl, sym, ap, ◌∙◌, subst, ◌⊎◌, inl, inr, if◌then◌else◌}
+use Rattle.std.proofs.Common.{◌≡◌, ℕ, Bool, true, false, List, refl, sym, ap, subst, ◌⊎◌, inl, inr, if◌then◌else◌}
 use Rattle.std.specs.Io.KnownBytes.{Appends}
 use Rattle.xs_bank.specs.Bank.{Bank}
 use Rattle.xs_machine.specs.declared.proc.Proc.{Proc}

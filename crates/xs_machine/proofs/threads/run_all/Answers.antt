@@ -1,5 +1,5 @@
 -- All processors are done, and saw the whole history.
-use Rattle.std.proofs.Common.{◌≡◌, ◌<◌, rules, List, length, sym, ap, ◌∙◌, subst, arith}
+use Rattle.std.proofs.Common.{◌≡◌, ◌<◌, rules, List, length, sym, ◌∙◌, subst, arith}
 use Rattle.xs_share.specs.Passes.{name_of, opened}
 use Rattle.xs_model.specs.declared.event.Event.{Event}
 use Rattle.xs_machine.specs.Threads.{HasRunAll}

@@ -7,7 +7,7 @@ use Rattle.xs_board.specs.Board.{past_of}
 use Rattle.xs_machine.specs.Running.{IsAt}
 use Rattle.xs_machine.specs.Threads.{HasPass, IsEntered}
 use Rattle.xs_machine.proofs.Alone.{entered_more}
-use Rattle.xs_machine.proofs.EntryLemmas.{stage_home, lines_home, task_home, last_home, run_home, at_home}
+use Rattle.xs_machine.proofs.EntryLemmas.{stage_home, lines_home, task_home, run_home, at_home}
 use Rattle.xs_machine.proofs.Marks.{passes}
 use Rattle.xs_machine.proofs.Takings.{found_at, found_entered, found_run, since_first, stands_by}
 use Rattle.xs_machine.proofs.worker.finish.Goals as goal

@@ -2,7 +2,6 @@
 use Rattle.std.proofs.Common.{None, Some, sym, ap, ◌∙◌, subst, refl}
 use Rattle.xs_bank.specs.declared.cpu.Cpu.{Cpu}
 use Rattle.xs_share.specs.Passes.{name_of, view}
-use Rattle.xs_model.specs.declared.event.Event.{Event}
 use Rattle.xs_model.specs.declared.script.Script.{Script}
 use Rattle.xs_model.specs.Replay.{entry}
 use Rattle.xs_board.specs.Board.{Board, past_of, private_in}
