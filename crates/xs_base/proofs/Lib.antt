@@ -1,5 +1,6 @@
 pub mod SetLemmas
 pub mod ByteLemmas
+pub mod Cuts
 pub mod ComponentLemmas
 pub mod ByteRangeLemmas
 pub mod LayoutLemmas

@@ -1,14 +1,15 @@
-//! Writing over a part of some bytes: plain bytes, zeros, and components of the register state.
+//! Parts of some bytes: written over with plain bytes, zeros and components of the register state, and cut off at a byte.
 
-ghost use Rattle.std.specs.Prelude.{◌≡◌, ℕ, ◌+◌, ◌≤◌, ◌<◌, ◌^◌, List, ◌++◌, length, slice_index, MatchOption, if◌then◌else◌};
+ghost use Rattle.std.specs.Prelude.{◌≡◌, ℕ, ◌+◌, ◌≤◌, ◌<◌, ◌^◌, List, ◌∷◌, ◌++◌, length, slice_index, MatchOption, if◌then◌else◌};
 ghost use Rattle.std.specs.Int.{to_le_bytes, w64};
-ghost use Rattle.xs_base.specs.Bytes.{splice, zeros};
+ghost use Rattle.xs_base.specs.Bytes.{Lacks, splice, zeros};
 ghost use Rattle.xs_base.specs.Component.{component_size, initial_part};
 ghost use Rattle.xs_base.specs.File as file;
 ghost use Rattle.xs_base.specs.File.{is_own};
 ghost use Rattle.xs_base.specs.Standard.{IsWritten, IsCleaned, control_bytes};
 
 use crate::component::Comp;
+use memchr::memchr;
 
 /// Writes bytes over a part of others, from byte `at` on.
 #[tactic(auto, unfolding(crate::specs::Bytes::splice))]
@@ -45,6 +46,15 @@ pub fn after<'a>(prefix: &[u8], bytes: &'a [u8]) -> Option<&'a [u8]>
     ensures { MatchOption result ((rest : List ℕ) → bytes.now ≡ prefix.now ++ rest → ⊥) (λ x. bytes.now ≡ prefix.now ++ x.now) }
 {
     bytes.strip_prefix(prefix)
+}
+
+/// The bytes before the first `byte` and those after it, if there is one.
+pub fn cut_at(byte: u8, bytes: &[u8]) -> Option<(&[u8], &[u8])>
+    ensures { MatchOption result (Lacks byte bytes.now) (λ x. Lacks byte x.0.now × (bytes.now ≡ x.0.now ++ byte ∷ x.1.now)) }
+{
+    let at = memchr(byte, bytes)?;
+    let (front, rest) = bytes.split_at(at);
+    Some((front, &rest[1..]))
 }
 
 /// The bytes of the component PKRU.

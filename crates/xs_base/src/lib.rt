@@ -16,7 +16,7 @@ mod words;
 mod zeros;
 
 pub use bytes::{
-    after, clean, clear, pkru_bytes, put, put_component, put_control, put_initial,
+    after, clean, clear, cut_at, pkru_bytes, put, put_component, put_control, put_initial,
     put_initial_component, put_number,
 };
 pub use class::Class;

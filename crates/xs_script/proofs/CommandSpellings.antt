@@ -13,8 +13,9 @@ use Rattle.xs_model.specs.declared.script.Command.{Command}
 use Rattle.xs_model.specs.declared.script.Command.TheVariants as commands
 use Rattle.xs_model.specs.Script.{is_name}
 use Rattle.xs_script.specs.ScriptLine.{IsNumber, IsSignal, kill_text, set_word, command_text, IsCommandLine}
-use Rattle.xs_script.specs.Reads.{Lacks}
-use Rattle.xs_script.proofs.Cuts.{Lacks-append, Lacks-name, Lacks-set, Lacks-register, Lacks-hex, one_cut}
+use Rattle.xs_base.specs.Bytes.{Lacks}
+use Rattle.xs_base.proofs.Cuts.{one_cut}
+use Rattle.xs_script.proofs.Cuts.{Lacks-append, Lacks-name, Lacks-set, Lacks-register, Lacks-hex}
 use Rattle.xs_script.proofs.Lanes.{one_hex}
 use Rattle.xs_script.proofs.Entries.{lacks_feed, one_pair}
 

@@ -12,34 +12,13 @@ use Rattle.xs_base.specs.declared.words.Set.{Set}
 use Rattle.xs_base.specs.declared.words.Set.TheVariants as sets
 use Rattle.xs_model.specs.Script.{is_name, is_letter, is_letter_or_digit}
 use Rattle.xs_script.specs.ScriptLine.{set_word, is_register_byte, is_register_word}
-use Rattle.xs_script.specs.Reads.{Lacks}
+use Rattle.xs_base.specs.Bytes.{Lacks}
 use Rattle.xs_script.specs.Refusal.{before}
 
 -- joined texts lack a byte
 pub Lacks-append : (byte : ℕ) (a b : List ℕ) → Lacks byte a → Lacks byte b → Lacks byte (a ++ b)
 Lacks-append byte [] b la lb = lb
 Lacks-append byte (x ∷ a) b la lb = (la.0, Lacks-append byte a b la.1 lb)
-
--- A text is cut at the first such byte in one way.
-pub one_cut : (byte : ℕ) (a b x y : List ℕ) → Lacks byte a → Lacks byte b → a ++ byte ∷ x ≡ b ++ byte ∷ y → (a ≡ b) × (x ≡ y)
-one_cut byte [] [] x y la lb e = (refl, cc)
-one_cut byte [] (c ∷ b) x y la lb e = let same : c ≡ byte = cc in absurd (lb.0 same)
-one_cut byte (c ∷ a) [] x y la lb e = let same : c ≡ byte = cc in absurd (la.0 same)
-one_cut byte (c ∷ a) (d ∷ b) x y la lb e =
-    let tail : a ++ byte ∷ x ≡ b ++ byte ∷ y = cc in
-    let head : c ≡ d = cc in
-    let r = one_cut byte a b x y la.1 lb.1 tail in
-    let same = r.0 in
-    (cc, r.1)
-
--- A text without the byte has no cut.
-pub no_cut : (byte : ℕ) (bytes a x : List ℕ) → Lacks byte bytes → bytes ≡ a ++ byte ∷ x → ⊥
-no_cut byte [] [] x l e = cc
-no_cut byte [] (c ∷ a) x l e = cc
-no_cut byte (b ∷ bytes) [] x l e = let same : b ≡ byte = cc in l.0 same
-no_cut byte (b ∷ bytes) (c ∷ a) x l e =
-    let tail : bytes ≡ a ++ byte ∷ x = cc in
-    no_cut byte bytes a x l.1 tail
 
 -- the bytes before the first such byte
 pub before_cut : (byte : ℕ) (a x : List ℕ) → Lacks byte a → before byte (a ++ byte ∷ x) ≡ a

@@ -18,10 +18,11 @@ use Rattle.xs_model.specs.Script.{is_name}
 use Rattle.xs_script.specs.declared.line.Line.{Line}
 use Rattle.xs_script.specs.declared.line.Line.TheVariants as lines
 use Rattle.xs_script.specs.ScriptLine.{IsNumber, IsLine, machine_name, row_text, kill_text, set_word, entries_text, line_text, is_register_word}
-use Rattle.xs_script.specs.Reads.{Lacks}
+use Rattle.xs_base.specs.Bytes.{Lacks}
 use Rattle.xs_script.specs.Parts.{IsValue, is_hex_text}
 use Rattle.xs_script.specs.Refusal.{NoLine}
-use Rattle.xs_script.proofs.Cuts.{one_cut, no_cut, Lacks-name, Lacks-set, Lacks-register}
+use Rattle.xs_base.proofs.Cuts.{one_cut, no_cut}
+use Rattle.xs_script.proofs.Cuts.{Lacks-name, Lacks-set, Lacks-register}
 use Rattle.xs_script.proofs.Entries.{lacks_space}
 use Rattle.xs_script.proofs.CommandSpellings.{signal_number}
 use Rattle.xs_script.proofs.HexText.{hex_text, hex_text_bytes}

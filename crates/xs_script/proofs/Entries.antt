@@ -4,8 +4,9 @@ use Rattle.std.proofs.lemmas.List.{append-nil, append_assoc}
 use Rattle.std.proofs.lemmas.Fmt.{decimal_injective}
 use Rattle.std.specs.List.{AllByRecursion}
 use Rattle.xs_script.specs.ScriptLine.{IsNumber, entries_text}
-use Rattle.xs_script.specs.Reads.{Lacks}
-use Rattle.xs_script.proofs.Cuts.{Lacks-append, Lacks-decimal, one_cut, no_cut}
+use Rattle.xs_base.specs.Bytes.{Lacks}
+use Rattle.xs_base.proofs.Cuts.{one_cut, no_cut}
+use Rattle.xs_script.proofs.Cuts.{Lacks-append, Lacks-decimal}
 
 -- a number's digits lack the space and the line feed
 pub lacks_space : (n : ℕ) → IsNumber n → Lacks 32 (decimal n)

@@ -1,5 +1,5 @@
 -- Readers of one line, part by part.
-use Rattle.std.proofs.Common.{◌≡◌, ℕ, ◌+◌, ◌<◌, ◌≤◌, ◌*◌, ◌%◌, ◌==◌, Bool, true, false, List, [], ◌∷◌, ◌++◌, length, slice_index, Option, Some, None, refl, sym, ◌∙◌, ap, arith, codes, decimal}
+use Rattle.std.proofs.Common.{◌≡◌, ℕ, ◌+◌, ◌<◌, ◌≤◌, ◌*◌, ◌%◌, ◌==◌, Bool, true, false, List, [], ◌∷◌, ◌++◌, length, slice_index, Some, refl, sym, ◌∙◌, ap, arith, codes, decimal}
 use Rattle.std.specs.Prelude.{nat_eq}
 use Rattle.std.specs.List.{list_all}
 use Rattle.std.proofs.lemmas.Bool.{and_parts}
@@ -16,10 +16,12 @@ use Rattle.xs_model.specs.Script.{is_name}
 use Rattle.xs_script.specs.declared.line.Line.{Line}
 use Rattle.xs_script.specs.declared.line.Line.TheVariants as lines
 use Rattle.xs_script.specs.ScriptLine.{set_word, line_text, IsLine, IsNumber, row_text, kept_bytes, kept_line, is_register_word}
-use Rattle.xs_script.specs.Reads.{ReadsAs, Lacks}
+use Rattle.xs_base.specs.Bytes.{Lacks}
+use Rattle.xs_script.specs.Reads.{ReadsAs}
 use Rattle.xs_script.specs.Refusal.{NoLine}
-use Rattle.xs_script.specs.Parts.{IsValue, IsSpelledBy, is_lower_digit, digit_value, is_hex_text, IsPlainLine, IsBlockLine, IsSignalLine, IsTraceLine, IsHeadLine, IsKillLine, NoPlainLine}
-use Rattle.xs_script.proofs.Cuts.{one_cut, no_cut, Lacks-name, Lacks-register, Lacks-set}
+use Rattle.xs_script.specs.Parts.{IsValue, IsSpelledBy, is_lower_digit, digit_value, is_hex_text, IsPlainLine, IsSignalLine, IsKillLine, NoPlainLine}
+use Rattle.xs_base.proofs.Cuts.{one_cut, no_cut}
+use Rattle.xs_script.proofs.Cuts.{Lacks-name, Lacks-register, Lacks-set}
 use Rattle.xs_script.proofs.HexText.{AreDecoded, decoded, hex_text, hex_text_bytes}
 use Rattle.xs_script.proofs.Kept.{kept_same_bytes, kept_long}
 use Rattle.xs_script.proofs.Entries.{lacks_space, one_pair}
@@ -164,84 +166,7 @@ plain_is_line (lines.NoSignal name number) fits = fits
 plain_is_line lines.Handler fits = fits
 plain_is_line lines.End fits = fits
 
--- such a line is one of a block or one before the schedule
-pub block_is_plain : (l : Line) → IsBlockLine l → IsPlainLine l
-block_is_plain (lines.Begin kind name) fits = fits
-block_is_plain (lines.Order (commands.Set reg bytes)) fits = fits
-block_is_plain (lines.Order (commands.Get reg)) fits = fits
-block_is_plain (lines.Order (commands.Ksec byte)) fits = fits
-block_is_plain (lines.Order commands.Tilerelease) fits = fits
-block_is_plain (lines.Order (commands.Perm feature)) fits = fits
-block_is_plain (lines.Order commands.Yield) fits = fits
-block_is_plain (lines.Order (commands.Fork name)) fits = fits
-block_is_plain lines.End fits = fits
-block_is_plain l fits = absurd fits
-
-pub signal_is_plain : (l : Line) → IsSignalLine l → IsPlainLine l
-signal_is_plain (lines.Order (commands.Peek at len)) fits = fits
-signal_is_plain (lines.Order (commands.Poke at bytes)) fits = fits
-signal_is_plain (lines.Order commands.Sigreturn) fits = fits
-signal_is_plain (lines.Order (commands.Kill name signo)) fits = fits
-signal_is_plain (lines.NoSignal name number) fits = fits
-signal_is_plain lines.Handler fits = fits
-signal_is_plain l fits = absurd fits
-
-pub trace_is_plain : (l : Line) → IsTraceLine l → IsPlainLine l
-trace_is_plain (lines.Order (commands.Bpeek at len)) fits = fits
-trace_is_plain (lines.Order (commands.Bpoke at bytes)) fits = fits
-trace_is_plain (lines.Order commands.Stop) fits = fits
-trace_is_plain (lines.Order (commands.Wait name)) fits = fits
-trace_is_plain (lines.Order (commands.Getregs name set)) fits = fits
-trace_is_plain (lines.Order (commands.Setregs name set count)) fits = fits
-trace_is_plain (lines.Order (commands.Cont name)) fits = fits
-trace_is_plain l fits = absurd fits
-
-head_is_plain : (l : Line) → IsHeadLine l → IsPlainLine l
-head_is_plain lines.Version fits = fits
-head_is_plain (lines.Machine named) fits = fits
-head_is_plain (lines.Row r) fits = fits
-head_is_plain (lines.Cpus n) fits = fits
-head_is_plain (lines.Quantum n) fits = fits
-head_is_plain (lines.Large n) fits = fits
-head_is_plain l fits = absurd fits
-
-no_other : (bytes : List ℕ) (l : Line) → ((l : Line) → IsBlockLine l → bytes ≡ line_text l → ⊥) → ((l : Line) → IsSignalLine l → bytes ≡ line_text l → ⊥) → ((l : Line) → IsTraceLine l → bytes ≡ line_text l → ⊥) → ((l : Line) → IsHeadLine l → bytes ≡ line_text l → ⊥) → IsPlainLine l → bytes ≡ line_text l → ⊥
-no_other bytes (lines.Sched entries) block signal trace head fits e = absurd fits
-no_other bytes (lines.Begin kind name) block signal trace head fits e = block (lines.Begin kind name) fits e
-no_other bytes (lines.Order (commands.Set reg value)) block signal trace head fits e = block (lines.Order (commands.Set reg value)) fits e
-no_other bytes (lines.Order (commands.Get reg)) block signal trace head fits e = block (lines.Order (commands.Get reg)) fits e
-no_other bytes (lines.Order (commands.Ksec byte)) block signal trace head fits e = block (lines.Order (commands.Ksec byte)) fits e
-no_other bytes (lines.Order commands.Tilerelease) block signal trace head fits e = block (lines.Order commands.Tilerelease) fits e
-no_other bytes (lines.Order (commands.Perm feature)) block signal trace head fits e = block (lines.Order (commands.Perm feature)) fits e
-no_other bytes (lines.Order commands.Yield) block signal trace head fits e = block (lines.Order commands.Yield) fits e
-no_other bytes (lines.Order (commands.Fork name)) block signal trace head fits e = block (lines.Order (commands.Fork name)) fits e
-no_other bytes (lines.Order (commands.Peek at len)) block signal trace head fits e = signal (lines.Order (commands.Peek at len)) fits e
-no_other bytes (lines.Order (commands.Poke at value)) block signal trace head fits e = signal (lines.Order (commands.Poke at value)) fits e
-no_other bytes (lines.Order commands.Sigreturn) block signal trace head fits e = signal (lines.Order commands.Sigreturn) fits e
-no_other bytes (lines.Order (commands.Kill name signo)) block signal trace head fits e = signal (lines.Order (commands.Kill name signo)) fits e
-no_other bytes (lines.Order (commands.Bpeek at len)) block signal trace head fits e = trace (lines.Order (commands.Bpeek at len)) fits e
-no_other bytes (lines.Order (commands.Bpoke at value)) block signal trace head fits e = trace (lines.Order (commands.Bpoke at value)) fits e
-no_other bytes (lines.Order commands.Stop) block signal trace head fits e = trace (lines.Order commands.Stop) fits e
-no_other bytes (lines.Order (commands.Wait name)) block signal trace head fits e = trace (lines.Order (commands.Wait name)) fits e
-no_other bytes (lines.Order (commands.Getregs name set)) block signal trace head fits e = trace (lines.Order (commands.Getregs name set)) fits e
-no_other bytes (lines.Order (commands.Setregs name set count)) block signal trace head fits e = trace (lines.Order (commands.Setregs name set count)) fits e
-no_other bytes (lines.Order (commands.Cont name)) block signal trace head fits e = trace (lines.Order (commands.Cont name)) fits e
-no_other bytes (lines.NoSignal name number) block signal trace head fits e = signal (lines.NoSignal name number) fits e
-no_other bytes lines.Handler block signal trace head fits e = signal lines.Handler fits e
-no_other bytes lines.End block signal trace head fits e = block lines.End fits e
-no_other bytes lines.Version block signal trace head fits e = head lines.Version fits e
-no_other bytes (lines.Machine named) block signal trace head fits e = head (lines.Machine named) fits e
-no_other bytes (lines.Row r) block signal trace head fits e = head (lines.Row r) fits e
-no_other bytes (lines.Cpus n) block signal trace head fits e = head (lines.Cpus n) fits e
-no_other bytes (lines.Quantum n) block signal trace head fits e = head (lines.Quantum n) fits e
-no_other bytes (lines.Large n) block signal trace head fits e = head (lines.Large n) fits e
-
--- what isn't read as a line of a block is read as one before the schedule, if it is one
-pub reads_either : (bytes : List ℕ) (r : Option Line) → ((l : Line) → IsBlockLine l → bytes ≡ line_text l → ⊥) → ((l : Line) → IsSignalLine l → bytes ≡ line_text l → ⊥) → ((l : Line) → IsTraceLine l → bytes ≡ line_text l → ⊥) → ReadsAs line_text IsHeadLine kept_line r bytes → ReadsAs line_text IsPlainLine kept_line r bytes
-reads_either bytes None block signal trace head = λ l fits e. no_other bytes l block signal trace head fits e
-reads_either bytes (Some l) block signal trace head = (head.0, head_is_plain head.0 head.1, head.2, head.3)
-
--- such lines among them
+-- A text without a line feed has no such first line, and none where its first line is no such line.
 pub no_plain_line : (text : List ℕ) → Lacks 10 text → NoPlainLine text
 no_plain_line text lacks l rest fits e = no_line text lacks l rest (plain_is_line l fits) e
 

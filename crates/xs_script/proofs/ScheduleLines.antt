@@ -14,11 +14,12 @@ use Rattle.xs_script.specs.declared.refusal.ScriptError.TheVariants as errors
 use Rattle.xs_script.specs.ScriptLine.{IsLine, line_text, entries_text}
 use Rattle.xs_script.specs.Grammar.{sched_lines}
 use Rattle.xs_script.specs.LineOrder.{Stand, AtSched, AtBlock, next, fits_sched}
-use Rattle.xs_script.specs.Reads.{Lacks}
+use Rattle.xs_base.specs.Bytes.{Lacks}
 use Rattle.xs_script.specs.Refusal.{LineFails, Early, Misspelled, Misplaced, Fails, Table, Here}
 use Rattle.xs_script.specs.Front.{IsFront, RefusesFrom, ExplainsFrom}
 use Rattle.xs_script.specs.Schedule.{NoSched, AreEntries, TakesWords, WordsFail, NoEntries, OverLimit, ExplainsWords, AreSchedLines, IsScheduleOf}
-use Rattle.xs_script.proofs.Cuts.{Lacks-append, no_cut}
+use Rattle.xs_base.proofs.Cuts.{no_cut}
+use Rattle.xs_script.proofs.Cuts.{Lacks-append}
 use Rattle.xs_script.proofs.CommandSpellings.{lacks_word}
 use Rattle.xs_script.proofs.FirstWords.{no_sched}
 use Rattle.xs_script.proofs.Readings.{other_line}

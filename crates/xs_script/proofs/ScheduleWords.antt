@@ -10,9 +10,9 @@ use Rattle.xs_script.specs.declared.refusal.ScriptError.{ScriptError}
 use Rattle.xs_script.specs.declared.refusal.ScriptError.TheVariants as errors
 use Rattle.xs_script.specs.ScriptLine.{IsNumber, entries_text}
 use Rattle.xs_script.specs.LineOrder.{fits_sched}
-use Rattle.xs_script.specs.Reads.{Lacks}
+use Rattle.xs_base.specs.Bytes.{Lacks}
 use Rattle.xs_script.specs.Schedule.{AreEntries, TakesWords, WordsFail, NoEntries, OverLimit, ExplainsWords, TakesEntry, ExplainsWord, TakesFront}
-use Rattle.xs_script.proofs.Cuts.{one_cut, no_cut}
+use Rattle.xs_base.proofs.Cuts.{one_cut, no_cut}
 use Rattle.xs_script.proofs.Entries.{lacks_space, no_entries}
 use Rattle.xs_script.proofs.EntryTests.{none_within, within_more}
 use Rattle.xs_script.proofs.BodyLines.{all_push}

@@ -14,8 +14,9 @@ use Rattle.xs_model.specs.Script.{is_name}
 use Rattle.xs_script.specs.declared.line.Line.{Line}
 use Rattle.xs_script.specs.declared.line.Line.TheVariants as lines
 use Rattle.xs_script.specs.ScriptLine.{line_text, IsLine, IsNumber, IsSignal, row_text, kill_text, machine_name, block_word, entries_text}
-use Rattle.xs_script.specs.Reads.{Lacks}
-use Rattle.xs_script.proofs.Cuts.{Lacks-append, Lacks-name, one_cut}
+use Rattle.xs_base.specs.Bytes.{Lacks}
+use Rattle.xs_base.proofs.Cuts.{one_cut}
+use Rattle.xs_script.proofs.Cuts.{Lacks-append, Lacks-name}
 use Rattle.xs_script.proofs.Entries.{lacks_feed, one_pair, lacks_entries, one_entries}
 use Rattle.xs_script.proofs.CommandSpellings.{lacks_word, lacks_both, lacks_kill, signal_number, lacks_command, begins, command_kind, command_kind_of, one_number, one_kill, one_command}
 

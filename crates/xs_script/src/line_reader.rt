@@ -10,9 +10,9 @@ ghost use Rattle.xs_script.specs.Refusal.{first_word};
 use crate::line::Line;
 use crate::trace_lines::read_trace_line;
 use crate::words::{
-    before, cut_at, read_byte, read_bytes, read_first_number, read_name, read_number, read_register,
+    before, read_byte, read_bytes, read_first_number, read_name, read_number, read_register,
 };
-use xs_base::{Comp, Row, Signo, after};
+use xs_base::{Comp, Row, Signo, after, cut_at};
 use xs_model::{BlockKind, Command, Name, Named};
 
 /// The first line of the text, if it is spelled as a line that is none of a schedule, and the text after its line feed. Of a
@@ -38,16 +38,19 @@ pub fn begins_row(text: &[u8]) -> bool
 fn read_line(line: &[u8]) -> Option<Line>
     ensures { ReadsAs line_text IsPlainLine kept_line result line.now }
 {
-    match read_block_line(line) {
-        Some(line) => Some(line),
-        None => match read_signal_line(line) {
-            Some(line) => Some(line),
-            None => match read_trace_line(line) {
-                Some(line) => Some(line),
-                None => read_head_line(line),
-            },
-        },
+    let read = read_block_line(line);
+    if read.is_some() {
+        return read;
     }
+    let read = read_signal_line(line);
+    if read.is_some() {
+        return read;
+    }
+    let read = read_trace_line(line);
+    if read.is_some() {
+        return read;
+    }
+    read_head_line(line)
 }
 
 /// A line of signals, their handlers and the memory of a frame. Its first word says of which kind it can be.

@@ -2,14 +2,14 @@
 
 ghost use Rattle.std.specs.Prelude.{◌≡◌, ◌+◌, ◌^◌, ◌<◌, ◌≤◌, ◌++◌, ◌∷◌, length, codes, MatchOption, IfSome, OnOk, IfOk, IfErr};
 ghost use Rattle.xs_script.specs.LineOrder.{AtSched};
-ghost use Rattle.xs_script.specs.Reads.{Lacks};
+ghost use Rattle.xs_base.specs.Bytes.{Lacks};
 ghost use Rattle.xs_script.specs.Front.{ExplainsFrom};
 ghost use Rattle.xs_script.specs.Schedule.{NoSched, TakesWords, ExplainsWords, TakesEntry, ExplainsWord, IsScheduleOf};
 
 use crate::refusal::{Kind, LimitName, ScriptError};
-use crate::words::{cut_at, read_number};
+use crate::words::read_number;
 use std::alloc::Global;
-use xs_base::after;
+use xs_base::{after, cut_at};
 use xs_model::Items;
 
 /// The most entries of a schedule.

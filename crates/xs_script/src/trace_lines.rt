@@ -8,8 +8,8 @@ ghost use Rattle.xs_script.specs.Reads.{Reads, ReadsAs};
 ghost use Rattle.xs_script.specs.Parts.{IsTraceLine};
 
 use crate::line::Line;
-use crate::words::{cut_at, read_bytes, read_first_number, read_name, read_number};
-use xs_base::{Set, after};
+use crate::words::{read_bytes, read_first_number, read_name, read_number};
+use xs_base::{Set, after, cut_at};
 use xs_model::{Command, Name};
 
 /// A line of a parent and its child, or of the buffer. Its first word says of which kind it can be.

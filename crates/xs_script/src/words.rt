@@ -5,27 +5,14 @@ ghost use Rattle.std.specs.List.{list_all};
 ghost use Rattle.std.specs.Str.{bytes_eq};
 ghost use Rattle.hex.specs.Hex.{encode_lower};
 ghost use Rattle.xs_model.specs.Script.{is_letter, is_letter_or_digit, is_name};
-ghost use Rattle.xs_script.specs.Reads.{Reads, ReadsAs, Lacks};
+ghost use Rattle.xs_script.specs.Reads.{Reads, ReadsAs};
 ghost use Rattle.xs_script.specs.ScriptLine.{IsNumber, is_register_byte, is_register_word, kept_bytes};
 ghost use Rattle.xs_script.specs.Parts.{IsValue, IsSpelledBy, is_lower_digit, is_hex_text, digit_value};
 ghost use Rattle.xs_script.specs.Refusal.{before};
 
 use std::str;
-use xs_base::Lane;
+use xs_base::{Lane, cut_at};
 use xs_model::Name;
-
-/// The bytes before the first `byte` and those after it, if there is one.
-pub fn cut_at(byte: u8, bytes: &[u8]) -> Option<(&[u8], &[u8])>
-    ensures { MatchOption result (Lacks byte bytes.now) (λ x. Lacks byte x.0.now × (bytes.now ≡ x.0.now ++ byte ∷ x.1.now)) }
-{
-    'bytes: for i in 0..bytes.len() {
-        if bytes[i] == byte {
-            let (front, rest) = bytes.split_at(i);
-            return Some((front, &rest[1..]));
-        }
-    }
-    None
-}
 
 /// The bytes before the first `byte`, and all of them where there is none.
 pub fn before(byte: u8, bytes: &[u8]) -> &[u8]

@@ -9,6 +9,14 @@ use crate::rule::{Gives, Marks, Takes};
 use crate::shared::Shared;
 use std::sync::Wait;
 use std::thread;
+use std::thread::Parker;
+use std::time::Duration;
+
+/// How often a thread asks for the turn before it rests.
+const ASKS: u32 = 4;
+
+/// How long it rests, in microseconds.
+const REST: u64 = 100;
 
 impl<K: Kept> Shared<K> {
     // One exchange on the turn word.
@@ -27,10 +35,11 @@ impl<K: Kept> Shared<K> {
         if found != 0 {
             return None;
         }
-        self.table.shared.exchange(&mut pass.seat, 0, None)
+        pass.seat.slot_mut(&self.table.shared, 0).take()
     }
 
-    /// Waits until the turn is free, and takes it with the value.
+    /// Waits until the turn is free, and takes it with the value. A thread that finds the turn taken makes room for others, and where it
+    /// has asked in vain a few times it rests, so that those who have work don't share their processors with those who only ask.
     pub fn take_turn<R: Wait>(&self, rt: &R, pass: &mut Pass<K>) -> K
         requires home { home_of pass.old ≡ name_of self.now }
         requires turn { (view pass.old).turn ≡ false }
@@ -38,11 +47,18 @@ impl<K: Kept> Shared<K> {
         ensures pass { view pass.new ≡ took (view pass.old) result }
         ensures value { K.follows (view pass.old).number (view pass.old).last result }
     {
+        let parker = Parker::new();
+        let mut asked = 0u32;
         for _ in rt.forever() {
             if let Some(kept) = self.try_take(pass) {
                 return kept;
             }
-            thread::yield_now();
+            asked = asked.wrapping_add(1);
+            if asked % ASKS == 0 {
+                parker.park_timeout(rt, Duration::from_micros(REST));
+            } else {
+                thread::yield_now();
+            }
         }
         unreachable!()
     }
@@ -55,7 +71,7 @@ impl<K: Kept> Shared<K> {
         ensures home { home_of pass.new ≡ home_of pass.old }
         ensures pass { view pass.new ≡ gave (view pass.old) kept }
     {
-        let empty = self.table.shared.exchange(&mut pass.seat, 0, Some(kept));
+        let empty = pass.seat.slot_mut(&self.table.shared, 0).replace(kept);
         let None = empty else { unreachable!() };
         self.table.shared.store::<Gives>(&mut pass.seat, 0, 0);
     }

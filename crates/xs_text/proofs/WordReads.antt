@@ -13,11 +13,13 @@ use Rattle.xs_model.specs.declared.event.Reply.TheVariants as replies
 use Rattle.xs_model.specs.declared.event.Why.TheVariants as causes
 use Rattle.xs_model.specs.Script.{IsValid}
 use Rattle.xs_text.specs.Text.{reply_word, cause_word, name_of, IsReply}
-use Rattle.xs_text.specs.Reading.{IsRead, NoneRead, Any, IsNumber, Lacks}
+use Rattle.xs_base.specs.Bytes.{Lacks}
+use Rattle.xs_text.specs.Reading.{IsRead, NoneRead, Any, IsNumber}
 use Rattle.xs_text.proofs.SpacedWords.{above_decimal}
 use Rattle.xs_text.proofs.EventWords.{first_byte, below_2_64, reply_letter}
 use Rattle.xs_text.proofs.OneSpelling.{above_task}
-use Rattle.xs_text.proofs.Cuts.{lacks_above, not_cut, one_cut, next_words}
+use Rattle.xs_base.proofs.Cuts.{no_cut, one_cut}
+use Rattle.xs_text.proofs.Cuts.{lacks_above, next_words}
 
 -- bytes that are compared with others and found the same
 pub same_bytes : (a b : List ℕ) (t : Bool) → t ≡ pointwise nat_eq a b → t ≡ true → a ≡ b
@@ -64,7 +66,7 @@ IsTask script task = task < length script.blocks
 
 -- a text that isn't cut at the byte begins with no task's name
 pub no_cut_task : (script : Script) (end : ℕ) (bytes : List ℕ) → Lacks end bytes → NoneRead (name_of script) (IsTask script) end bytes
-no_cut_task script end bytes lacks task more fits e = not_cut end bytes (name_of script task) more lacks e
+no_cut_task script end bytes lacks task more fits e = no_cut end bytes (name_of script task) more lacks e
 
 -- nor does one whose first word is no task's
 pub no_task : (script : Script) (end : ℕ) (bytes name rest : List ℕ) → IsValid script → end ≤ 32 → Lacks end name → bytes ≡ name ++ end ∷ rest

@@ -28,10 +28,6 @@ Any x = Unit {0}
 abbrev pub IsNumber : ℕ → Type 0
 IsNumber n = n < 2 ^ 32
 
--- the byte is nowhere among the bytes
-abbrev pub Lacks : ℕ → List ℕ → Type 0
-Lacks byte bytes = AllByRecursion (λ b. b ≡ byte → ⊥) bytes
-
 -- A reply has a word of letters, which it has to itself.
 abbrev pub IsTold : Reply → Type 0
 IsTold replies.Done = ⊥

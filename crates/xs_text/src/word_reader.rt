@@ -4,10 +4,10 @@ ghost use Rattle.std.specs.Prelude.{◌≡◌, ℕ, ◌+◌, ◌*◌, ◌^◌, �
 ghost use Rattle.xs_base.specs.declared.words.Signo.{Signo};
 ghost use Rattle.xs_model.specs.Script.{IsValid};
 ghost use Rattle.xs_text.specs.Text.{how_word, signal_word, cause_word, name_of};
-ghost use Rattle.xs_text.specs.Reading.{IsRead, NoneRead, Any, IsNumber, Lacks};
+ghost use Rattle.xs_text.specs.Reading.{IsRead, NoneRead, Any, IsNumber};
 
 use crate::event_line::name_of;
-use xs_base::{How, Signo, after};
+use xs_base::{How, Signo, after, cut_at};
 use xs_model::{Script, Why};
 
 /// What comes after the byte that the bytes begin with.
@@ -16,19 +16,6 @@ pub(crate) fn after_byte(byte: u8, bytes: &[u8]) -> Option<&[u8]>
 {
     let (first, rest) = bytes.split_first()?;
     if *first == byte { Some(rest) } else { None }
-}
-
-/// The bytes before the first `byte` and those after it, if there is one.
-fn cut_at(byte: u8, bytes: &[u8]) -> Option<(&[u8], &[u8])>
-    ensures { MatchOption result (Lacks byte bytes.now) (λ x. Lacks byte x.0.now × (bytes.now ≡ x.0.now ++ byte ∷ x.1.now)) }
-{
-    'bytes: for i in 0..bytes.len() {
-        if bytes[i] == byte {
-            let (front, rest) = bytes.split_at(i);
-            return Some((front, &rest[1..]));
-        }
-    }
-    None
 }
 
 /// The task whose name the bytes begin with.

@@ -1,5 +1,5 @@
 use Rattle.std.proofs.Common.{ℕ, List, ◌∙◌, ◌∷◌, ◌++◌, ap, decimal}
-use Rattle.xs_script.proofs.Cuts.{no_cut}
+use Rattle.xs_base.proofs.Cuts.{no_cut}
 use Rattle.xs_script.proofs.Readings.{kill_parts, kill_read}
 use Rattle.xs_script.proofs.FirstWords.{no_kill}
 use Rattle.xs_script.proofs.line_reader.read_kill.Goals as goal

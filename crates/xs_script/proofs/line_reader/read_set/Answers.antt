@@ -2,7 +2,7 @@ use Rattle.std.proofs.Common.{ℕ, List, ◌∙◌, ◌∷◌, ◌++◌, ap, cod
 use Rattle.hex.specs.Hex.{encode_lower}
 use Rattle.xs_model.specs.declared.script.Command.TheVariants as commands
 use Rattle.xs_script.specs.declared.line.Line.TheVariants as lines
-use Rattle.xs_script.proofs.Cuts.{no_cut}
+use Rattle.xs_base.proofs.Cuts.{no_cut}
 use Rattle.xs_script.proofs.Readings.{set_parts}
 use Rattle.xs_script.proofs.FirstWords.{no_set}
 use Rattle.xs_script.proofs.line_reader.read_set.Goals as goal

@@ -1,4 +1,4 @@
-use Rattle.xs_script.proofs.Cuts.{no_cut}
+use Rattle.xs_base.proofs.Cuts.{no_cut}
 use Rattle.xs_script.proofs.Readings.{no_name}
 use Rattle.xs_script.proofs.trace_lines.read_first_name.Goals as goal
 

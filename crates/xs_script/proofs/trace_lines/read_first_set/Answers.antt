@@ -1,5 +1,5 @@
 use Rattle.xs_script.specs.ScriptLine.{set_word}
-use Rattle.xs_script.proofs.Cuts.{no_cut}
+use Rattle.xs_base.proofs.Cuts.{no_cut}
 use Rattle.xs_script.proofs.Readings.{no_set_word}
 use Rattle.xs_script.proofs.trace_lines.read_first_set.Goals as goal
 

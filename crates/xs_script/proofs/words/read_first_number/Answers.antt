@@ -1,5 +1,5 @@
 use Rattle.std.proofs.Common.{decimal}
-use Rattle.xs_script.proofs.Cuts.{no_cut}
+use Rattle.xs_base.proofs.Cuts.{no_cut}
 use Rattle.xs_script.proofs.Readings.{no_number}
 use Rattle.xs_script.proofs.words.read_first_number.Goals as goal
 
