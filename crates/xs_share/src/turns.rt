@@ -13,10 +13,10 @@ use std::thread::Parker;
 use std::time::Duration;
 
 /// How often a thread asks for the turn before it rests.
-const ASKS: u32 = 4;
+const ASKS: u32 = 16;
 
 /// How long it rests, in microseconds.
-const REST: u64 = 100;
+const REST: u64 = 300;
 
 impl<K: Kept> Shared<K> {
     // One exchange on the turn word.
